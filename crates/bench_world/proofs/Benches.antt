@@ -8,7 +8,7 @@ use Rattle.bench_world.specs.declared.entry.Answer.{Answer}
 use Rattle.bench_world.specs.declared.entry.Entry.{Entry}
 use Rattle.bench_world.specs.Legal.{State, AnswerLaw, FrontOf, Joins, LegalStep, due, no_joins}
 use Rattle.bench_world.proofs.LinkKept.{keeps_so, open_on}
-use Rattle.bench_world.specs.Obeying.{Machines, untraced, state_at, IsSettled, ObeyedBy, IsCutOff, Benched, Adds, Obeys, Spoils, LacksMemory, joins_for}
+use Rattle.bench_world.specs.Obeying.{Machines, untraced, state_at, IsSettled, ObeyedBy, IsCutOff, IsCutOffBy, Benched, Adds, Obeys, Spoils, LacksMemory, joins_for}
 
 -- what contracts see of a bench with this journal and these machines
 abbrev pub seen : List Entry → Machines → Bool → Benched
@@ -36,6 +36,9 @@ none_for (Get most key) joins e = e
 none_for (Lookup name) joins e = e
 none_for Unlink joins e = e
 none_for c joins e = refl
+
+pub cut_most : (a b : Machines) (c : Command) (joins : Joins) → joins ≡ no_joins → IsCutOffBy (joins_for c joins) a b c → IsCutOff a b c
+cut_most a b c joins most cut = subst (λ j. IsCutOffBy j a b c) (none_for c joins most) cut
 
 -- a command was obeyed, and its entry added
 pub adds_entry : (old : Benched) (a b k : Machines) (js ks : List Entry) (c : Command) (answer : Answer) (e : Entry) (joins : Joins) → joins ≡ no_joins → (c ≡ Skip → ⊥) → old ≡ seen js a false → IsSettled a

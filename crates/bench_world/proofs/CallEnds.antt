@@ -129,11 +129,11 @@ module _ (air : Air Device) (ends : FarEnds) (peers : Peers) (l : OpenLink) (set
         → (stays : after.end.service.accepted ≡ far.service.accepted → LeavesStable (from_state air ends peers l settled) joins c events) → CutStores (from_state air ends peers l settled) joins c events
 
     pub short_cut : IsCutShort ghosts device_end joins.own from air l.initiator counted b j after → Stores
-        → CutFront (from_state air ends peers l settled) c b.trace (state_at Gone) ⊎ HaltsCall (from_state air ends peers l settled) c b.trace (state_at Gone)
+        → CutFront joins (from_state air ends peers l settled) c b.trace (state_at Gone) ⊎ HaltsCall joins (from_state air ends peers l settled) c b.trace (state_at Gone)
     short_cut cut stores = by_left (cut.front device_linked devices_link spot (stands air ends peers l settled) ends)
       where
         by_left : CallFront ghosts device_end device_linked peer_ends joins.own from l.initiator air b spot ends counted after
-            → CutFront (from_state air ends peers l settled) c b.trace (state_at Gone) ⊎ HaltsCall (from_state air ends peers l settled) c b.trace (state_at Gone)
+            → CutFront joins (from_state air ends peers l settled) c b.trace (state_at Gone) ⊎ HaltsCall joins (from_state air ends peers l settled) c b.trace (state_at Gone)
         by_left f = elim f.left [
           | inl (field, stays) ↦ inl (
               let T : Air Device → Choosing FarEnd → Type 0 = λ a e. CallTurns ghosts device_end device_linked peer_ends joins.own from l.initiator air a spot ends counted e f.standing in

@@ -24,7 +24,7 @@ use Rattle.bench_world.specs.Calls.{told_loss}
 use Rattle.bench_world.specs.Legal.{Joins}
 use Rattle.bench_world.specs.Links.{OpenLink}
 use Rattle.bench_world.specs.LinkTaken.{TakesLink, put_down}
-use Rattle.bench_world.specs.Obeying.{Machines, IsCutOff, IsSettled, ObeyedBy}
+use Rattle.bench_world.specs.Obeying.{Machines, IsCutOffBy, IsSettled, ObeyedBy}
 use Rattle.bench_world.proofs.OnClosing.{released, lost, short}
 use Rattle.bench_world.proofs.LinkOver.{Before, GoneAt, accords, called, counted, far_is, gone_so, its, short_so, so, spot}
 
@@ -81,7 +81,7 @@ module _ (old mid : Machines) (settled : IsSettled old) (q : ℕ) (l : OpenLink)
       by cause.Protocol z x a = absurd x
       by cause.Memory z x a = absurd x
 
-  pub told_short : (new : Machines) → new ≡ Down → (x : SnepFault) → x ≡ Memory → Fails x far mid.air → (Accords l.client far.end → Quiet → AsideFails far.end x after.end) → IsCutOff old new Unlink
+  pub told_short : (new : Machines) → new ≡ Down → (x : SnepFault) → x ≡ Memory → Fails x far mid.air → (Accords l.client far.end → Quiet → AsideFails far.end x after.end) → IsCutOffBy joins old new Unlink
   told_short new down x r fails left =
       short_so old mid settled q l far.end t joins b j after client Unlink new down
       (short old.air old.ends old.peers l (so old mid settled q l far.end t) joins b after none_at_rls j client

@@ -32,7 +32,7 @@ use Rattle.bench_world.specs.Peers.{Peers}
 use Rattle.bench_world.proofs.OnCall.{given_by}
 use Rattle.bench_world.specs.Links.{OpenLink}
 use Rattle.bench_world.specs.LinkTaken.{TakesLink, put_back, put_down}
-use Rattle.bench_world.specs.Obeying.{Machines, IsCutOff, IsSettled, ObeyedBy, state_at, under}
+use Rattle.bench_world.specs.Obeying.{Machines, IsCutOffBy, IsSettled, ObeyedBy, state_at, under}
 use Rattle.bench_world.proofs.OnLink.{Ends as FarEnds}
 use Rattle.bench_world.proofs.Getting.{value_got, get_refused, get_lost, get_short, name_found, lookup_lost, lookup_short}
 use Rattle.bench_world.proofs.LinkOver.{Before, GoneAt, OpenAt, accords, called, counted, far_is, gone_so, its, link, open_so, short_so, so, spot}
@@ -149,12 +149,12 @@ module _ (old mid : Machines) (settled : IsSettled old) (q : ℕ) (l : OpenLink)
         by cause.Protocol z (inr (inr never)) g = absurd never
         by cause.Memory z (inr (inr never)) g = absurd never
 
-    pub got_short : (new : Machines) → new ≡ Down → (x : SnepFault) → x ≡ Memory → Fails x far mid.air → (Accords l.client far.end → Left far.end x) → IsCutOff old new (Get most key)
+    pub got_short : (new : Machines) → new ≡ Down → (x : SnepFault) → x ≡ Memory → Fails x far mid.air → (Accords l.client far.end → Left far.end x) → IsCutOffBy joins old new (Get most key)
     got_short new down x r fails left =
         short_so old mid settled q l far.end t joins b j after client (Get most key) new down
         (by (of_own (Fails Memory) (subst (λ y. Fails y far mid.air) r fails)) (of_own (λ f a. Left f.end Memory) (subst (Left far.end) r (left accord))))
       where
-        by : Fails Memory (Of Own) old.air → Left Own Memory → IsCutOff Was Gone (Get most key)
+        by : Fails Memory (Of Own) old.air → Left Own Memory → IsCutOffBy joins Was Gone (Get most key)
         by (inl (why, e, made)) g = absurd (never_short why e)
         by (inr (inl (bad, made))) g = absurd cc
         by (inr (inr cut)) g = get_short old.air old.ends old.peers l (so old mid settled q l far.end t) most key may joins b j after client cut g
@@ -187,12 +187,12 @@ module _ (old mid : Machines) (settled : IsSettled old) (q : ℕ) (l : OpenLink)
         by cause.Protocol z (inr never) g = absurd never
         by cause.Memory z (inr never) g = absurd never
 
-    pub looked_short : (new : Machines) → new ≡ Down → (x : SnepFault) → x ≡ Memory → Looks x far mid.air → (Accords l.client far.end → AsideFails far.end x after.end) → IsCutOff old new (Lookup name)
+    pub looked_short : (new : Machines) → new ≡ Down → (x : SnepFault) → x ≡ Memory → Looks x far mid.air → (Accords l.client far.end → AsideFails far.end x after.end) → IsCutOffBy joins old new (Lookup name)
     looked_short new down x r fails left =
         short_so old mid settled q l far.end t joins b j after client (Lookup name) new down
         (by (of_own (Looks Memory) (subst (λ y. Looks y far mid.air) r fails)) (of_own (λ f a. AsideFails f.end Memory after.end) (subst (λ y. AsideFails far.end y after.end) r (left accord))))
       where
-        by : Looks Memory (Of Own) old.air → AsideFails Own Memory after.end → IsCutOff Was Gone (Lookup name)
+        by : Looks Memory (Of Own) old.air → AsideFails Own Memory after.end → IsCutOffBy joins Was Gone (Lookup name)
         by (inl (bad, made)) g = absurd cc
         by (inr cut) g = lookup_short old.air old.ends old.peers l (so old mid settled q l far.end t) name may joins b j after client cut g
 

@@ -26,7 +26,7 @@ use Rattle.bench_world.specs.World.{FarEnd}
 use Rattle.bench_world.specs.Calls.{GetTells, LookupTells, told_ending, told_loss}
 use Rattle.bench_world.specs.Legal.{Accepts, Joins}
 use Rattle.bench_world.specs.Links.{OpenLink}
-use Rattle.bench_world.specs.Obeying.{Machines, IsCutOff, IsSettled, ObeyedBy, under}
+use Rattle.bench_world.specs.Obeying.{Machines, IsCutOffBy, IsSettled, ObeyedBy, under}
 use Rattle.bench_world.specs.Peers.{Peers}
 use Rattle.bench_world.proofs.OnLink.{Ends as FarEnds}
 use Rattle.bench_world.proofs.OnCall.{IsCall, end, from_state}
@@ -112,7 +112,7 @@ module _ (air : Air Device) (ends : FarEnds) (peers : Peers) (l : OpenLink) (set
           by_loss cause.Protocol e = absurd cc
           by_loss cause.Memory e = absurd cc
 
-      pub get_short : IsCutShort ghosts device_end joins.own (begins l.client (Gets most key)) air l.initiator (record { end = far; numbers = joins.far }) b j after → after.end.service.accepted ≡ far.service.accepted → IsCutOff Old gone (Get most key)
+      pub get_short : IsCutShort ghosts device_end joins.own (begins l.client (Gets most key)) air l.initiator (record { end = far; numbers = joins.far }) b j after → after.end.service.accepted ≡ far.service.accepted → IsCutOffBy joins Old gone (Get most key)
       get_short cut same = inr (short_cut air ends peers l settled (Get most key) (Gets most key) get_call joins b j after cut (λ joined events devices adds stays. stays same))
 
   module _ (name : List ℕ) (may : Accepts (from_state air ends peers l settled) (Lookup name)) where
@@ -168,5 +168,5 @@ module _ (air : Air Device) (ends : FarEnds) (peers : Peers) (l : OpenLink) (set
           by_loss cause.Protocol e = absurd cc
           by_loss cause.Memory e = absurd cc
 
-      pub lookup_short : IsCutShort ghosts device_end joins.own (begins l.client (Finds name)) air l.initiator (record { end = its; numbers = joins.far }) b j after → after.end.service.accepted ≡ its.service.accepted → IsCutOff Was lookup_gone (Lookup name)
+      pub lookup_short : IsCutShort ghosts device_end joins.own (begins l.client (Finds name)) air l.initiator (record { end = its; numbers = joins.far }) b j after → after.end.service.accepted ≡ its.service.accepted → IsCutOffBy joins Was lookup_gone (Lookup name)
       lookup_short cut same = inr (short_cut air ends peers l settled (Lookup name) (Finds name) lookup_call joins b j after cut (λ joined events devices adds stays. stays same))

@@ -373,6 +373,7 @@ module _ (old mid : Air Device) (id : DeviceId) (place : ℕ) (idle : IsIdle old
       both id (seen_of s.device) r.commands (moment old) (moment mid) (moment new) s.selects.asked.notes r.asked.notes s.selects.told s.selects.asked.going r.asked.going in
       let asked = placed_asked r.commands (as_tag s.device tag _ _ r.asks) in (
         asks_for r.commands,
+        refl,
         front_of None (Read id) (λ h. h) os old new r.commands (s.selects.asked.notes ++ r.asked.notes) idle tt refl g asked,
         part_stays os.ends old new g.events idle g.moment (r.asked.same ∙ s.selects.asked.same)
             (none_in (Read id) (λ h. h) os old new r.commands (s.selects.asked.notes ++ r.asked.notes) g asked),
@@ -485,6 +486,7 @@ pub search_cut : (old new : Air Device) → IsIdle old → AskedPart NoStore (λ
 search_cut old new idle part = λ ends peers.
     let os : Upon = record { ends = ends; peers = peers; link = None } in (
       asks_for [],
+      refl,
       front_of None Find (λ h. h) os old new [] part.notes idle tt refl part.going refl,
       part_stays os.ends old new part.going.events idle part.going.moment part.same (none_in Find (λ h. h) os old new [] part.notes part.going refl),
     )
@@ -495,6 +497,7 @@ selection_cut old new id idle part = λ ends peers.
     let some = asked_by old id idle in
     let g : Going air (tag_due id some.0) (moment old) (moment new) part.notes = polled_of id some.0 (moment old) (moment new) part.notes part.going in (
       asks_for some.0,
+      refl,
       front_of None (Read id) (λ h. h) os old new some.0 part.notes idle tt refl g some.1,
       part_stays os.ends old new part.going.events idle part.going.moment part.same (none_in (Read id) (λ h. h) os old new some.0 part.notes g some.1),
     )

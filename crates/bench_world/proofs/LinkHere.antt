@@ -25,7 +25,7 @@ use Rattle.bench_world.specs.World.{FarEnd}
 use Rattle.bench_world.specs.Linking.{own_general, new_client}
 use Rattle.bench_world.specs.Opened.{IsServed}
 use Rattle.bench_world.specs.LinkedAt.{restarts, begun, NotOpened, moved_at, LinkLeft, OpensAt}
-use Rattle.bench_world.specs.Legal.{MayLink, CutFront}
+use Rattle.bench_world.specs.Legal.{MayLink, CutFront, no_joins}
 use Rattle.bench_world.specs.Obeying.{Machines, state_at, under, HasPlaces, IsSettled, Obeyed}
 use Rattle.bench_world.proofs.Unlinking.{upon}
 use Rattle.bench_world.proofs.LinkObeyed.{missed_link, selection_cut_link, tag_link, ended_link, cut_link, opened_link, served_there}
@@ -49,10 +49,10 @@ module _ (m : Machines) (settled : IsSettled m) (unlinked : m.link ≡ None) (id
       subst (λ x. Obeyed m x (Link id miu rw) answer) (with_link_of new)
       (in_this (under m.ends m.peers None new) answer (missed_link m.ends m.peers m.air id miu rw settled.idle there may new e answer s is))
 
-  pub here_cut : (new : Air Device) → SelectionCut (A id) (moment m.air) (moment new) → CutFront (state_at m) (Link id miu rw) new.trace (state_at (upon m new))
+  pub here_cut : (new : Air Device) → SelectionCut (A id) (moment m.air) (moment new) → CutFront no_joins (state_at m) (Link id miu rw) new.trace (state_at (upon m new))
   here_cut new part =
-      subst (λ x. CutFront (state_at m) (Link id miu rw) new.trace (state_at x)) (with_link_of new)
-      (subst (λ x. CutFront (state_at x) (Link id miu rw) new.trace (state_at (under m.ends m.peers None new))) none_open
+      subst (λ x. CutFront no_joins (state_at m) (Link id miu rw) new.trace (state_at x)) (with_link_of new)
+      (subst (λ x. CutFront no_joins (state_at x) (Link id miu rw) new.trace (state_at (under m.ends m.peers None new))) none_open
       (selection_cut_link m.ends m.peers m.air id miu rw settled.idle there may new part))
 
   module _ (mid : Air Device) (place : ℕ) (s : SelectsAt (A id) place (moment m.air) (moment mid)) where
@@ -82,12 +82,12 @@ module _ (m : Machines) (settled : IsSettled m) (unlinked : m.link ≡ None) (id
       moved_none = ap (λ l. let x : Machines = record { air = o.air; ends = slice_set m.ends place (Some o.after); peers = m.peers; link = l } in x) (sym unlinked)
 
       abbrev All : Result Told_answer ObeyFault → Type 0
-      All r = IfOk r (λ a. Obeyed m now (Link id miu rw) a) × OnErr r (CutFront (state_at m) (Link id miu rw) now.air.trace (state_at now)) × IfErr r (λ e. e ≡ faults.Memory)
+      All r = IfOk r (λ a. Obeyed m now (Link id miu rw) a) × OnErr r (CutFront no_joins (state_at m) (Link id miu rw) now.air.trace (state_at now)) × IfErr r (λ e. e ≡ faults.Memory)
 
-      cut_now : now ≡ moved_at (upon m mid) o.air place o.after → CutFront (state_at m) (Link id miu rw) now.air.trace (state_at now)
+      cut_now : now ≡ moved_at (upon m mid) o.air place o.after → CutFront no_joins (state_at m) (Link id miu rw) now.air.trace (state_at now)
       cut_now is =
-          subst (λ x. CutFront (state_at m) (Link id miu rw) x.air.trace (state_at x)) (moved_none ∙ sym is)
-          (subst (λ x. CutFront (state_at x) (Link id miu rw) left_none.air.trace (state_at left_none)) none_open
+          subst (λ x. CutFront no_joins (state_at m) (Link id miu rw) x.air.trace (state_at x)) (moved_none ∙ sym is)
+          (subst (λ x. CutFront no_joins (state_at x) (Link id miu rw) left_none.air.trace (state_at left_none)) none_open
           (cut_link m.ends m.peers m.air id miu rw settled.idle there may mid place s peer served.end o.after served.stands o.air o.came asked))
 
       ended_now : (cause : EndCause) (loss : _) → o.came ≡ Err cause → NotOpened cause (Ok (answers.LinkEnded loss)) → now ≡ moved_at (upon m mid) o.air place o.after → Obeyed m now (Link id miu rw) (answers.LinkEnded loss)

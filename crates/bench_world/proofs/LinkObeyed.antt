@@ -272,11 +272,12 @@ module _ (ends : Ends) (peers : Peers) (old : Air Device) (id : List ℕ) (miu r
       asks_so NoStore os old new (Link id miu rw) [] hs answer idle places tt may refl g over refl none (plain_so st id miu rw g.events answer (poll_not_linked e answer is)) law s.asked.same
 
   -- or selecting it was cut off
-  pub selection_cut_link : (new : Air Device) → SelectionCut (A id) (moment old) (moment new) → CutFront st (Link id miu rw) new.trace (state_at (under ends peers None new))
+  pub selection_cut_link : (new : Air Device) → SelectionCut (A id) (moment old) (moment new) → CutFront no_joins st (Link id miu rw) new.trace (state_at (under ends peers None new))
   selection_cut_link new part =
       let g : Going air (linking (A id) (own_general miu)) (moment old) (moment new) part.notes = linking_of id (own_general miu) (moment old) (moment new) part.notes part.going in
       let none : NoneHands devices (moment old).world g.events = none_selecting (A id) g.events part.going.each part.going.fresh (moment old).world in (
         asks_for [],
+        refl,
         front_so None os old new (Link id miu rw) [] part.notes idle may refl g refl none refl,
         part_stays ends old new g.events idle g.moment part.same none,
       )
@@ -495,11 +496,11 @@ module _ (ends : Ends) (peers : Peers) (old : Air Device) (id : List ℕ) (miu r
       ended_link causes.Memory loss is answer = absurd (let clash : ◌≡◌ {A = Result Told_answer ObeyFault} (Ok (answers.LinkEnded loss)) (Err obey_faults.Memory) = answer in cc)
 
       -- memory was wanting
-      pub cut_link : CutFront st (Link id miu rw) new.trace (state_at (record { air = new; ends = ends_then; peers = peers; link = None }))
+      pub cut_link : CutFront no_joins st (Link id miu rw) new.trace (state_at (record { air = new; ends = ends_then; peers = peers; link = None }))
       cut_link =
           let N : Machines = record { air = new; ends = ends_then; peers = peers; link = None } in
-          let C : List Event → Type 0 = λ xs. CutFront st (Link id miu rw) xs (state_at N) in
-          let cut : C es = (given, front_at None peers None refl refl, stays) in
+          let C : List Event → Type 0 = λ xs. CutFront no_joins st (Link id miu rw) xs (state_at N) in
+          let cut : C es = (given, refl, front_at None peers None refl refl, stays) in
           subst C (sym trace) cut
 
       -- ATR_RES came, and the link is open

@@ -14,7 +14,7 @@ use Rattle.bench_world.specs.World.{FarEnd}
 use Rattle.bench_world.specs.Legal.{Joins}
 use Rattle.bench_world.specs.Links.{OpenLink, accepted_by, with_last_ended}
 use Rattle.bench_world.specs.LinkTaken.{TakesLink, put_back, put_down}
-use Rattle.bench_world.specs.Obeying.{Machines, IsCutOff, IsSettled, ObeyedBy, under}
+use Rattle.bench_world.specs.Obeying.{Machines, IsCutOffBy, IsSettled, ObeyedBy, under}
 use Rattle.bench_world.proofs.OnLink.{Ends as FarEnds, one_place, opened, set_there}
 
 set_twice : (os : FarEnds) (n : ℕ) (x y : Option FarEnd) → slice_set (slice_set os n x) n y ≡ slice_set os n y
@@ -90,8 +90,8 @@ module _ (old mid : Machines) (settled : IsSettled old) (q : ℕ) (l : OpenLink)
           (subst (λ n. ObeyedBy joins old (GoneAt n) c answer) (sym place_is)
           (subst (λ (x : Option OpenLink). ObeyedBy joins (under old.ends old.peers x old.air) (GoneAt spot) c answer) (sym t.linked) o))
 
-      pub short_so : new ≡ put_down called q after.end → IsCutOff Before (GoneAt spot) c → IsCutOff old new c
+      pub short_so : new ≡ put_down called q after.end → IsCutOffBy joins Before (GoneAt spot) c → IsCutOffBy joins old new c
       short_so left o =
-          subst (λ y. IsCutOff old y c) (sym (left ∙ down_is))
-          (subst (λ n. IsCutOff old (GoneAt n) c) (sym place_is)
-          (subst (λ (x : Option OpenLink). IsCutOff (under old.ends old.peers x old.air) (GoneAt spot) c) (sym t.linked) o))
+          subst (λ y. IsCutOffBy joins old y c) (sym (left ∙ down_is))
+          (subst (λ n. IsCutOffBy joins old (GoneAt n) c) (sym place_is)
+          (subst (λ (x : Option OpenLink). IsCutOffBy joins (under old.ends old.peers x old.air) (GoneAt spot) c) (sym t.linked) o))

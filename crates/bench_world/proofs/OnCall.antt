@@ -156,9 +156,9 @@ module _ (air : Air Device) (ends : FarEnds) (peers : Peers) (l : OpenLink) (set
         }
 
     pub cut_off : (link : Option OpenLink) (ps : Peers) → link_after from_state given.joins c es None ≡ link → peers_after from_state given.joins c es None ≡ ps → CutStores from_state given.joins c es
-        → CutFront from_state c b.trace (state_at (to link ps))
+        → CutFront joins from_state c b.trace (state_at (to link ps))
     cut_off link ps link_is peers_is stores =
-        (given, front None link ps link_is peers_is, subst (CutStores from_state given.joins c) (sym (trace_is air ends peers l settled next plain b joins.far after notes g)) stores)
+        (given, refl, front None link ps link_is peers_is, subst (CutStores from_state given.joins c) (sym (trace_is air ends peers l settled next plain b joins.far after notes g)) stores)
 
     -- the request behind passed, and the far end stopped
     module _ (sent : Signal) (listeners : List Device) (d : Air Device) (asked : next notes ≡ Asks sent) (passed : first_fate b.fates ≡ Pass)
@@ -174,7 +174,7 @@ module _ (air : Air Device) (ends : FarEnds) (peers : Peers) (l : OpenLink) (set
           ap (λ (s : State). queue_after s.queue all) still ∙ queue_after-append air.fates es (Request sent Pass ∷ [])
           ∙ ap later_fates (sym (queue_is air ends peers l settled next plain b joins.far after notes g)) ∙ sym (ap (λ (a : Air Device). a.fates) left)
 
-      pub halted : (os : FarEnds) (ps : Peers) → HaltsCall from_state c d.trace (state_at (under os ps None d))
+      pub halted : (os : FarEnds) (ps : Peers) → HaltsCall joins from_state c d.trace (state_at (under os ps None d))
       halted os ps =
           let next_is : due from_state given c (receptions es) ≡ Asks sent = ap (due from_state given c) (going air ends peers l settled next plain b joins.far after notes g).known ∙ same notes ∙ asked in
           let last : Pass ≡ first_fate (queue_after air.fates es) = sym passed ∙ ap first_fate (queue_is air ends peers l settled next plain b joins.far after notes g) in
@@ -184,6 +184,7 @@ module _ (air : Air Device) (ends : FarEnds) (peers : Peers) (l : OpenLink) (set
           let due_all : EachDue (due from_state given c) [] all = due-append (due from_state given c) [] es (Request sent Pass ∷ []) each_due (next_is, tt) in
           record {
             given = given;
+            joined = refl;
             accepted = accepts;
             asks = asks;
             before = es;
@@ -334,7 +335,7 @@ module _ (air : Air Device) (ends : FarEnds) (peers : Peers) (l : OpenLink) (set
           → (adds : (more : List Received) → after.end.service.accepted ≡ end.service.accepted ++ more
           → (stable (world_after from_state joins c events)).ends ≡ with_accepted more l.peer peers.numbers (stable from_state.world).ends)
           → (stays : after.end.service.accepted ≡ end.service.accepted → LeavesStable from_state joins c events) → CutStores from_state joins c events)
-          → setting_of after.end ≡ setting_of end → CutFront from_state c b.trace (state_at gone_then)
+          → setting_of after.end ≡ setting_of end → CutFront joins from_state c b.trace (state_at gone_then)
       short stores set =
           cut_off next plain c joins b after t.notes t.going is.still is.accepts is.asks same None (with_last_ended (accepted_by (get_or (slice_set ends place (Some after.end)) place None)) peers)
           (is.link_off joins events) (gone_peers None (is.link_off joins events))

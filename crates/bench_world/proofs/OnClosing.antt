@@ -36,7 +36,7 @@ use Rattle.bench_world.specs.World.{FarEnd, WholeWorld}
 use Rattle.bench_world.specs.Calls.{stands_closing, told_closing, told_loss}
 use Rattle.bench_world.specs.Links.{OpenLink, accepted_by, ended, with_last_ended}
 use Rattle.bench_world.specs.Legal.{Joins, CutFront, HaltsCall, due, peers_after, world_after}
-use Rattle.bench_world.specs.Obeying.{Machines, IsCutOff, IsSettled, ObeyedBy, state_at, under}
+use Rattle.bench_world.specs.Obeying.{Machines, IsCutOffBy, IsSettled, ObeyedBy, state_at, under}
 use Rattle.bench_world.specs.Peers.{Peers}
 use Rattle.bench_world.specs.World.{bench_air}
 use Rattle.bench_world.proofs.Arrived.{came_at}
@@ -109,7 +109,7 @@ module _ (air : Air Device) (ends : FarEnds) (peers : Peers) (l : OpenLink) (set
           stays = stays_then air ends peers l settled next plain Unlink joins b after t.notes t.going refl tt refl same set accepted;
         }) set refl refl tt
 
-    pub closing_cut : setting_of after.end ≡ setting_of far → after.end.service.accepted ≡ far.service.accepted → CutFront (from_state air ends peers l settled) Unlink b.trace (state_at gone)
+    pub closing_cut : setting_of after.end ≡ setting_of far → after.end.service.accepted ≡ far.service.accepted → CutFront joins (from_state air ends peers l settled) Unlink b.trace (state_at gone)
     closing_cut set accepted =
         cut_off air ends peers l settled next plain Unlink joins b after t.notes t.going refl tt refl same None
         (with_last_ended (accepted_by (get_or (slice_set ends spot (Some after.end)) spot None)) peers) refl (gone_peers None)
@@ -185,11 +185,11 @@ module _ (air : Air Device) (ends : FarEnds) (peers : Peers) (l : OpenLink) (set
         six_is cause.Protocol e q = absurd cc
         six_is cause.Memory e q = absurd cc
 
-    pub short : IsClosingShort ghosts device_end joins.own from air l.initiator counted b after → after.end.service.accepted ≡ far.service.accepted → IsCutOff (under ends peers (Some l) air) gone Unlink
+    pub short : IsClosingShort ghosts device_end joins.own from air l.initiator counted b after → after.end.service.accepted ≡ far.service.accepted → IsCutOffBy joins (under ends peers (Some l) air) gone Unlink
     short s accepted = inr (by_left (s.front device_linked devices_link spot (stands air ends peers l settled) ends))
       where
         by_left : ClosingFront ghosts device_linked peer_ends joins.own from l.initiator air b spot ends counted after
-            → CutFront (from_state air ends peers l settled) Unlink b.trace (state_at gone) ⊎ HaltsCall (from_state air ends peers l settled) Unlink b.trace (state_at gone)
+            → CutFront joins (from_state air ends peers l settled) Unlink b.trace (state_at gone) ⊎ HaltsCall joins (from_state air ends peers l settled) Unlink b.trace (state_at gone)
         by_left f = elim f.left [
           | inl (field, stays) ↦ inl (
               let T : Air Device → Choosing FarEnd → Type 0 = λ a e. ClosingTurns ghosts device_linked peer_ends joins.own from l.initiator air a spot ends counted e f.standing in

@@ -28,7 +28,7 @@ use Rattle.bench_world.specs.World.{FarEnd}
 use Rattle.bench_world.specs.Calls.{told_loss}
 use Rattle.bench_world.specs.Links.{OpenLink}
 use Rattle.bench_world.specs.LinkTaken.{TakesLink, put_back, put_down}
-use Rattle.bench_world.specs.Obeying.{Machines, IsCutOff, IsSettled, ObeyedBy, state_at, under}
+use Rattle.bench_world.specs.Obeying.{Machines, IsCutOffBy, IsSettled, ObeyedBy, state_at, under}
 use Rattle.bench_world.specs.Peers.{Peers}
 use Rattle.bench_world.specs.Legal.{FrontOf, Joins}
 use Rattle.bench_world.proofs.OnLink.{Ends as FarEnds}
@@ -151,13 +151,13 @@ module _ (old mid : Machines) (settled : IsSettled old) (q : ℕ) (l : OpenLink)
       by cause.Protocol t' (inr (inr never)) a = absurd never
       by cause.Memory t' (inr (inr never)) a = absurd never
 
-  pub told_short : (new : Machines) → new ≡ Down → (x : SnepFault) → x ≡ Memory → Fails x bytes far mid.air → (Accords l.client far.end → PutFails bytes far.end x client after.end) → IsCutOff old new (Put m)
+  pub told_short : (new : Machines) → new ≡ Down → (x : SnepFault) → x ≡ Memory → Fails x bytes far mid.air → (Accords l.client far.end → PutFails bytes far.end x client after.end) → IsCutOffBy joins old new (Put m)
   told_short new left x r fails put =
       short_so old mid settled q l far.end t joins b j after client (Put m) new left
       (by (of_own (Fails Memory) (subst (λ y. Fails y bytes far mid.air) r fails))
       (of_own (λ xs f a. AddsAtMost xs f.end after.end) (subst (λ y. PutFails bytes far.end y client after.end) r (put accord))))
     where
-      by : Fails Memory (message_of m) (Of Own) old.air → AddsAtMost (message_of m) Own after.end → IsCutOff Was Gone (Put m)
+      by : Fails Memory (message_of m) (Of Own) old.air → AddsAtMost (message_of m) Own after.end → IsCutOffBy joins Was Gone (Put m)
       by (inl (why, is, made)) a = absurd (never_short why is)
       by (inr (inl (bad, made))) a = absurd cc
       by (inr (inr cut)) a = put_short old.air old.ends old.peers l (so old mid settled q l far.end t) m fits joins b j after client cut a

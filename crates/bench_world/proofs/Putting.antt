@@ -26,7 +26,7 @@ use Rattle.bench_world.specs.World.{FarEnd}
 use Rattle.bench_world.specs.Calls.{PutAdds, PutAddsAtMost, told_loss}
 use Rattle.bench_world.specs.Legal.{Joins}
 use Rattle.bench_world.specs.Links.{OpenLink}
-use Rattle.bench_world.specs.Obeying.{Machines, IsCutOff, IsSettled, ObeyedBy, under}
+use Rattle.bench_world.specs.Obeying.{Machines, IsCutOffBy, IsSettled, ObeyedBy, under}
 use Rattle.bench_world.specs.Peers.{Peers}
 use Rattle.bench_world.proofs.OnLink.{Ends as FarEnds}
 use Rattle.bench_world.proofs.OnCall.{IsCall, end}
@@ -113,7 +113,7 @@ module _ (air : Air Device) (ends : FarEnds) (peers : Peers) (l : OpenLink) (set
         by_loss cause.Protocol e more p = absurd cc
         by_loss cause.Memory e more p = absurd cc
 
-    pub put_short : IsCutShort ghosts device_end joins.own (begins l.client (Puts (message_of m))) air l.initiator (record { end = far; numbers = joins.far }) b j after → AddsAtMost (message_of m) far after.end → IsCutOff Old gone (Put m)
+    pub put_short : IsCutShort ghosts device_end joins.own (begins l.client (Puts (message_of m))) air l.initiator (record { end = far; numbers = joins.far }) b j after → AddsAtMost (message_of m) far after.end → IsCutOffBy joins Old gone (Put m)
     unfolding Added
     put_short cut adds =
         let a = added adds in

@@ -28,7 +28,7 @@ use Rattle.bench_world.specs.Peers.{Peers, placed_under}
 use Rattle.bench_world.specs.Links.{OpenLink, accepted_by, end_numbered, is_number, ended, with_last_ended, last_ended, is_with, accepted_at, begun_if}
 use Rattle.bench_world.specs.Arriving.{BeginsAt}
 use Rattle.bench_world.specs.Calls.{IfLinked}
-use Rattle.bench_world.specs.Legal.{State, Given, Joins, IsPlaced, AnswerLaw, FrontOf, CutFront, CutStores, due, unlinked, is_linked_to, without_device, world_after, link_after, state_after}
+use Rattle.bench_world.specs.Legal.{State, Given, Joins, IsPlaced, AnswerLaw, FrontOf, CutFront, CutStores, due, unlinked, is_linked_to, without_device, world_after, link_after, state_after, no_joins}
 use Rattle.bench_world.specs.Obeying.{Machines, state_at, HasPlaces, IsSettled, KeepsLink, Obeyed, IsCutOff, ObeyedUnlinked, CutOffUnlinked, link_ended, taken_out}
 use Rattle.std.proofs.lemmas.List.{length-append}
 use Rattle.bench_world.proofs.LinkKept.{keeps_so, open_less}
@@ -181,14 +181,14 @@ module _ (c : Command) (r : IsReset c) (old : Machines) (settled : IsSettled old
       }
 
   -- or cut off
-  pub front_ended : CutFront (state_at (link_ended old)) c now.air.trace (state_at now) → CutFront (state_at old) c now.air.trace (state_at now)
+  pub front_ended : CutFront no_joins (state_at (link_ended old)) c now.air.trace (state_at now) → CutFront no_joins (state_at old) c now.air.trace (state_at now)
   front_ended cut =
       let s : State = state_at old in
       let t : State = state_at now in
       let same : state_at (link_ended old) ≡ unlinked s = unlinked_state old settled.places in
       let F : State → Type 0 = λ x. FrontOf x cut.0 c now.air.trace None t in
       let C : State → Type 0 = λ x. CutStores x (cut.0).joins c now.air.trace in
-      (cut.0, r.front s t cut.0 now.air.trace None (subst F same cut.1), r.stores s (cut.0).joins now.air.trace (subst C same cut.2))
+      (cut.0, cut.1, r.front s t cut.0 now.air.trace None (subst F same cut.2), r.stores s (cut.0).joins now.air.trace (subst C same cut.3))
 
 module _ (c : Command) (r : IsReset c) (old : Machines) (settled : IsSettled old) (b : Air Device) where
   pub reset_obeyed : (m : Machines) (answer : Answer) → m ≡ link_ended old → ObeyedUnlinked m.air b c answer → Obeyed old (upon m b) c answer

@@ -228,6 +228,7 @@ module _ (old mid : Air Device) (id : DeviceId) (m : Msg) (place : ℕ) (idle : 
       let g : Going air (tag_due id commands) (moment old) (moment new) ns = of_both new commands w.told.asked.notes w.told.asked.going in
       let asked = placed_write commands (as_tag s.device tag _ _ w.told.asks) in (
         asks_for commands,
+        refl,
         front_of None (Write id m) (λ h. h) os old new commands ns idle tt refl g asked,
         subst (λ es. StoresLaw (above os old) no_joins id m Stopped es) (sym (trace_is old new (tag_due id commands) ns g idle))
             (stores_above os old id m Stopped g.events (none_in (Write id m) (λ h. h) os old new commands ns g asked)
@@ -241,6 +242,7 @@ selection_cut_write old new id m idle part = λ ends peers.
     let some = write_asked old id m idle in
     let g : Going air (tag_due id some.0) (moment old) (moment new) part.notes = polled_of id some.0 (moment old) (moment new) part.notes part.going in (
       asks_for some.0,
+      refl,
       front_of None (Write id m) (λ h. h) os old new some.0 part.notes idle tt refl g some.1,
       subst (λ es. StoresLaw (above os old) no_joins id m Stopped es) (sym (trace_is old new (tag_due id some.0) part.notes g idle))
           (stores_above os old id m Stopped g.events (none_in (Write id m) (λ h. h) os old new some.0 part.notes g some.1)

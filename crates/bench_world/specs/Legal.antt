@@ -445,14 +445,15 @@ CutStores s joins (Write id message) cut = StoresLaw s joins id message Stopped 
 CutStores s joins (Put message) cut = IfLinked s.link (λ l. CutPut s joins l message cut) (LeavesStable s joins (Put message) cut)
 CutStores s joins c cut = LeavesStable s joins c cut
 
--- a front of a step that was cut off
-abbrev pub CutFront : State → Command → List Event → State → Type 0
-CutFront s c cut t = (g : Given) × FrontOf s g c cut None t × CutStores s g.joins c cut
+-- a front of a step that was cut off, where so many PDUs stand in each payload of the ends of a link
+abbrev pub CutFront : Joins → State → Command → List Event → State → Type 0
+CutFront joins s c cut t = (g : Given) × (g.joins ≡ joins) × FrontOf s g c cut None t × CutStores s g.joins c cut
 
 -- Behind the turns of a call on the link that were due, a request that was due passed, and as it handed a payload over the peer's end stopped for
 -- want of memory: nothing came back. The link is gone then. How that left devices and far ends isn't told.
-pub record HaltsCall (s : State) (c : Command) (cut : List Event) (t : State) : Type 0 where
+pub record HaltsCall (joins : Joins) (s : State) (c : Command) (cut : List Event) (t : State) : Type 0 where
   pub given : Given
+  pub joined : given.joins ≡ joins
   pub accepted : Accepts s c
   pub asks : IsAskedBy s c given.asked
   pub before : List Event
@@ -466,16 +467,16 @@ pub record HaltsCall (s : State) (c : Command) (cut : List Event) (t : State) : 
   pub link : t.link ≡ None
 
 -- no other command hands anything over
-abbrev pub Halts : State → Command → List Event → State → Type 0
-Halts s (Put message) cut t = HaltsCall s (Put message) cut t
-Halts s (Get most key) cut t = HaltsCall s (Get most key) cut t
-Halts s (Lookup name) cut t = HaltsCall s (Lookup name) cut t
-Halts s Unlink cut t = HaltsCall s Unlink cut t
-Halts s c cut t = ⊥
+abbrev pub Halts : Joins → State → Command → List Event → State → Type 0
+Halts joins s (Put message) cut t = HaltsCall joins s (Put message) cut t
+Halts joins s (Get most key) cut t = HaltsCall joins s (Get most key) cut t
+Halts joins s (Lookup name) cut t = HaltsCall joins s (Lookup name) cut t
+Halts joins s Unlink cut t = HaltsCall joins s Unlink cut t
+Halts joins s c cut t = ⊥
 
 -- What want of memory leaves of a command: nothing was done, there is a front of its step, or the peer's end stopped behind one.
-abbrev pub CutOff : State → Command → List Event → State → Type 0
-CutOff s c cut t = ((cut ≡ []) × (t ≡ s)) ⊎ (CutFront s c cut t ⊎ Halts s c cut t)
+abbrev pub CutOff : Joins → State → Command → List Event → State → Type 0
+CutOff joins s c cut t = ((cut ≡ []) × (t ≡ s)) ⊎ (CutFront joins s c cut t ⊎ Halts joins s c cut t)
 
 -- The entries lead from one state to another, each behind those before it, and each has what its step is said for.
 abbrev pub EachLegal : State → List Given → List Entry → State → Type 0

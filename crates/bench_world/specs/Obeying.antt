@@ -139,8 +139,11 @@ abbrev pub Obeyed : Machines → Machines → Command → Answer → Type 0
 Obeyed = ObeyedBy no_joins
 
 -- It was cut off by want of memory.
+abbrev pub IsCutOffBy : Joins → Machines → Machines → Command → Type 0
+IsCutOffBy joins old new c = CutOff joins (state_at old) c new.air.trace (state_at new)
+
 abbrev pub IsCutOff : Machines → Machines → Command → Type 0
-IsCutOff old new c = CutOff (state_at old) c new.air.trace (state_at new)
+IsCutOff = IsCutOffBy no_joins
 
 -- A command of the field alone has no part in far ends and links: so it is, whatever stands above the field.
 abbrev pub RefusedBelow : {X : Type 0} → Result X ObeyFault → Air Device → Command → Type 0
@@ -158,7 +161,7 @@ ObeyedUnlinked old new c answer =
 
 abbrev pub CutOffUnlinked : Air Device → Air Device → Command → Type 0
 CutOffUnlinked old new c =
-    (ends : List (Option FarEnd)) (peers : Peers) → CutFront (state_at (under ends peers None old)) c new.trace (state_at (under ends peers None new))
+    (ends : List (Option FarEnd)) (peers : Peers) → CutFront no_joins (state_at (under ends peers None old)) c new.trace (state_at (under ends peers None new))
 
 -- What contracts see of a bench: its journal; the state that its machines are in; what happened in a command that want of memory
 -- cut off, since its last entry; and whether that spoiled it.
@@ -194,7 +197,7 @@ pub record Spoils (old new : Benched) (c : Command) : Type 0 where
   pub state : State
   pub cut : List Event
   pub is : new ≡ record old { state = state; cut = cut; spoiled = true }
-  pub front : CutOff old.state c cut state
+  pub front : CutOff no_joins old.state c cut state
 
 -- ... and once it is spoiled, nothing changes
 abbrev pub LacksMemory : Benched → Benched → Command → Type 0

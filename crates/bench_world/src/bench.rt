@@ -7,7 +7,7 @@ ghost use Rattle.bench_devices.specs.Device.{device_tech};
 ghost use Rattle.bench_world.specs.Legal.{Accepts, memory_of};
 ghost use Rattle.bench_devices.specs.Device.{most_devices};
 ghost use Rattle.bench_devices.specs.Placed.{device_with};
-ghost use Rattle.bench_world.specs.Obeying.{Obeys, Obeyed, ObeyedBy, IsSettled, IsCutOff, RefusedOnly, ObeyedBelow, RefusedBelow, LacksMemory, FieldOf, FarAt, new_bench, joins_for, obey_fault_number};
+ghost use Rattle.bench_world.specs.Obeying.{Obeys, Obeyed, ObeyedBy, IsSettled, IsCutOffBy, RefusedOnly, ObeyedBelow, RefusedBelow, LacksMemory, FieldOf, FarAt, new_bench, joins_for, obey_fault_number};
 ghost use Rattle.bench_world.specs.Links.{OpenLink};
 ghost use Rattle.bench_devices.specs.Phases.{IsIdle};
 
@@ -291,7 +291,7 @@ fn run_command(
     ensures ok { IfOk result (λ a. ObeyedBy (joins_for command.now joins) machines.old machines.new command.now a) }
     ensures refused { IsErrOf result ObeyFault.Refused → (machines.new ≡ machines.old) }
     ensures cause { RefusedOnly result machines.old command.now }
-    ensures cut { IsErrOf result ObeyFault.Memory → IsCutOff machines.old machines.new command.now }
+    ensures cut { IsErrOf result ObeyFault.Memory → IsCutOffBy (joins_for command.now joins) machines.old machines.new command.now }
 {
     match command {
         Command::Skip => unreachable!(),

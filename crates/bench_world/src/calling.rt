@@ -11,7 +11,7 @@ ghost use Rattle.bench_script.specs.Script.{SpellsName, longest_message};
 ghost use Rattle.bench_world.specs.Calls.{told_loss};
 ghost use Rattle.bench_world.specs.Legal.{MayGet};
 ghost use Rattle.bench_world.specs.LinkTaken.{TakesLink, put_back, put_down};
-ghost use Rattle.bench_world.specs.Obeying.{IsSettled, ObeyedBy, IsCutOff, RefusedOnly};
+ghost use Rattle.bench_world.specs.Obeying.{IsSettled, ObeyedBy, IsCutOffBy, RefusedOnly};
 ghost use Rattle.std.specs.Prelude.{Some};
 
 use crate::bench::ObeyFault;
@@ -124,7 +124,7 @@ fn put_bytes(machines: &mut Machines, joins: Joins, bytes: &[u8]) -> Result<Answ
     ensures ok { IfOk result (λ a. (m : Msg) → message_of m ≡ bytes.now
         → ObeyedBy joins machines.old machines.new (Command.Put m) a) }
     ensures cut { OnErr result ((m : Msg) → message_of m ≡ bytes.now
-        → IsCutOff machines.old machines.new (Command.Put m)) }
+        → IsCutOffBy joins machines.old machines.new (Command.Put m)) }
 {
     let Some(mut on) = take_link(machines, joins.far) else {
         return Ok(Answer::NoLink);
@@ -181,7 +181,7 @@ pub fn put(
     ensures ok { IfOk result (λ a. ObeyedBy joins machines.old machines.new (Command.Put message.now) a) }
     ensures refused { IsErrOf result ObeyFault.Refused → (machines.new ≡ machines.old) }
     ensures cause { RefusedOnly result machines.old (Command.Put message.now) }
-    ensures cut { IsErrOf result ObeyFault.Memory → IsCutOff machines.old machines.new (Command.Put message.now) }
+    ensures cut { IsErrOf result ObeyFault.Memory → IsCutOffBy joins machines.old machines.new (Command.Put message.now) }
 {
     if is_too_long(message) {
         return Err(ObeyFault::Refused);
@@ -205,7 +205,7 @@ fn get_value(
     requires settled { IsSettled machines.old }
     requires may { MayGet acceptable key.now }
     ensures ok { IfOk result (λ a. ObeyedBy joins machines.old machines.new (Command.Get acceptable key.now) a) }
-    ensures cut { OnErr result (IsCutOff machines.old machines.new (Command.Get acceptable key.now)) }
+    ensures cut { OnErr result (IsCutOffBy joins machines.old machines.new (Command.Get acceptable key.now)) }
 {
     let Some(mut on) = take_link(machines, joins.far) else {
         return Ok(Answer::NoLink);
@@ -262,7 +262,7 @@ pub fn get(
     ensures ok { IfOk result (λ a. ObeyedBy joins machines.old machines.new (Command.Get acceptable key.now) a) }
     ensures refused { IsErrOf result ObeyFault.Refused → (machines.new ≡ machines.old) }
     ensures cause { RefusedOnly result machines.old (Command.Get acceptable key.now) }
-    ensures cut { IsErrOf result ObeyFault.Memory → IsCutOff machines.old machines.new (Command.Get acceptable key.now) }
+    ensures cut { IsErrOf result ObeyFault.Memory → IsCutOffBy joins machines.old machines.new (Command.Get acceptable key.now) }
 {
     if acceptable as usize > LONGEST_MESSAGE || key.len() > LONGEST_MESSAGE {
         return Err(ObeyFault::Refused);
@@ -300,7 +300,7 @@ fn lookup_name(machines: &mut Machines, joins: Joins, name: &str) -> Result<Answ
     requires settled { IsSettled machines.old }
     requires may { SpellsName name.now name.now }
     ensures ok { IfOk result (λ a. ObeyedBy joins machines.old machines.new (Command.Lookup name.now) a) }
-    ensures cut { OnErr result (IsCutOff machines.old machines.new (Command.Lookup name.now)) }
+    ensures cut { OnErr result (IsCutOffBy joins machines.old machines.new (Command.Lookup name.now)) }
 {
     let Some(mut on) = take_link(machines, joins.far) else {
         return Ok(Answer::NoLink);
@@ -339,7 +339,7 @@ pub fn lookup(machines: &mut Machines, joins: Joins, name: &[u8]) -> Result<Answ
     ensures ok { IfOk result (λ a. ObeyedBy joins machines.old machines.new (Command.Lookup name.now) a) }
     ensures refused { IsErrOf result ObeyFault.Refused → (machines.new ≡ machines.old) }
     ensures cause { RefusedOnly result machines.old (Command.Lookup name.now) }
-    ensures cut { IsErrOf result ObeyFault.Memory → IsCutOff machines.old machines.new (Command.Lookup name.now) }
+    ensures cut { IsErrOf result ObeyFault.Memory → IsCutOffBy joins machines.old machines.new (Command.Lookup name.now) }
 {
     let Some(service) = service_name(name) else {
         return Err(ObeyFault::Refused);
@@ -354,7 +354,7 @@ pub fn lookup(machines: &mut Machines, joins: Joins, name: &[u8]) -> Result<Answ
 fn close(machines: &mut Machines, joins: Joins) -> Result<Answer, AllocError>
     requires { IsSettled machines.old }
     ensures ok { IfOk result (λ a. ObeyedBy joins machines.old machines.new Command.Unlink a) }
-    ensures cut { OnErr result (IsCutOff machines.old machines.new Command.Unlink) }
+    ensures cut { OnErr result (IsCutOffBy joins machines.old machines.new Command.Unlink) }
 {
     let Some(mut on) = take_link(machines, joins.far) else {
         return Ok(Answer::NoLink);
@@ -390,7 +390,7 @@ fn close(machines: &mut Machines, joins: Joins) -> Result<Answer, AllocError>
 pub fn unlink(machines: &mut Machines, joins: Joins) -> Result<Answer, ObeyFault>
     requires { IsSettled machines.old }
     ensures ok { IfOk result (λ a. ObeyedBy joins machines.old machines.new Command.Unlink a) }
-    ensures cut { OnErr result (IsCutOff machines.old machines.new Command.Unlink) }
+    ensures cut { OnErr result (IsCutOffBy joins machines.old machines.new Command.Unlink) }
     ensures never { IsErrOf result ObeyFault.Refused → ⊥ }
 {
     match close(machines, joins) {

@@ -5,7 +5,7 @@ ghost use Rattle.llcp_conn.specs.Conn.{IsWindow};
 ghost use Rattle.llcp_pdu.specs.General.{IsMiu};
 ghost use Rattle.nfca_poll.specs.declared.fault.PollFault.TheVariants as faults;
 ghost use Rattle.bench_world.specs.Answering.{poll_answer};
-ghost use Rattle.bench_world.specs.Legal.{CutFront};
+ghost use Rattle.bench_world.specs.Legal.{CutFront, no_joins};
 ghost use Rattle.bench_world.specs.Obeying.{IsSettled, Obeyed, IsCutOff, RefusedOnly, state_at};
 
 use crate::answering::missed;
@@ -50,7 +50,7 @@ fn select_and_open(
     requires miu { IsMiu miu }
     requires window { IsWindow rw }
     ensures ok { IfOk result (λ a. Obeyed machines.old machines.new (Command.Link id.now miu rw) a) }
-    ensures cut { OnErr result (CutFront (state_at machines.old) (Command.Link id.now miu rw)
+    ensures cut { OnErr result (CutFront no_joins (state_at machines.old) (Command.Link id.now miu rw)
         machines.new.air.trace (state_at machines.new)) }
     ensures memory { IfErr result (λ e. e ≡ ObeyFault.Memory) }
 {

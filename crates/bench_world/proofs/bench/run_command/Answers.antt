@@ -6,7 +6,7 @@ use Rattle.bench_world.specs.declared.bench.ObeyFault.TheVariants as faults
 use Rattle.bench_world.specs.declared.entry.Answer.{Answer}
 use Rattle.bench_script.specs.declared.command.Command.{Command}
 use Rattle.bench_world.specs.Legal.{Accepts}
-use Rattle.bench_world.specs.Obeying.{Machines, IsCutOff, under, state_at}
+use Rattle.bench_world.specs.Obeying.{Machines, IsCutOffBy, joins_for, under, state_at}
 use Rattle.bench_world.specs.declared.inbox.LinkRange.{LinkRange}
 use Rattle.bench_world.specs.World.{FarEnd}
 use Rattle.bench_world.specs.Peers.{Peers}
@@ -47,12 +47,12 @@ returns-in-Dump-clause-cause c = λ e has.
 
 pub returns-in-Find-clause-cut : goal.returns-in-Find-clause-cut
 returns-in-Find-clause-cut c = λ e.
-    subst (λ x. IsCutOff c.args.machines.now c.find.new.machines x) (sym c.in-Find.is) (of_err c.find.result e c.find.ensures.cut)
+    subst (λ x. IsCutOffBy (joins_for x c.args.joins) c.args.machines.now c.find.new.machines x) (sym c.in-Find.is) (of_err c.find.result e c.find.ensures.cut)
 
 pub returns-in-Read-clause-cut : goal.returns-in-Read-clause-cut
 returns-in-Read-clause-cut c = λ e.
-    subst (λ x. IsCutOff c.args.machines.now c.read_tag.new.machines x) (sym c.in-Read.is) (of_err c.read_tag.result e c.read_tag.ensures.cut)
+    subst (λ x. IsCutOffBy (joins_for x c.args.joins) c.args.machines.now c.read_tag.new.machines x) (sym c.in-Read.is) (of_err c.read_tag.result e c.read_tag.ensures.cut)
 
 pub returns-in-Write-clause-cut : goal.returns-in-Write-clause-cut
 returns-in-Write-clause-cut c = λ e.
-    subst (λ x. IsCutOff c.args.machines.now c.write_message.new.machines x) (sym c.in-Write.is) (of_err c.write_message.result e c.write_message.ensures.cut)
+    subst (λ x. IsCutOffBy (joins_for x c.args.joins) c.args.machines.now c.write_message.new.machines x) (sym c.in-Write.is) (of_err c.write_message.result e c.write_message.ensures.cut)

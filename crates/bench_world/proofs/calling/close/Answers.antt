@@ -7,7 +7,7 @@ use Rattle.bench_world.specs.declared.entry.Answer.TheVariants as answers
 use Rattle.bench_world.specs.Legal.{Joins}
 use Rattle.bench_world.specs.Links.{OpenLink}
 use Rattle.bench_world.specs.LinkTaken.{TakesLink, put_back, put_down}
-use Rattle.bench_world.specs.Obeying.{Machines, IsCutOff, ObeyedBy, under}
+use Rattle.bench_world.specs.Obeying.{Machines, IsCutOffBy, ObeyedBy, under}
 use Rattle.bench_world.specs.Peers.{Peers}
 use Rattle.snep_core.specs.Accord.{AsideFails}
 use Rattle.bench_devices.proofs.PeerHere.{none_at_rls}
@@ -63,7 +63,8 @@ returns-in-Err-Memory-clause-cut c =
     let asked : c.args.joins ≡ joins = search rules in
     let counts : c.in-Some.on.far.numbers ≡ joins.far = search rules in
     let left : c.put_down-in-Err-Memory.new.machines ≡ put_down (under mid.ends mid.peers mid.link c.close_and_release.new.field) c.in-Some.on.place c.close_and_release.new.far.end = search rules in
-    told_short c.args.machines.now mid c.requires c.in-Some.on.place l c.in-Some.on.far t joins counts c.close_and_release.new.field c.close_and_release.new.initiator c.close_and_release.new.far c.close_and_release.new.client.llc c.put_down-in-Err-Memory.new.machines left c.in-Err-Memory.field-0 c.in-Err-Memory.field-0-is c.in-Err-Memory.ensures.err c.in-Err-Memory.ensures.fails
+    subst (λ x. IsCutOffBy x c.args.machines.now c.put_down-in-Err-Memory.new.machines (Unlink)) (sym asked)
+    (told_short c.args.machines.now mid c.requires c.in-Some.on.place l c.in-Some.on.far t joins counts c.close_and_release.new.field c.close_and_release.new.initiator c.close_and_release.new.far c.close_and_release.new.client.llc c.put_down-in-Err-Memory.new.machines left c.in-Err-Memory.field-0 c.in-Err-Memory.field-0-is c.in-Err-Memory.ensures.err c.in-Err-Memory.ensures.fails)
 
 pub unreachable-requires-in-Err-BadPeer : goal.unreachable-requires-in-Err-BadPeer
 unreachable-requires-in-Err-BadPeer c =

@@ -7,7 +7,7 @@ use Rattle.bench_world.specs.declared.entry.Answer.TheVariants as answers
 use Rattle.bench_world.specs.Legal.{Joins}
 use Rattle.bench_world.specs.Links.{OpenLink}
 use Rattle.bench_world.specs.LinkTaken.{TakesLink, put_back, put_down}
-use Rattle.bench_world.specs.Obeying.{Machines, IsCutOff, ObeyedBy, under}
+use Rattle.bench_world.specs.Obeying.{Machines, IsCutOffBy, ObeyedBy, under}
 use Rattle.bench_world.specs.Peers.{Peers}
 use Rattle.snep_core.specs.Accord.{GetFails}
 use Rattle.snep_core.specs.declared.job.Refusal.TheVariants as refusals
@@ -128,7 +128,8 @@ returns-in-Err-Memory-clause-cut c =
     let asked : c.args.joins ≡ joins = search rules in
     let counts : c.in-Some.on.far.numbers ≡ joins.far = search rules in
     let left : c.put_down-in-Err-Memory.new.machines ≡ put_down (under mid.ends mid.peers mid.link c.get_on.new.field) c.in-Some.on.place c.get_on.new.far.end = search rules in
-    got_short c.args.machines.now mid c.requires.settled c.in-Some.on.place l c.in-Some.on.far t joins counts c.get_on.new.field c.get_on.new.initiator c.get_on.new.far c.get_on.new.client.llc c.args.acceptable c.args.key.now c.requires.may c.put_down-in-Err-Memory.new.machines left c.in-Err-Memory.field-0 c.in-Err-Memory.field-0-is c.in-Err-Memory.ensures.err c.in-Err-Memory.ensures.fails
+    subst (λ x. IsCutOffBy x c.args.machines.now c.put_down-in-Err-Memory.new.machines (Get c.args.acceptable c.args.key.now)) (sym asked)
+    (got_short c.args.machines.now mid c.requires.settled c.in-Some.on.place l c.in-Some.on.far t joins counts c.get_on.new.field c.get_on.new.initiator c.get_on.new.far c.get_on.new.client.llc c.args.acceptable c.args.key.now c.requires.may c.put_down-in-Err-Memory.new.machines left c.in-Err-Memory.field-0 c.in-Err-Memory.field-0-is c.in-Err-Memory.ensures.err c.in-Err-Memory.ensures.fails)
 
 pub unreachable-requires : goal.unreachable-requires
 unreachable-requires c =

@@ -7,7 +7,7 @@ use Rattle.bench_world.specs.declared.entry.Answer.TheVariants as answers
 use Rattle.bench_world.specs.Legal.{Joins}
 use Rattle.bench_world.specs.Links.{OpenLink}
 use Rattle.bench_world.specs.LinkTaken.{TakesLink, put_back, put_down}
-use Rattle.bench_world.specs.Obeying.{Machines, IsCutOff, ObeyedBy, under}
+use Rattle.bench_world.specs.Obeying.{Machines, IsCutOffBy, ObeyedBy, under}
 use Rattle.bench_world.specs.Peers.{Peers}
 use Rattle.snep_core.specs.Accord.{AsideFails}
 use Rattle.bench_script.specs.declared.command.Command.TheVariants.{Lookup}
@@ -62,7 +62,8 @@ returns-in-Err-Memory-clause-cut c =
     let asked : c.args.joins ≡ joins = search rules in
     let counts : c.in-Some.on.far.numbers ≡ joins.far = search rules in
     let left : c.put_down-in-Err-Memory.new.machines ≡ put_down (under mid.ends mid.peers mid.link c.lookup_on.new.field) c.in-Some.on.place c.lookup_on.new.far.end = search rules in
-    looked_short c.args.machines.now mid c.requires.settled c.in-Some.on.place l c.in-Some.on.far t joins counts c.lookup_on.new.field c.lookup_on.new.initiator c.lookup_on.new.far c.lookup_on.new.client.llc c.args.name.now c.requires.may c.put_down-in-Err-Memory.new.machines left c.in-Err-Memory.field-0 c.in-Err-Memory.field-0-is c.in-Err-Memory.ensures.err c.in-Err-Memory.ensures.fails
+    subst (λ x. IsCutOffBy x c.args.machines.now c.put_down-in-Err-Memory.new.machines (Lookup c.args.name.now)) (sym asked)
+    (looked_short c.args.machines.now mid c.requires.settled c.in-Some.on.place l c.in-Some.on.far t joins counts c.lookup_on.new.field c.lookup_on.new.initiator c.lookup_on.new.far c.lookup_on.new.client.llc c.args.name.now c.requires.may c.put_down-in-Err-Memory.new.machines left c.in-Err-Memory.field-0 c.in-Err-Memory.field-0-is c.in-Err-Memory.ensures.err c.in-Err-Memory.ensures.fails)
 
 pub unreachable-requires-in-Err-BadPeer : goal.unreachable-requires-in-Err-BadPeer
 unreachable-requires-in-Err-BadPeer c =

@@ -3,7 +3,7 @@ use Rattle.bench_script.specs.declared.command.Command.TheVariants.{Link}
 use Rattle.bench_world.specs.declared.bench.ObeyFault.{ObeyFault}
 use Rattle.bench_world.specs.declared.bench.ObeyFault.TheVariants as faults
 use Rattle.bench_world.specs.declared.entry.Answer.{Answer}
-use Rattle.bench_world.specs.Legal.{CutFront}
+use Rattle.bench_world.specs.Legal.{CutFront, no_joins}
 use Rattle.bench_world.specs.Obeying.{Machines, Obeyed, link_ended, state_at}
 use Rattle.bench_world.proofs.Outcomes.{if_ok}
 use Rattle.bench_world.proofs.Unlinking.{link_resets, behind_ended, front_ended, count_ended}
@@ -34,5 +34,5 @@ returns-clause-cut c = λ e.
     let old : Machines = c.args.machines.now in
     let new : Machines = c.select_and_open.new.machines in
     inr (inl (front_ended (Link c.args.id.now c.args.miu c.args.rw) (link_resets c.args.id.now c.args.miu c.args.rw) old c.requires new
-    (subst (λ m. CutFront (state_at m) (Link c.args.id.now c.args.miu c.args.rw) new.air.trace (state_at new)) c.end_link.ensures
+    (subst (λ m. CutFront no_joins (state_at m) (Link c.args.id.now c.args.miu c.args.rw) new.air.trace (state_at new)) c.end_link.ensures
     (of_err c.select_and_open.result e c.select_and_open.ensures.cut))))

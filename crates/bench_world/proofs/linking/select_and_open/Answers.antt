@@ -8,7 +8,7 @@ use Rattle.bench_devices.specs.Phases.{Selects, SelectsAt, SelectsTo, SelectionC
 use Rattle.bench_devices.specs.Device.{is_tag}
 use Rattle.bench_world.specs.declared.entry.Answer.TheVariants as answers
 use Rattle.bench_world.specs.Answering.{poll_answer}
-use Rattle.bench_world.specs.Legal.{MayLink, CutFront}
+use Rattle.bench_world.specs.Legal.{MayLink, CutFront, no_joins}
 use Rattle.bench_world.specs.Obeying.{Machines, IsSettled, Obeyed, state_at}
 use Rattle.bench_world.specs.contracts.machines.Machines.{the_view}
 use Rattle.bench_world.proofs.Legality.{missed_part}
@@ -24,7 +24,7 @@ returns-in_default-clause-cut c =
     let old : Machines = the_view c.machines.inside in
     let settled : IsSettled old = subst IsSettled (sym c.machines.view_is) c.requires.settled in
     let unlinked : old.link ≡ None = ap (λ (m : Machines). m.link) c.machines.view_is ∙ c.requires.unlinked in
-    let C : Machines → Type 0 = λ m. CutFront (state_at m) (Link c.args.id.now c.args.miu c.args.rw) c.select.new.field.trace (state_at (upon old c.select.new.field)) in
+    let C : Machines → Type 0 = λ m. CutFront no_joins (state_at m) (Link c.args.id.now c.args.miu c.args.rw) c.select.new.field.trace (state_at (upon old c.select.new.field)) in
     let part : SelectionCut (A c.args.id.now) (moment old.air) (moment c.select.new.field) = subst (λ i. SelectionCut (A i) (moment old.air) (moment c.select.new.field)) c.copy.ensures c.in_default.ensures.cut in
     subst C c.machines.view_is (here_cut old settled unlinked c.args.id.now c.args.miu c.args.rw may c.select.new.field part)
 
@@ -47,7 +47,7 @@ returns-in-Missed-clause-cut c =
     let unlinked : old.link ≡ None = ap (λ (m : Machines). m.link) c.machines.view_is ∙ c.requires.unlinked in
     let S : Selection → Type 0 = λ s. SelectsTo (A c.copy.result) s (moment old.air) (moment c.select.new.field) in
     let s : Selects (A c.args.id.now) (Err c.in-Missed.fault) (moment old.air) (moment c.select.new.field) = subst (λ i. Selects (A i) (Err c.in-Missed.fault) (moment old.air) (moment c.select.new.field)) c.copy.ensures (subst S c.in-Missed.is c.in-Ok.ensures.ok) in
-    let C : Machines → Type 0 = λ m. CutFront (state_at m) (Link c.args.id.now c.args.miu c.args.rw) c.select.new.field.trace (state_at (upon old c.select.new.field)) in
+    let C : Machines → Type 0 = λ m. CutFront no_joins (state_at m) (Link c.args.id.now c.args.miu c.args.rw) c.select.new.field.trace (state_at (upon old c.select.new.field)) in
     on_err c.not_found.result (subst C c.machines.view_is (here_cut old settled unlinked c.args.id.now c.args.miu c.args.rw may c.select.new.field (missed_part (moment old.air) (moment c.select.new.field) (A c.args.id.now) c.in-Missed.fault s)))
 
 pub returns-then-is_tag-clause-ok : goal.returns-then-is_tag-clause-ok
@@ -96,7 +96,7 @@ returns-clause-cut c =
     let s : SelectsAt (A c.args.id.now) c.in-Place.place (moment old.air) (moment c.select.new.field) = subst (λ i. SelectsAt (A i) c.in-Place.place (moment old.air) (moment c.select.new.field)) c.copy.ensures (subst S c.in-Place.is c.in-Ok.ensures.ok) in
     let found = looked_at c.select.new.field c.in-Place.place s.device s.stands c.devices.result.now c.index-devices-place.result c.devices.ensures c.index-devices-place.is in
     let peer : is_tag s.device ≡ false = sym (ap is_tag found) ∙ sym c.is_tag.ensures ∙ c.if-is_tag.false in
-    subst (λ m. OnErr c.open.result (CutFront (state_at m) (Link c.args.id.now c.args.miu c.args.rw) c.open.new.self.air.trace (state_at c.open.new.self))) c.machines.view_is (here_opened old settled unlinked c.args.id.now c.args.miu c.args.rw may c.select.new.field c.in-Place.place s peer c.open.result c.open.new.self c.open.ensures).1
+    subst (λ m. OnErr c.open.result (CutFront no_joins (state_at m) (Link c.args.id.now c.args.miu c.args.rw) c.open.new.self.air.trace (state_at c.open.new.self))) c.machines.view_is (here_opened old settled unlinked c.args.id.now c.args.miu c.args.rw may c.select.new.field c.in-Place.place s peer c.open.result c.open.new.self c.open.ensures).1
 
 pub returns-clause-memory : goal.returns-clause-memory
 returns-clause-memory c =

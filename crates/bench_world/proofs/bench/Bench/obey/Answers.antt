@@ -2,7 +2,7 @@ use Rattle.std.proofs.Common.{◌≡◌, ◌++◌, ◌∷◌, [], List, rules, r
 use Rattle.bench_world.specs.declared.entry.Entry.{Entry}
 use Rattle.bench_world.specs.Obeying.{Obeys, IsSettled, joins_for}
 use Rattle.bench_world.proofs.Legality.{untouched}
-use Rattle.bench_world.proofs.Benches.{seen, both_ways, spoils, adds_entry, settled_untraced}
+use Rattle.bench_world.proofs.Benches.{cut_most, seen, both_ways, spoils, adds_entry, settled_untraced}
 use Rattle.bench_world.proofs.bench.Bench.obey.Goals as goal
 
 pub returns-in_default-copy : goal.returns-in_default-copy
@@ -56,7 +56,7 @@ returns c =
       refused = λ e. absurd cc;
       cause = λ e. absurd cc;
       memory = λ e. spoils c.args.self.now c.self.inside.machines c.run_command.new.machines js c.reserve.new.self.items c.args.command.now (is ∙ ap (seen js c.self.inside.machines) c.if-self.false) c.reserve.ensures.items
-          (c.in-Err-Memory.ensures.cut (ap Err c.in-Err-Memory.field-0-is));
+          (cut_most c.self.inside.machines c.run_command.new.machines c.args.command.now c.most-joins.result c.most-joins.ensures (c.in-Err-Memory.ensures.cut (ap Err c.in-Err-Memory.field-0-is)));
       spoiled = λ e. refl;
     }
 
