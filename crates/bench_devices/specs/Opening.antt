@@ -1,5 +1,5 @@
--- Opening a link to a peer of the bench that is selected: which request is due, and what is there once it ended (NFCIP-1, ISO/IEC 18092;
--- NFC Forum Digital Protocol).
+-- Opening a link to a peer of the bench that is selected: which request is due, and what is there once it ended
+-- (NFCIP-1, ISO/IEC 18092; NFC Forum Digital Protocol).
 use Rattle.std.specs.Prelude.{◌≡◌, ◌↔◌, ℕ, ◌<◌, List, [], ◌∷◌, true, false, Result, Ok, Err}
 use Rattle.std.specs.Result.{IfOk}
 use Rattle.nfc_base.specs.LinkTurns.{bad_receptions}
@@ -42,8 +42,8 @@ then_opens general (Told (Err e) ns) = Over
 abbrev pub linking : DeviceId → List ℕ → List Note → Next
 linking id general ns = then_opens general (selecting id ns)
 
--- A link is open to the peer that stood at a place, which was made as a peer may be: its initiator cuts to this peer's LR code, and was
--- told its general bytes. Both ends are in step, and all that stays of the peer is as it was.
+-- A link is open to the peer that stood at a place, which was made as a peer may be: its initiator cuts to this peer's
+-- LR code, and was told its general bytes. Both ends are in step, and all that stays of the peer is as it was.
 pub record Opened (new : Air Device) (place : ℕ) (d : Device) (i : InitState) (told : List ℕ) : Type 0 where
   pub made : IsMadePeer (device_id d) (device_target d)
   pub initiator : i ≡ waiting (device_target d).lr
@@ -59,9 +59,9 @@ OpeningEnds new place d (Err SixBad) = new.lit ≡ true
 OpeningEnds new place d (Err Protocol) = ⊥
 OpeningEnds new place d (Err Memory) = new.lit ≡ true
 
--- So it was asked of the peer at a place, up to some end: each request was due, and this is told by what was heard. The field is lost
--- exactly where a Break was used, and a reception was bad only where a transmission didn't pass. The far end was restarted with these general bytes as often as ATR_REQ arrived, once at least where
--- the link is open.
+-- So it was asked of the peer at a place, up to some end: each request was due, and this is told by what was heard. The
+-- field is lost exactly where a Break was used, and a reception was bad only where a transmission didn't pass. The far
+-- end was restarted with these general bytes as often as ATR_REQ arrived, once at least where the link is open.
 pub record Opens {F : Type 0} (restarts : F → List ℕ → F → Type 0) (steps : F → List ℕ → List ℕ → F → Type 0) (old : Air Device) (far : F) (new : Air Device) (after : F)
     (general : List ℕ) (place : ℕ) (d : Device) (result : Result (InitState × ArrayVec ℕ) EndCause) : Type 0 where
   pub notes : List Note
