@@ -59,9 +59,9 @@ OpeningEnds new place d (Err SixBad) = new.lit ≡ true
 OpeningEnds new place d (Err Protocol) = ⊥
 OpeningEnds new place d (Err Memory) = new.lit ≡ true
 
--- So it was asked of the peer at a place, up to some end: each request was due, and this is told by what was heard. The field is lost
--- exactly where a Break was used, and a reception was bad only where a transmission didn't pass. The far end was restarted with these general bytes as often as ATR_REQ arrived, once at least where
--- the link is open.
+-- So it was asked of the peer at a place, up to some end: each request was due, and this is told by what was heard. The
+-- field is lost exactly where a Break was used, and a reception was bad only where a transmission didn't pass. The far
+-- end was restarted with these general bytes as often as ATR_REQ arrived, once at least where the link is open.
 pub record Opens {F : Type 0} (restarts : F → List ℕ → F → Type 0) (steps : F → List ℕ → List ℕ → F → Type 0) (old : Air Device) (far : F) (new : Air Device) (after : F)
     (general : List ℕ) (place : ℕ) (d : Device) (result : Result (InitState × ArrayVec ℕ) EndCause) : Type 0 where
   pub notes : List Note
