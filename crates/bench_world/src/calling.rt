@@ -1,5 +1,5 @@
-//! The commands on the open link: its client puts a message to the server of the link's peer, gets a value of it, or asks
-//! where a service is; and the link is closed. Each takes how many PDUs stand in the payloads of both ends.
+//! The commands on the open link: its client puts a message to the server of the link's peer, gets a value of it, or
+//! asks where a service is; and the link is closed. Each takes how many PDUs stand in the payloads of both ends.
 
 ghost use Rattle.std.specs.Prelude.{false, ◌≡◌, ◌↔◌, ◌≤◌, IsTrue, ◌<◌, ◌⊎◌, length, None, IfOk, IfSome, OnErr, IsErrOf, MatchOption};
 ghost use Rattle.std.specs.Char.{is_ascii_graphic};
@@ -105,7 +105,8 @@ fn put_back(machines: &mut Machines, on: OnLink)
     });
 }
 
-/// Puts the peer's end back: the link is over, and its range goes to the present end of what the peer's server accepted.
+/// Puts the peer's end back: the link is over, and its range goes to the present end of what the peer's server
+/// accepted.
 fn put_down(machines: &mut Machines, on: OnLink)
     requires { on.place < length machines.old.ends }
     ensures { machines.new ≡ put_down machines.old on.place on.far.end }
