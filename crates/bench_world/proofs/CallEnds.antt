@@ -34,7 +34,8 @@ use Rattle.bench_world.specs.Obeying.{Machines, IsSettled, ObeyedBy, state_at, u
 use Rattle.bench_world.specs.Opened.{IsOpen}
 use Rattle.bench_world.specs.Peers.{Peers}
 use Rattle.bench_world.proofs.CallCalm.{added_calm, made_calm}
-use Rattle.bench_world.proofs.OnLink.{Ends as FarEnds, end_is, leaves, linked_in, own, opened, set_there, stands, trace_is}
+use Rattle.bench_world.proofs.OnLink.{Ends as FarEnds, end_is, leaves, linked_in, own, opened, stands, trace_is}
+use Rattle.bench_world.proofs.Restarted.{set_there}
 use Rattle.bench_world.proofs.OnCall.{IsCall, Law, broke, came, end, events, from_state, gone_then, halted, next, open_then, place, plain, same, short}
 
 module _ (air : Air Device) (ends : FarEnds) (peers : Peers) (l : OpenLink) (settled : IsSettled (under ends peers (Some l) air)) where

@@ -34,18 +34,13 @@ use Rattle.bench_world.specs.Stories.{Story, Stretch, begun_in, first_of, story_
 use Rattle.bench_world.proofs.AtNumbers.{AreHeld, Held, held, held_at, at_number, held_offered, held_under, at_own_place, more_held, same_held, with_held}
 use Rattle.bench_world.proofs.FarStays.{far_stay}
 use Rattle.bench_world.proofs.HeldOn.{nothing_sent}
-use Rattle.bench_world.proofs.PayloadsKept.{steps_kept}
+use Rattle.bench_world.proofs.PayloadsKept.{steps_kept, unless_numbers}
 use Rattle.bench_world.proofs.PeersNumbered.{HavePlaces, busy_kind, locked_kind, number_under, places_changed, places_more, places_stay}
 use Rattle.bench_world.proofs.StoriesHere.{PlacesOf, Stand, StandBy, ended_closed, open_stands, view_at, view_of}
 use Rattle.bench_world.proofs.StoriesOnLink.{call_over, came_to_end, link_begins, linked_number, linked_peer, put_over, same_opened}
 use Rattle.bench_world.proofs.StoriesStand.{View, at, Closed, Opened, Open, IsInStep, closed_keep, closed_told, open_keep, open_told}
 use Rattle.bench_world.proofs.StoriesStep.{as_many_held, as_many_offered, as_many_with, base_held, many_numbers, no_link, own_below, peer_more, peer_stands, removed_stands, same_link, same_peer, same_tag, tag_more, tag_stands}
 use Rattle.bench_world.proofs.Unlinking.{count_ended, same_numbers}
-
-ended_numbers : (left o : Option OpenLink) (fars : List (Option FarEnd)) (p : Peers) → (ended_unless left o fars p).numbers ≡ p.numbers
-ended_numbers None None fars p = refl
-ended_numbers None (Some l) fars p = refl
-ended_numbers (Some l) o fars p = refl
 
 abbrev view_by : Peers → List (Option Held) → View
 view_by p ks = record { numbers = p.numbers; placed = next_number p; links = p.links; held = ks }
@@ -170,7 +165,7 @@ module _ (w : WholeWorld) (q : List Fate) (p : Peers) (ys : List Story) (l : Ope
       let u : State = record { world = now; queue = queue; peers = ended_unless left (Some l) now.fars p; link = left } in
       let opened : Open (view_at p now.fars) l.peer ys = same_opened p w.fars now.fars l.peer ys same stand.stand in
       let own : at (view_of t) l.peer ≡ at (view_of on) l.peer =
-      ap (λ v. at (view_of v) l.peer) is ∙ ap (λ ns. at_number l.peer ns (map held now.fars)) (ended_numbers left (Some l) now.fars p)
+      ap (λ v. at (view_of v) l.peer) is ∙ ap (λ ns. at_number l.peer ns (map held now.fars)) (unless_numbers left (Some l) now.fars p)
       ∙ ap (at_number l.peer p.numbers) same in
       let zs : List Story = last_goes_on (goes_on on x t) ys in
       let came : Open (view_at p now.fars) l.peer zs = open_stands on t x ys (view_at p now.fars) l.peer opened puts own in
@@ -199,7 +194,7 @@ module _ (w : WholeWorld) (q : List Fate) (p : Peers) (ys : List Story) (l : Ope
       sym (length-map now.fars held) ∙ ap length accepted ∙ as_many_with law.more l.peer p.numbers (map held w.fars) both.0 ∙ length-map w.fars held in
       let places : HavePlaces now.field.listeners p.numbers now.fars = places_behind w q p ys (Some l) stand g a c es p.numbers refl many refl in
       let P : List (Option Held) → Type 0 = λ ks. (z : Opened (view_by p ks) l.peer zs) × (((loss : Loss) → a ≡ answers.LinkEnded loss → ⊥) → IsInStep z.now.story) in
-      let z : P (map held now.fars) = subst P (sym accepted) (put_over on t l ys stand.stand m es a law.more law.adds (ended_numbers left (Some l) now.fars p) accepted) in
+      let z : P (map held now.fars) = subst P (sym accepted) (put_over on t l ys stand.stand m es a law.more law.adds (unless_numbers left (Some l) now.fars p) accepted) in
       subst (Stand t) (sym (append-nil zs))
       (call_over now queue p l zs z.0 left places (λ k e. let ends = came_to_end l.peer stands a k law.told.tells e in (ends.0, z.1 ends.1)))
 

@@ -42,7 +42,7 @@ use Rattle.dep_link.specs.AnyTarget.{AnswersAtr, atr_next, told_initiator}
 use Rattle.llcp_link.specs.Answering.{Answers}
 use Rattle.far_air.specs.FarEnds.{by_link, rests}
 use Rattle.far_air.specs.FarWorld.{with_numbers}
-use Rattle.far_air.specs.FarLaws.{seen, shown, with_far}
+use Rattle.far_air.specs.FarLaws.{seen, shown}
 use Rattle.far_air.specs.FarTurns.{FarGoing}
 use Rattle.far_air.specs.Quietly.{NoneHands}
 use Rattle.far_air.proofs.Quietly.{unlinked_stay}

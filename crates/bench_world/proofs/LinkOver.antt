@@ -1,6 +1,6 @@
 -- The open link was taken out of the machines for a command, with its peer's end, and put back: what becomes of the command then, by what
 -- its call on the field says.
-use Rattle.std.proofs.Common.{◌≡◌, ℕ, zero, suc, List, [], ◌∷◌, Option, Some, None, refl, sym, ◌∙◌, ap, subst}
+use Rattle.std.proofs.Common.{◌≡◌, ℕ, zero, suc, [], ◌∷◌, Option, Some, None, refl, sym, ◌∙◌, ap, subst}
 use Rattle.std.specs.Prelude.{get_or, slice_set}
 use Rattle.nfc_base.specs.Choosing.{Choosing}
 use Rattle.air_core.specs.Turn.{Air}
@@ -15,7 +15,8 @@ use Rattle.bench_world.specs.Legal.{Joins}
 use Rattle.bench_world.specs.Links.{OpenLink, accepted_by, with_last_ended}
 use Rattle.bench_world.specs.LinkTaken.{TakesLink, put_back, put_down}
 use Rattle.bench_world.specs.Obeying.{Machines, IsCutOffBy, IsSettled, ObeyedBy, under}
-use Rattle.bench_world.proofs.OnLink.{Ends as FarEnds, one_place, opened, set_there}
+use Rattle.bench_world.proofs.OnLink.{Ends as FarEnds, one_place, opened}
+use Rattle.bench_world.proofs.Restarted.{set_there}
 
 set_twice : (os : FarEnds) (n : ℕ) (x y : Option FarEnd) → slice_set (slice_set os n x) n y ≡ slice_set os n y
 set_twice [] n x y = refl

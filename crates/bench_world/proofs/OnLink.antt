@@ -9,7 +9,7 @@ use Rattle.dep_link.specs.Asking.{HasPeer}
 use Rattle.dep_link.specs.Initiator.{InitState}
 use Rattle.far_air.specs.FarEnds.{first_far, later_fars, rests, by_link}
 use Rattle.far_air.specs.FarWorld.{with_numbers}
-use Rattle.far_air.specs.FarLaws.{seen, seen_at, seen_with, shown, with_far}
+use Rattle.far_air.specs.FarLaws.{seen, seen_at, seen_with, shown}
 use Rattle.far_air.specs.FarTurns.{FarGoing}
 use Rattle.far_air.proofs.Showing.{rests_shown}
 use Rattle.peer_air.specs.PeerFars.{peer_ends}
@@ -37,27 +37,12 @@ use Rattle.bench_world.specs.Opened.{AreServed, IsFirstWith, IsOpen, IsServed}
 use Rattle.bench_world.specs.Peers.{Peers}
 use Rattle.bench_world.proofs.CallNotes.{IsPlainNext}
 use Rattle.bench_world.proofs.Fronts.{ends_table}
+use Rattle.bench_world.proofs.Restarted.{far_there, far_set, set_there}
 use Rattle.bench_world.proofs.TalkFar.{due_talk, talk_leaves}
 
 -- the far ends above a field, one place a device
 abbrev pub Ends : Type 0
 Ends = List (Option FarEnd)
-
--- One far end among others is another one.
-pub same_far : (os : Ends) (place : ℕ) (end : FarEnd) → get_or os place None ≡ Some end → with_far os place end ≡ os
-same_far [] place end e = absurd cc
-same_far (o ∷ os) zero end e = ap (λ x. x ∷ os) (sym e)
-same_far (o ∷ os) (suc place) end e = ap (λ xs. o ∷ xs) (same_far os place end e)
-
-pub set_far : (os : Ends) (place : ℕ) (end after : FarEnd) → get_or os place None ≡ Some end → with_far os place after ≡ slice_set os place (Some after)
-set_far [] place end after e = absurd cc
-set_far (o ∷ os) zero end after e = refl
-set_far (o ∷ os) (suc place) end after e = ap (λ xs. o ∷ xs) (set_far os place end after e)
-
-pub set_there : (os : Ends) (place : ℕ) (end after : FarEnd) → get_or os place None ≡ Some end → get_or (slice_set os place (Some after)) place None ≡ Some after
-set_there [] place end after e = absurd cc
-set_there (o ∷ os) zero end after e = refl
-set_there (o ∷ os) (suc place) end after e = set_there os place end after e
 
 pub set_long : (os : Ends) (place : ℕ) (end after : FarEnd) → get_or os place None ≡ Some end → length (slice_set os place (Some after)) ≡ length os
 set_long [] place end after e = absurd cc
@@ -312,7 +297,7 @@ module _ (air : Air Device) (ends : Ends) (peers : Peers) (l : OpenLink) (settle
         let A : Ends → Type 0 = λ os. Going bench_air next (seen_at device_linked peer_ends (moment air) os numbers) (seen_at device_linked peer_ends (moment b) now after.numbers) notes in
         let B : Ends → Type 0 = λ os. Going bench_air next (seen_with device_linked peer_ends (moment air) ends opened.place (record { end = opened.end; numbers = numbers }))
         (seen_at device_linked peer_ends (moment b) os after.numbers) notes in
-        subst A (same_far ends opened.place opened.end opened.above) (subst B (set_far ends opened.place opened.end after.end opened.above) g)
+        subst A (far_there ends opened.place opened.end opened.above) (subst B (far_set ends opened.place opened.end after.end opened.above) g)
 
     pub trace_is : b.trace ≡ going.events
     trace_is = ap (λ (m : Moment WholeWorld). m.trace) going.moment ∙ ap (λ t. t ++ going.events) settled.idle.quiet

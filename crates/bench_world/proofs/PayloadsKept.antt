@@ -119,7 +119,7 @@ opened_first (Some p) (Some d) miu window l e = (let same = option_same _ l e in
 opened_first (Some p) None miu window l e = absurd cc
 opened_first None d miu window l e = absurd cc
 
-unless_numbers : (o b : Option OpenLink) (fars : Ends) (p : Peers) → (ended_unless o b fars p).numbers ≡ p.numbers
+pub unless_numbers : (o b : Option OpenLink) (fars : Ends) (p : Peers) → (ended_unless o b fars p).numbers ≡ p.numbers
 unless_numbers None b fars p = same_numbers b p fars
 unless_numbers (Some l) b fars p = refl
 

@@ -1,9 +1,9 @@
 -- How the stories of links stand beside the ranges that a bench keeps of them, and how that goes on as peers come and go, messages are accepted,
 -- and links begin and end.
-use Rattle.std.proofs.Common.{◌≡◌, ◌⊎◌, inl, inr, ℕ, suc, ◌+◌, ◌<◌, ◌≤◌, List, [], ◌∷◌, ◌++◌, map, length, ltb, Bool, true, false, nat_eq, if◌then◌else◌, Option, Some, None, refl, sym, ◌∙◌, ap, subst, arith}
+use Rattle.std.proofs.Common.{◌≡◌, ◌⊎◌, inl, inr, ℕ, suc, ◌+◌, ◌<◌, ◌≤◌, List, [], ◌∷◌, ◌++◌, map, length, Bool, true, false, nat_eq, if◌then◌else◌, Option, Some, None, refl, sym, ◌∙◌, ap, subst, arith}
 use Rattle.std.specs.Prelude.{not}
 use Rattle.std.specs.List.{AllByRecursion}
-use Rattle.std.proofs.lemmas.Bool.{eq-eqb, eqb-true, ltb-true, ltb-false}
+use Rattle.std.proofs.lemmas.Bool.{eq-eqb, eqb-true, cases_lt}
 use Rattle.std.proofs.lemmas.List.{append-nil}
 use Rattle.nfc_base.specs.declared.event.Event.{Event}
 use Rattle.snep_core.specs.Payloads.{accepted_from}
@@ -131,10 +131,6 @@ as_many : (xs : List Paired) → length (ranges xs) ≡ length (stories xs)
 as_many [] = refl
 as_many (x ∷ xs) = ap suc (as_many xs)
 
-one_longer : {X : Type 0} (xs : List X) (x : X) → length (xs ++ x ∷ []) ≡ length xs + 1
-one_longer [] x = omega arith
-one_longer (y ∷ xs) x = let more = one_longer xs x in omega (arith, more)
-
 counted_last : (n : ℕ) (xs : List Story) (y z : Story) → z.number ≡ y.number → AreCounted n (xs ++ y ∷ []) → AreCounted n (xs ++ z ∷ [])
 counted_last n [] y z same all = (same ∙ all.0, tt)
 counted_last n (x ∷ xs) y z same all = (all.0, counted_last (n + 1) xs y z same all.1)
@@ -142,13 +138,6 @@ counted_last n (x ∷ xs) y z same all = (all.0, counted_last (n + 1) xs y z sam
 counted_more : (n : ℕ) (xs : List Story) (y : Story) → y.number ≡ n + length xs → AreCounted n xs → AreCounted n (xs ++ y ∷ [])
 counted_more n [] y is all = (omega (arith, is), tt)
 counted_more n (x ∷ xs) y is all = (all.0, counted_more (n + 1) xs y (omega (arith, is)) all.1)
-
-less_or_not : (m n : ℕ) → (m < n) ⊎ (n ≤ m)
-less_or_not m n = by (ltb m n) refl
-  where
-    by : (v : Bool) → ltb m n ≡ v → (m < n) ⊎ (n ≤ m)
-    by true e = inl (ltb-true m n e)
-    by false e = inr (ltb-false m n e)
 
 -- a story keeps the law while it is in step
 pub in_step_keeps : (y : Story) → IsInStep y → KeepsLinkLaw y
@@ -343,7 +332,7 @@ module _ (v : View) (n : ℕ) (ys : List Story) (o : Opened v n ys) (more : List
           let same : n ≡ p = eqb-true n p e in
           let found : at after p ≡ Some grown = ap (at after) (sym same) ∙ found_after in
           subst (IfHeld (λ k. (m : ℕ) → m < length k.accepted → came_on_link v.links p m ≡ true)) (sym found)
-          (λ m within. by_length same (o.base.covered p) m (less_or_not m (length there.accepted)))
+          (λ m within. by_length same (o.base.covered p) m (cases_lt m (length there.accepted)))
       by false e = subst (IfHeld (λ k. (m : ℕ) → m < length k.accepted → came_on_link v.links p m ≡ true)) (sym (at_other more n p e v.numbers v.held)) (o.base.covered p)
 
   -- so the story of the open link goes on

@@ -77,23 +77,23 @@ written_by (Err writing.Protocol) = None
 abbrev pub MayEndWrite : WriteEnd → Type 0
 MayEndWrite r = IsSome (written_by r) ⊎ (r ≡ Err writing.Memory)
 
--- What a command answers once its tag is selected, where a wait of it ended by a fault: the field was lost in it, or it had six bad
--- receptions.
+-- What a command answers once its tag is selected, where a wait of it ended by a fault: the field was lost in it, or it
+-- had six bad receptions.
 abbrev pub TellsFault : AskFault → Answer → Type 0
 TellsFault asking.FieldLost answer = answer ≡ answers.FieldLost
 TellsFault asking.SixBad answer = answer ≡ answers.SixBad
 TellsFault asking.Memory answer = ⊥
 TellsFault asking.Protocol answer = ⊥
 
--- What a command answers that selects a tag, by how that ended and what was heard behind it. Where all that is asked of the tag
--- was answered, the answer tells of the device.
+-- What a command answers that selects a tag, by how that ended and what was heard behind it. Where all that is asked of
+-- the tag was answered, the answer tells of the device.
 abbrev pub TagEnds : (Device → Answer → Type 0) → DeviceId → List Device → List Signal → Result SeenKind PollFault → List Note → Answer → Type 0
 TagEnds Tells id ds asked (Ok kind) behind answer =
     TellsBy kind (λ a. OfPlaced (λ d. Tells d a) (device_with (bytes_of id) ds)) TellsFault asked behind answer
 TagEnds Tells id ds asked (Err e) behind answer = poll_answer e ≡ Some answer
 
--- The law of a command of a tag, over the devices that are placed: first it selects, then it asks what it asks of the tag. The
--- field is lost exactly where a Break was used, and without noise no wait has six bad receptions.
+-- The law of a command of a tag, over the devices that are placed: first it selects, then it asks what it asks of the
+-- tag. The field is lost exactly where a Break was used, and without noise no wait has six bad receptions.
 pub record TagTells (Tells : Device → Answer → Type 0) (id : DeviceId) (ds : List Device) (asked : List Signal) (events : List Event) (answer : Answer) : Type 0 where
   pub polled : Result SeenKind PollFault
   pub behind : List Note

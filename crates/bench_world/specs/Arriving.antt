@@ -1,5 +1,5 @@
--- What arrives at the peer of the open link in a command on it, and how a link begins at its peer (NFCIP-1, ISO/IEC 18092; NFC Forum LLCP 1.3
--- and SNEP 1.0).
+-- What arrives at the peer of the open link in a command on it, and how a link begins at its peer (NFCIP-1, ISO/IEC
+-- 18092; NFC Forum LLCP 1.3 and SNEP 1.0).
 use Rattle.std.specs.Prelude.{◌≡◌, ℕ, List, Option, Some}
 use Rattle.nfc_base.specs.declared.event.Event.{Event}
 use Rattle.llcp_link.specs.State.{restarted}
@@ -9,9 +9,9 @@ use Rattle.bench_world.specs.Calls.{IfLinked, OfEnd}
 use Rattle.bench_world.specs.Links.{OpenLink, end_numbered}
 use Rattle.bench_world.specs.World.{FarEnd}
 
--- From these far ends to those, by the numbers of peers, the frames of some events brought payloads to a link's peer, counted from the initiator's
--- number: its end took just these, and what its server accepted then it has accepted. Where the link is open still, the end stands so, and the
--- frames are counted to the initiator's number.
+-- From these far ends to those, by the numbers of peers, the frames of some events brought payloads to a link's peer,
+-- counted from the initiator's number: its end took just these, and what its server accepted then it has accepted.
+-- Where the link is open still, the end stands so, and the frames are counted to the initiator's number.
 pub record ArrivesAt (l : OpenLink) (numbers : List (Option ℕ)) (before behind : List (Option FarEnd)) (events : List Event) (now : Option OpenLink) : Type 0 where
   pub old : FarEnd
   pub stood : end_numbered l.peer numbers before ≡ Some old

@@ -27,7 +27,8 @@ Touches id c = ⊥
 abbrev pub LeaveAlone : DeviceId → List Entry → Type 0
 LeaveAlone id es = AllByRecursion (λ e. Touches id e.command → ⊥) es
 
--- A tag is placed; a write of it has an answer, then come entries that leave it alone, and then a read of it that tells a message.
+-- A tag is placed; a write of it has an answer, then come entries that leave it alone, and then a read of it that tells
+-- a message.
 pub record WritesThenReads (id : DeviceId) (tag : Device) (m : Msg) (answer : Answer) (message : List ℕ) : Type 0 where
   pub before : State
   pub written : State

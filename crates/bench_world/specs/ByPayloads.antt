@@ -1,4 +1,5 @@
--- What a peer's server accepts on a link, by what arrived there while the link was open (NFCIP-1, ISO/IEC 18092; NFC Forum LLCP 1.3 and SNEP 1.0).
+-- What a peer's server accepts on a link, by what arrived there while the link was open (NFCIP-1, ISO/IEC 18092; NFC
+-- Forum LLCP 1.3 and SNEP 1.0).
 use Rattle.std.specs.Prelude.{◌≡◌, ℕ, ◌<◌, List, ◌∷◌, ◌++◌, None}
 use Rattle.dep_link.specs.DepLinks.{brought}
 use Rattle.llcp_link.specs.Running.{Acted, Takes, end_of, marks_of}
@@ -23,10 +24,10 @@ pub record AcceptsUntil (y : Story) (p : Place y.begun) : Type 0 where
       → AcceptsPuts c y.begun.service.limit y.begun.miu (marks_there c y.begun p) y.begun.service.accepted (end_there y.begun p).service.accepted
   pub front : IsFront (end_there y.begun p).service.accepted (y.begun.service.accepted ++ y.gained)
 
--- The peer's end began the link, and then took just the payloads that arrived, counted from PNI 0; it gave payloads, and values were offered to it.
--- What its server accepted then is what it had, and what its list gained. So of each client's SAP what it gained is what the units of its
--- connections in these payloads put, joined in order; and so it is at each place on the way: messages stand in the order in which the units stand
--- that complete them.
+-- The peer's end began the link, and then took just the payloads that arrived, counted from PNI 0; it gave payloads,
+-- and values were offered to it. What its server accepted then is what it had, and what its list gained. So of each
+-- client's SAP what it gained is what the units of its connections in these payloads put, joined in order; and so it is
+-- at each place on the way: messages stand in the order in which the units stand that complete them.
 pub record IsByPayloads (y : Story) : Type 0 where
   pub old : FarEnd
   pub begins : y.begun ≡ restarted serving old y.general

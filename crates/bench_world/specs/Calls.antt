@@ -1,5 +1,5 @@
--- What is answered to the commands on the open link, by what was heard and by the peer's server (NFC Forum SNEP 1.0, LLCP 1.3; the words of the
--- answers are this project's own).
+-- What is answered to the commands on the open link, by what was heard and by the peer's server (NFC Forum SNEP 1.0,
+-- LLCP 1.3; the words of the answers are this project's own).
 use Rattle.std.specs.Prelude.{◌≡◌, ◌↔◌, ◌⊎◌, ℕ, ◌<◌, ◌≤◌, List, [], ◌∷◌, ◌++◌, length, if◌then◌else◌, Option, Some, None}
 use Rattle.nfc_base.specs.LinkTurns.{bad_receptions}
 use Rattle.nfc_base.specs.Trace.{noise, breaks}
@@ -99,8 +99,8 @@ call_behind None o stands = None
 call_behind (Some answer) None stands = None
 call_behind (Some answer) (Some l) stands = link_behind l.peer (stands l)
 
--- How a command on the link was told: by where it stands. The link ended by a lost field exactly where a Break was used, and without noise no wait
--- has six bad receptions, nor any bad reception.
+-- How a command on the link was told: by where it stands. The link ended by a lost field exactly where a Break was
+-- used, and without noise no wait has six bad receptions, nor any bad reception.
 pub record IsTold (told : Option Answer) (events : List Event) (answer : Answer) : Type 0 where
   pub tells : told ≡ Some answer
   pub lost : (answer ≡ answers.LinkEnded losses.FieldLost) ↔ (0 < breaks events)
@@ -112,8 +112,8 @@ abbrev pub OfEnd : (FarEnd → Type 0) → Option FarEnd → Type 0
 OfEnd Is None = ⊥
 OfEnd Is (Some end) = Is end
 
--- What a put adds to what the server accepted, by its answer: the message, which is within the limit; nothing of one that is longer; at a link
--- that ended it or nothing.
+-- What a put adds to what the server accepted, by its answer: the message, which is within the limit; nothing of one
+-- that is longer; at a link that ended it or nothing.
 abbrev pub PutAdds : List ℕ → FarEnd → Answer → List Received → Type 0
 PutAdds m end answers.Success more = (length m ≤ end.service.limit) × (more ≡ from_client m ∷ [])
 PutAdds m end answers.Reject more = (end.service.limit < length m) × (more ≡ [])
@@ -124,8 +124,8 @@ PutAdds m end _ more = ⊥
 abbrev pub PutAddsAtMost : List ℕ → FarEnd → List Received → Type 0
 PutAddsAtMost m end more = (more ≡ []) ⊎ ((length m ≤ end.service.limit) × (more ≡ from_client m ∷ []))
 
--- What a get tells: of a key within the limit the value that the table has, of at most so many bytes, or why the table refuses it, by the first
--- cause.
+-- What a get tells: of a key within the limit the value that the table has, of at most so many bytes, or why the table
+-- refuses it, by the first cause.
 abbrev pub GetTells : ℕ → List ℕ → FarEnd → Answer → Type 0
 GetTells most key end (answers.Value v) = (length key ≤ end.service.limit) × (value_of key end.service.table ≡ Some v) × (length v ≤ most)
 GetTells most key end answers.Reject = end.service.limit < length key

@@ -1,5 +1,6 @@
--- What a read, a write and a search answer where noise doesn't keep them from it: no Break was used, no wait had six bad receptions, and
--- polling had one round, of a Type 5 tag one try, without noise (rounds, tries and six receptions are this project's own).
+-- What a read, a write and a search answer where noise doesn't keep them from it: no Break was used, no wait had six
+-- bad receptions, and polling had one round, of a Type 5 tag one try, without noise (rounds, tries and six receptions
+-- are this project's own).
 use Rattle.std.specs.Prelude.{◌≡◌, ◌<◌, List, Some, Ok, true}
 use Rattle.nfc_base.specs.Signal.{Signal}
 use Rattle.nfc_base.specs.Trace.{breaks}
@@ -65,8 +66,8 @@ WritesComplete =
     (s t : State) (g : Given) (e : Entry) (id : DeviceId) (m : Msg) (d : Device) → LegalStep s g e t → e.command ≡ Write id m → device_with (bytes_of id) s.world.field.listeners ≡ Some d
     → IsNamed id d → IsUndisturbed id g.asked e.events → TellsWrite (message_of m) d e.answer
 
--- So a message is written where the tag holds one, is free to write, has room for it, takes updates of two bytes, and refuses none of
--- the writes.
+-- So a message is written where the tag holds one, is free to write, has room for it, takes updates of two bytes, and
+-- refuses none of the writes.
 abbrev pub ValidIsWritten : Type 0
 ValidIsWritten =
     (s t : State) (g : Given) (e : Entry) (id : DeviceId) (m : Msg) (d : Device) → LegalStep s g e t → e.command ≡ Write id m → device_with (bytes_of id) s.world.field.listeners ≡ Some d

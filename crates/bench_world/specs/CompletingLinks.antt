@@ -1,6 +1,6 @@
--- What commands of links answer where noise doesn't keep them from it: no Break was used, no wait had six bad receptions, and where a link is
--- opened, polling had one round without noise (why a server refuses, and what a peer tells of a name, is from NFC Forum SNEP 1.0 and LLCP 1.3;
--- rounds and six receptions are this project's own).
+-- What commands of links answer where noise doesn't keep them from it: no Break was used, no wait had six bad
+-- receptions, and where a link is opened, polling had one round without noise (why a server refuses, and what a peer
+-- tells of a name, is from NFC Forum SNEP 1.0 and LLCP 1.3; rounds and six receptions are this project's own).
 use Rattle.std.specs.Prelude.{◌≡◌, ◌↔◌, ℕ, ◌+◌, ◌≤◌, nat_lt, List, [], ◌∷◌, length, true, false, Option, Some, None, Ok, if◌then◌else◌}
 use Rattle.nfc_base.specs.Signal.{Signal}
 use Rattle.nfc_base.specs.Trace.{breaks}
@@ -41,8 +41,8 @@ use Rattle.bench_world.specs.World.{FarEnd}
 abbrev pub put_answer : List ℕ → FarEnd → Answer
 put_answer m end = if nat_lt end.service.limit (length m) then answers.Reject else answers.Success
 
--- What it answers to a get of at most so many bytes, by the first cause to refuse it: the key is longer than the limit; the server has no
--- values; none of this key; or a longer one.
+-- What it answers to a get of at most so many bytes, by the first cause to refuse it: the key is longer than the limit;
+-- the server has no values; none of this key; or a longer one.
 abbrev pub value_answer : ℕ → Option (List ℕ) → Answer
 value_answer most None = answers.NoValue
 value_answer most (Some v) = if nat_lt most (length v) then answers.Excess else answers.Value v
@@ -88,8 +88,8 @@ UnlinksComplete =
     (s t : State) (g : Given) (e : Entry) (l : OpenLink) → LegalStep s g e t → e.command ≡ Unlink → s.link ≡ Some l
     → (e.answer ≡ answers.Unlinked) ↔ IsUndisturbedOn l g.joins.own Unlink e.events
 
--- A command on the open link is valid where its peer has no cause to refuse it: the message or the key is within the limit, and the key has a
--- value, which isn't longer than the client takes. A lookup and a close always are.
+-- A command on the open link is valid where its peer has no cause to refuse it: the message or the key is within the
+-- limit, and the key has a value, which isn't longer than the client takes. A lookup and a close always are.
 abbrev pub IsValid : FarEnd → Command → Type 0
 IsValid end (Put m) = length (message_of m) ≤ end.service.limit
 IsValid end (Get most key) = (length key ≤ end.service.limit) × (value : List ℕ) × (value_of key end.service.table ≡ Some value) × (length value ≤ most)
@@ -110,7 +110,8 @@ ValidIsOk =
     (s t : State) (g : Given) (e : Entry) (l : OpenLink) (end : FarEnd) → LegalStep s g e t → s.link ≡ Some l → end_of s l ≡ Some end → IsValid end e.command
     → IsUndisturbedOn l g.joins.own e.command e.events → IsOk end e.command e.answer
 
--- Nothing kept the opening of a link, by an initiator of this MIU, from its answer. Once a peer is selected, ATR_REQ alone is waited for.
+-- Nothing kept the opening of a link, by an initiator of this MIU, from its answer. Once a peer is selected, ATR_REQ
+-- alone is waited for.
 pub record IsUndisturbedOpening (id : List ℕ) (miu : ℕ) (es : List Event) : Type 0 where
   pub lit : breaks es ≡ 0
   pub round : IsQuietOnce (A id) es
@@ -132,7 +133,8 @@ LinkingsComplete =
     (lines : List (List ℕ)) (numbers : List Joins) (journal : List Entry) (s t : State) (g : Given) (e : Entry) (id : List ℕ) (miu window : ℕ) (d : Device) → LeadsTo lines numbers journal s → LegalStep s g e t
     → OpensPlaced s e id miu window d → IsUndisturbedOpening id miu e.events → e.answer ≡ link_answer (length s.peers.links + 1) d
 
--- Whatever the noise, of a tag alone it's told that it has none, and to a peer alone a link is opened, which has the next number.
+-- Whatever the noise, of a tag alone it's told that it has none, and to a peer alone a link is opened, which has the
+-- next number.
 abbrev pub KindsTold : Type 0
 KindsTold =
     (lines : List (List ℕ)) (numbers : List Joins) (journal : List Entry) (s t : State) (g : Given) (e : Entry) (id : List ℕ) (miu window : ℕ) (d : Device) → LeadsTo lines numbers journal s → LegalStep s g e t

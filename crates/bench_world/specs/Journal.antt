@@ -27,8 +27,8 @@ AreEntriesOf (l ∷ ls) [] = ⊥
 abbrev pub Numbered : ℕ → List (List ℕ) → List Entry → Type 0
 Numbered n lines entries = AreEntriesOf (asking_lines n lines) entries
 
--- The journal is one that these lines may have, by these numbers of PDUs, a list an entry: an entry for each line that asks for
--- something, and each entry legal behind those before it; so it leads to this state.
+-- The journal is one that these lines may have, by these numbers of PDUs, a list an entry: an entry for each line that
+-- asks for something, and each entry legal behind those before it; so it leads to this state.
 pub record LeadsTo (lines : List (List ℕ)) (numbers : List Joins) (journal : List Entry) (last : State) : Type 0 where
   pub given : List Given
   pub joins : map (λ (g : Given). g.joins) given ≡ numbers
@@ -41,14 +41,19 @@ pub record Legal (lines : List (List ℕ)) (journal : List Entry) : Type 0 where
   pub last : State
   pub leads : LeadsTo lines numbers journal last
 
--- Where a link is opened and on the open link devices use their far ends, so an entry may take numbers there. A later command adds its case.
+-- a command that talks on the link that is open, if one is
+abbrev pub IsOnLink : Command → Type 0
+IsOnLink (Put m) = Unit {0}
+IsOnLink (Get most key) = Unit {0}
+IsOnLink (Lookup name) = Unit {0}
+IsOnLink Unlink = Unit {0}
+IsOnLink c = ⊥
+
+-- Where a link is opened and on the open link devices use their far ends, so an entry may take numbers there. A later
+-- command adds its case here or above.
 abbrev pub TakesNumbers : Command → Type 0
 TakesNumbers (Link id miu window) = Unit {0}
-TakesNumbers (Put message) = Unit {0}
-TakesNumbers (Get most key) = Unit {0}
-TakesNumbers (Lookup name) = Unit {0}
-TakesNumbers Unlink = Unit {0}
-TakesNumbers c = ⊥
+TakesNumbers c = IsOnLink c
 
 -- Numbers of a journal's entries agree where a command may take any.
 abbrev pub AgreeFor : List Entry → List Joins → List Joins → Type 0

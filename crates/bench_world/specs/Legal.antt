@@ -49,15 +49,16 @@ use Rattle.bench_world.specs.Reading.{TellsOf, ReadAsks}
 use Rattle.bench_world.specs.Writing.{TellsWrite, WriteAsks, KeepsStores, ending_told}
 use Rattle.bench_devices.specs.Answering.{FindTells}
 
--- What stands between two commands: the bench's world, in which no numbers are left, the fates that are left, the peers so far with their
--- links, and the link that is open.
+-- What stands between two commands: the bench's world, in which no numbers are left, the fates that are left, the peers
+-- so far with their links, and the link that is open.
 pub record State : Type 0 where
   pub world : WholeWorld
   pub queue : List Fate
   pub peers : Peers
   pub link : Option OpenLink
 
--- How many PDUs stand in each payload of an entry, from the first to the last: in those of this end, and in the replies of far ends.
+-- How many PDUs stand in each payload of an entry, from the first to the last: in those of this end, and in the replies
+-- of far ends.
 pub record Joins : Type 0 where
   pub own : List ℕ
   pub far : List ℕ
@@ -90,8 +91,8 @@ pub record MayPlaceT2 (s : State) (id : List ℕ) (blocks : ℕ) (head : List �
   pub fits : length head ≤ 4 * blocks
   pub store : IsT2Store (memory_of (4 * blocks) head)
 
--- A Type 4 tag may be placed: the given bytes fit into the NDEF file, which is as long as the container says, and its store
--- is one of a tag.
+-- A Type 4 tag may be placed: the given bytes fit into the NDEF file, which is as long as the container says, and its
+-- store is one of a tag.
 pub record MayPlaceT4 (s : State) (id : List ℕ) (code : ℕ) (container head : List ℕ) : Type 0 where
   pub free : IsFree s id
   pub fits : length head ≤ file_size container
@@ -103,7 +104,8 @@ pub record MayPlaceT5 (s : State) (id : List ℕ) (blocks size : ℕ) (head : Li
   pub fits : length head ≤ size * blocks
   pub store : IsT5Store size (memory_of (size * blocks) head)
 
--- A peer may be placed: its LR code is one, its MIU and receive window are those that an end may have, and its limit one of a server.
+-- A peer may be placed: its LR code is one, its MIU and receive window are those that an end may have, and its limit
+-- one of a server.
 pub record MayPlacePeer (s : State) (id : List ℕ) (lr miu rw most : ℕ) : Type 0 where
   pub free : IsFree s id
   pub code : lr < 4
@@ -142,14 +144,15 @@ pub record MayOffer (s : State) (id : DeviceId) (value : List ℕ) : Type 0 wher
 abbrev pub HasBlock : State → DeviceId → ℕ → Type 0
 HasBlock s id block = OfPlaced (λ d. block < blocks_of d) (device_with (bytes_of id) s.world.field.listeners)
 
--- The device with this identifier is a Type 4 tag or a peer, and may ask for more time so often before an answer, and by this value.
+-- The device with this identifier is a Type 4 tag or a peer, and may ask for more time so often before an answer, and
+-- by this value.
 pub record MayBeBusy (s : State) (id : DeviceId) (count times : ℕ) : Type 0 where
   pub device : OfPlaced (λ d. may_be_busy d ≡ true) (device_with (bytes_of id) s.world.field.listeners)
   pub few : count ≤ most_busy
   pub long : (1 ≤ times) × (times ≤ longest_extension)
 
--- The conditions of a command beside its grammar, in a state. Only what is placed can be taken away, and a tag alone shows what it
--- holds, and a peer alone what it accepted.
+-- The conditions of a command beside its grammar, in a state. Only what is placed can be taken away, and a tag alone
+-- shows what it holds, and a peer alone what it accepted.
 abbrev pub Accepts : State → Command → Type 0
 Accepts s Skip = Unit {0}
 Accepts s (Fates fates) = Unit {0}
@@ -180,7 +183,8 @@ with_device s d = record { world = with_one_more s.world d None; queue = s.queue
 abbrev pub with_peer_under : State → Device → FarEnd → State
 with_peer_under s d end = record { world = with_one_more s.world d (Some end); queue = s.queue; peers = with_peer s.peers; link = s.link }
 
--- The state with the device that has an identifier taken away, and its far end with it: what stays of that is kept under the peer's number.
+-- The state with the device that has an identifier taken away, and its far end with it: what stays of that is kept
+-- under the peer's number.
 abbrev pub without_device : State → DeviceId → State
 without_device s id = record {
   world = record {
@@ -235,9 +239,9 @@ with_offer s id key value = record {
   link = s.link;
 }
 
--- What a command itself changes, before anything is sent: fates are appended, devices are placed and taken away, a block is
--- locked, a device asks for more time from now on, and a peer's server gives a key a value. A command that begins with a reset ends the
--- open link, and so does one that takes its peer away.
+-- What a command itself changes, before anything is sent: fates are appended, devices are placed and taken away, a
+-- block is locked, a device asks for more time from now on, and a peer's server gives a key a value. A command that
+-- begins with a reset ends the open link, and so does one that takes its peer away.
 abbrev pub changed : State → Command → State
 changed s (Fates fates) = record { world = s.world; queue = s.queue ++ fates; peers = s.peers; link = s.link }
 changed s (PlaceT2 id blocks head) = with_device s (new_t2 id (memory_of (4 * blocks) head))
@@ -254,16 +258,16 @@ changed s (Write id message) = unlinked s
 changed s (Link id miu window) = unlinked s
 changed s c = s
 
--- What a command asks of its tag, from the first command of the tag to the last. Only a read and a write of a placed one ask
--- anything, and nothing of a peer.
+-- What a command asks of its tag, from the first command of the tag to the last. Only a read and a write of a placed
+-- one ask anything, and nothing of a peer.
 abbrev pub IsAskedBy : State → Command → List Signal → Type 0
 IsAskedBy s (Read id) asked = IfPlaced (λ d. ReadAsks d asked) (asked ≡ []) (device_with (bytes_of id) s.world.field.listeners)
 IsAskedBy s (Write id message) asked =
     IfPlaced (λ d. WriteAsks (message_of message) d asked) (asked ≡ []) (device_with (bytes_of id) s.world.field.listeners)
 IsAskedBy s c asked = asked ≡ []
 
--- What is due in a command, by what the reader knows. Nothing is sent but in a read, a write and a search, where a link is opened, and on the
--- link that is open.
+-- What is due in a command, by what the reader knows. Nothing is sent but in a read, a write and a search, where a link
+-- is opened, and on the link that is open.
 abbrev pub due : State → Given → Command → List Note → Next
 due s g Find ns = asks (finding_all ns)
 due s g (Read id) ns = tag_due id g.asked ns
@@ -283,8 +287,9 @@ begun s joins c = with_numbers (changed s c).world joins.far
 abbrev pub world_after : State → Joins → Command → List Event → WholeWorld
 world_after s joins c events = with_numbers (replay bench_air (begun s joins c) events) []
 
--- The link that is open behind a command, by these numbers, what happened in it, and what it answered, where it was not cut off: one that the
--- command opened; the one that it went on with, where its call came to its end; and else the one before.
+-- The link that is open behind a command, by these numbers, what happened in it, and what it answered, where it was not
+-- cut off: one that the command opened; the one that it went on with, where its call came to its end; and else the one
+-- before.
 abbrev pub link_after : State → Joins → Command → List Event → Option Answer → Option OpenLink
 link_after s joins (Link id miu window) events (Some (answers.Linked n)) =
     link_if (placed_under id s.world.field.listeners s.peers.numbers) (device_with id s.world.field.listeners) miu window
@@ -327,9 +332,10 @@ pub record FindLaw (s : State) (joins : Joins) (events : List Event) (answer : A
   pub tells : FindTells TellsFound s.world.field.listeners events answer
   pub stays : LeavesStable s joins Find events
 
--- A write changes the store of its tag alone, which passes such stores as the law of a write says: the one before the command and
--- the one after each event, resets and polling too. No other store, no locked block and nothing that stays of a far end changes. The
--- images of the tag's store are told by the field alone, since no far end has a part in what a tag takes.
+-- A write changes the store of its tag alone, which passes such stores as the law of a write says: the one before the
+-- command and the one after each event, resets and polling too. No other store, no locked block and nothing that stays
+-- of a far end changes. The images of the tag's store are told by the field alone, since no far end has a part in what
+-- a tag takes.
 pub record StoresLaw (s : State) (joins : Joins) (id : DeviceId) (message : Msg) (ending : Ending) (events : List Event) : Type 0 where
   pub law : IfPlaced (λ d. KeepsStores (message_of message) d ending s.world.field events) (Unit {0}) (device_with (bytes_of id) s.world.field.listeners)
   pub others : AllKeepBut (bytes_of id) s.world.field.listeners (world_after s joins (Write id message) events).field.listeners
@@ -415,8 +421,9 @@ AnswerLaw s g (Get most key) events answer = IfLinked s.link (λ l. GetLaw s g.j
 AnswerLaw s g (Lookup name) events answer = IfLinked s.link (λ l. LookupLaw s g.joins l name events answer) (answer ≡ answers.NoLink)
 AnswerLaw s g Unlink events answer = IfLinked s.link (λ l. UnlinkLaw s g.joins l events answer) (answer ≡ answers.NoLink)
 
--- A front of a step: from this state the command is accepted, and turns were made, each due, by the first fates; they lead to that
--- state, where this was told, or nothing yet. An entry is a front that is over and answered; a command that was cut off leaves one.
+-- A front of a step: from this state the command is accepted, and turns were made, each due, by the first fates; they
+-- lead to that state, where this was told, or nothing yet. An entry is a front that is over and answered; a command
+-- that was cut off leaves one.
 pub record FrontOf (s : State) (g : Given) (c : Command) (events : List Event) (told : Option Answer) (t : State) : Type 0 where
   pub accepted : Accepts s c
   pub asks : IsAskedBy s c g.asked
@@ -438,8 +445,8 @@ pub record CutPut (s : State) (joins : Joins) (l : OpenLink) (message : Msg) (cu
   pub devices : (stable (world_after s joins (Put message) cut)).devices ≡ (stable s.world).devices
   pub ends : (stable (world_after s joins (Put message) cut)).ends ≡ with_accepted more l.peer s.peers.numbers (stable s.world).ends
 
--- What a command that was cut off leaves of what stays: the stores of a write keep its law, a put adds its message at most, and no other
--- command changed anything.
+-- What a command that was cut off leaves of what stays: the stores of a write keep its law, a put adds its message at
+-- most, and no other command changed anything.
 abbrev pub CutStores : State → Joins → Command → List Event → Type 0
 CutStores s joins (Write id message) cut = StoresLaw s joins id message Stopped cut
 CutStores s joins (Put message) cut = IfLinked s.link (λ l. CutPut s joins l message cut) (LeavesStable s joins (Put message) cut)
@@ -449,8 +456,9 @@ CutStores s joins c cut = LeavesStable s joins c cut
 abbrev pub CutFront : Joins → State → Command → List Event → State → Type 0
 CutFront joins s c cut t = (g : Given) × (g.joins ≡ joins) × FrontOf s g c cut None t × CutStores s g.joins c cut
 
--- Behind the turns of a call on the link that were due, a request that was due passed, and as it handed a payload over the peer's end stopped for
--- want of memory: nothing came back. The link is gone then. How that left devices and far ends isn't told.
+-- Behind the turns of a call on the link that were due, a request that was due passed, and as it handed a payload over
+-- the peer's end stopped for want of memory: nothing came back. The link is gone then. How that left devices and far
+-- ends isn't told.
 pub record HaltsCall (joins : Joins) (s : State) (c : Command) (cut : List Event) (t : State) : Type 0 where
   pub given : Given
   pub joined : given.joins ≡ joins
@@ -474,7 +482,8 @@ Halts joins s (Lookup name) cut t = HaltsCall joins s (Lookup name) cut t
 Halts joins s Unlink cut t = HaltsCall joins s Unlink cut t
 Halts joins s c cut t = ⊥
 
--- What want of memory leaves of a command: nothing was done, there is a front of its step, or the peer's end stopped behind one.
+-- What want of memory leaves of a command: nothing was done, there is a front of its step, or the peer's end stopped
+-- behind one.
 abbrev pub CutOff : Joins → State → Command → List Event → State → Type 0
 CutOff joins s c cut t = ((cut ≡ []) × (t ≡ s)) ⊎ (CutFront joins s c cut t ⊎ Halts joins s c cut t)
 

@@ -1,5 +1,6 @@
--- The law of links: what a peer accepts on a link is the first of what was put there and fits, and covers all that was told to be taken, by at most
--- one more; and it's what the payloads put that arrived there (NFC Forum SNEP 1.0; the law is this project's own).
+-- The law of links: what a peer accepts on a link is the first of what was put there and fits, and covers all that was
+-- told to be taken, by at most one more; and it's what the payloads put that arrived there (NFC Forum SNEP 1.0; the law
+-- is this project's own).
 use Rattle.std.specs.Prelude.{◌≡◌, ℕ, ◌+◌, ◌==◌, nat_eq, List, [], ◌∷◌, ◌++◌, map, if◌then◌else◌, Option, Some}
 use Rattle.std.specs.List.{AllByRecursion}
 use Rattle.snep_core.specs.Links.{Put, LinkAccepts}
@@ -24,8 +25,9 @@ abbrev pub puts_from : ℕ → List LinkPut → List Put
 puts_from client [] = []
 puts_from client (p ∷ ps) = if p.source == client then p.put ∷ puts_from client ps else puts_from client ps
 
--- On a link that `link` opened: of each client's SAP, what was accepted from it is the first of the messages that were put from it and are within
--- the limit, and covers all of them that were told to be taken, by at most one more, which then is the last put, and wasn't answered.
+-- On a link that `link` opened: of each client's SAP, what was accepted from it is the first of the messages that were
+-- put from it and are within the limit, and covers all of them that were told to be taken, by at most one more, which
+-- then is the last put, and wasn't answered.
 abbrev pub AcceptsPuts : Opener → Story → Type 0
 AcceptsPuts ByLink y = (client : ℕ) → LinkAccepts y.begun.service.limit (puts_from client y.puts) (accepted_from client y.gained)
 
@@ -67,7 +69,8 @@ InboxesTell numbers journal =
     (before : List Entry) (e : Entry) (behind : List Entry) (id : DeviceId) → journal ≡ before ++ e ∷ behind → e.command ≡ commands.Inbox id
     → TellsInbox (state_from first_state numbers before) (stories_of numbers before) id e.answer
 
--- The links of a journal, by the numbers of PDUs of its entries: each that it tells of has its story, in order, from 1 on.
+-- The links of a journal, by the numbers of PDUs of its entries: each that it tells of has its story, in order, from 1
+-- on.
 pub record LinksAccept (numbers : List Joins) (journal : List Entry) : Type 0 where
   pub accept : AllByRecursion KeepsLinkLaw (stories_of numbers journal)
   pub arrived : AllByRecursion IsByPayloads (stories_of numbers journal)

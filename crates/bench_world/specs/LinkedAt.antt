@@ -45,7 +45,8 @@ restarts old general new = new ≡ restarted serving old general
 abbrev pub moved_at : Machines → Air Device → ℕ → FarEnd → Machines
 moved_at m air place after = record { air = air; ends = slice_set m.ends place (Some after); peers = m.peers; link = m.link }
 
--- What is there then, by what came of ATR_REQ: the link that is open; or none, where no answer came, or memory was wanting.
+-- What is there then, by what came of ATR_REQ: the link that is open; or none, where no answer came, or memory was
+-- wanting.
 abbrev pub LinkLeft : Machines → ℕ → ℕ → ℕ → ℕ → Result (InitState × ArrayVec ℕ) EndCause → Result Answer ObeyFault → Machines → Type 0
 LinkLeft mid miu window peer start (Ok p) (Ok a) new =
     (a ≡ answers.Linked (length mid.peers.links + 1)) × (new ≡ begun mid peer start p.0 (new_client miu window p.1.items))

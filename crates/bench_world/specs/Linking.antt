@@ -1,5 +1,5 @@
--- What is answered where a link is opened, and the link that is open then (NFCIP-1, ISO/IEC 18092; NFC Forum LLCP 1.3; that a link has a number
--- is this project's own).
+-- What is answered where a link is opened, and the link that is open then (NFCIP-1, ISO/IEC 18092; NFC Forum LLCP 1.3;
+-- that a link has a number is this project's own).
 use Rattle.std.specs.Prelude.{◌≡◌, ◌↔◌, ◌⊎◌, ℕ, ◌<◌, List, [], ◌∷◌, Option, Some, None, Result, Ok, Err}
 use Rattle.std.specs.List.{AllByRecursion}
 use Rattle.nfc_base.specs.Trace.{noise, breaks}
@@ -46,8 +46,8 @@ no_service = record {}
 abbrev pub new_client : ℕ → ℕ → List ℕ → EndState
 new_client miu window told = restarted silent (fresh_end miu window no_service) told
 
--- The link that ATR_REQ opens to a peer: an initiator that cuts to its LR code, and an end of this MIU and receive window that begins a link with
--- its general bytes.
+-- The link that ATR_REQ opens to a peer: an initiator that cuts to its LR code, and an end of this MIU and receive
+-- window that begins a link with its general bytes.
 abbrev pub link_to : ℕ → TargetState → ℕ → ℕ → OpenLink
 link_to peer t miu window = record {
   peer = peer;
@@ -67,7 +67,8 @@ TellsLoss asking.SixBad answer = answer ≡ answers.LinkEnded losses.SixBad
 TellsLoss asking.Memory answer = ⊥
 TellsLoss asking.Protocol answer = ⊥
 
--- What is answered once a device is selected: a tag has no link as peers do. To a peer that answered ATR_REQ a link is open, under this number.
+-- What is answered once a device is selected: a tag has no link as peers do. To a peer that answered ATR_REQ a link is
+-- open, under this number.
 abbrev pub LinkEnds : ℕ → List ℕ → Result SeenKind PollFault → List Note → Answer → Type 0
 LinkEnds n general (Ok seen.Peer) behind answer = TellsStanding (λ a. a ≡ answers.Linked n) TellsLoss (stand 0 (atr_frame general ∷ []) behind) answer
 LinkEnds n general (Ok seen.T2) behind answer = answer ≡ answers.WrongKind
@@ -79,8 +80,9 @@ LinkEnds n general (Err e) behind answer = poll_answer e ≡ Some answer
 abbrev pub IsFieldLost : Answer → Type 0
 IsFieldLost answer = (answer ≡ answers.FieldLost) ⊎ (answer ≡ answers.LinkEnded losses.FieldLost)
 
--- The law of the answer, over the devices that are placed: first a device is selected, then it is asked for a link. The field is lost exactly
--- where a Break was used, and without noise no wait has six bad receptions: each note behind the selection is a whole answer.
+-- The law of the answer, over the devices that are placed: first a device is selected, then it is asked for a link. The
+-- field is lost exactly where a Break was used, and without noise no wait has six bad receptions: each note behind the
+-- selection is a whole answer.
 pub record LinkTells (id : DeviceId) (ds : List Device) (n : ℕ) (general : List ℕ) (events : List Event) (answer : Answer) : Type 0 where
   pub polled : Result SeenKind PollFault
   pub behind : List Note

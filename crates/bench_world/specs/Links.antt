@@ -1,5 +1,5 @@
--- The open link of a bench, and the links so far (NFCIP-1, ISO/IEC 18092; NFC Forum LLCP 1.3; that a link has a number, and when it ends, are
--- this project's own).
+-- The open link of a bench, and the links so far (NFCIP-1, ISO/IEC 18092; NFC Forum LLCP 1.3; that a link has a number,
+-- and when it ends, are this project's own).
 use Rattle.std.specs.Prelude.{ℕ, nat_eq, length, Bool, false, List, [], ◌∷◌, ◌++◌, if◌then◌else◌, Option, Some, None}
 use Rattle.dep_link.specs.Initiator.{InitState}
 use Rattle.far_air.specs.FarEnds.{first_far, later_fars}
@@ -8,7 +8,8 @@ use Rattle.bench_world.specs.World.{FarEnd}
 use Rattle.bench_world.specs.declared.inbox.LinkRange.{LinkRange}
 use Rattle.bench_world.specs.Peers.{Peers}
 
--- An open link: its peer, by its number; where the initiator stands between two exchanges; and this end of it, from which a client asks.
+-- An open link: its peer, by its number; where the initiator stands between two exchanges; and this end of it, from
+-- which a client asks.
 pub record OpenLink : Type 0 where
   pub peer : ℕ
   pub initiator : InitState

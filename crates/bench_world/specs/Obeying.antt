@@ -29,8 +29,8 @@ abbrev pub obey_fault_number : ObeyFault → ℕ
 obey_fault_number faults.Refused = 1
 obey_fault_number faults.Memory = 2
 
--- The machines of a bench: the field with its devices; and above each device, at its place, its far end, and nothing above a tag; the
--- peers so far with their links; and the initiator and the client of the link that is open.
+-- The machines of a bench: the field with its devices; and above each device, at its place, its far end, and nothing
+-- above a tag; the peers so far with their links; and the initiator and the client of the link that is open.
 pub record Machines : Type 0 where
   pub air : Air Device
   pub ends : List (Option FarEnd)
@@ -51,7 +51,8 @@ linked_at n [] = false
 linked_at zero (d ∷ ds) = device_linked d
 linked_at (suc n) (d ∷ ds) = linked_at n ds
 
--- This is the far end of the device at a place in this state: all of it while the device has a link, and else the state has what stays of it.
+-- This is the far end of the device at a place in this state: all of it while the device has a link, and else the state
+-- has what stays of it.
 abbrev pub FarAt : State → ℕ → Option FarEnd → Type 0
 FarAt s place end = get_or s.world.fars place None ≡ by_link peer_ends (linked_at place s.world.field.listeners) end
 
@@ -59,7 +60,8 @@ FarAt s place end = get_or s.world.fars place None ≡ by_link peer_ends (linked
 abbrev pub FieldOf : State → Air Device → Type 0
 FieldOf s a = (s.world.field ≡ record { lit = a.lit; listeners = a.listeners }) × (s.queue ≡ a.fates)
 
--- Each device has a place in the lists of far ends and of numbers; at that of a peer stand its far end and its number, which no other has.
+-- Each device has a place in the lists of far ends and of numbers; at that of a peer stand its far end and its number,
+-- which no other has.
 pub record HasPlaces (m : Machines) : Type 0 where
   pub ends : length m.ends ≡ length m.air.listeners
   pub numbers : length m.peers.numbers ≡ length m.air.listeners
@@ -89,7 +91,8 @@ put_in m d end peers = record {
   link = m.link;
 }
 
--- the machines without the device at a place, its far end and its number; what stays of the far end of a peer is kept under its number
+-- the machines without the device at a place, its far end and its number; what stays of the far end of a peer is kept
+-- under its number
 abbrev pub taken_out : Machines → ℕ → Machines
 taken_out m place = record {
   air = record { lit = m.air.lit; listeners = remove m.air.listeners place; fates = m.air.fates; trace = m.air.trace };
@@ -114,7 +117,8 @@ link_ended m = record { air = m.air; ends = m.ends; peers = ended m.link m.ends 
 abbrev pub RefusedOnly : {X : Type 0} → Result X ObeyFault → Machines → Command → Type 0
 RefusedOnly r m c = IsErrOf r faults.Refused → Accepts (state_at m) c → ⊥
 
--- A command was obeyed with this answer; its events are the trace. So many PDUs stand in each payload of the ends of a link.
+-- A command was obeyed with this answer; its events are the trace. So many PDUs stand in each payload of the ends of a
+-- link.
 pub record ObeyedBy (joins : Joins) (old new : Machines) (c : Command) (answer : Answer) : Type 0 where
   pub given : Given
   pub joined : given.joins ≡ joins
@@ -163,8 +167,8 @@ abbrev pub CutOffUnlinked : Air Device → Air Device → Command → Type 0
 CutOffUnlinked old new c =
     (ends : List (Option FarEnd)) (peers : Peers) → CutFront no_joins (state_at (under ends peers None old)) c new.trace (state_at (under ends peers None new))
 
--- What contracts see of a bench: its journal; the state that its machines are in; what happened in a command that want of memory
--- cut off, since its last entry; and whether that spoiled it.
+-- What contracts see of a bench: its journal; the state that its machines are in; what happened in a command that want
+-- of memory cut off, since its last entry; and whether that spoiled it.
 pub record Benched : Type 0 where
   pub journal : List Entry
   pub state : State
@@ -174,8 +178,8 @@ pub record Benched : Type 0 where
 abbrev pub new_bench : Benched
 new_bench = record { journal = []; state = first_state; cut = []; spoiled = false }
 
--- The journal gained one entry of this line and command, and the machines are in the state that its step leads to. As many PDUs as fit
--- were joined in each payload.
+-- The journal gained one entry of this line and command, and the machines are in the state that its step leads to. As
+-- many PDUs as fit were joined in each payload.
 pub record Adds (old new : Benched) (line : ℕ) (c : Command) : Type 0 where
   pub sound : old.spoiled ≡ false
   pub entry : Entry

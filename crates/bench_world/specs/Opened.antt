@@ -16,7 +16,8 @@ use Rattle.bench_world.specs.World.{FarEnd}
 use Rattle.bench_world.specs.Links.{OpenLink, is_number}
 use Rattle.bench_world.specs.Peers.{Peers}
 
--- A peer has a number and a far end, whose MIU and receive window are those that an end may have, and to which a server is bound.
+-- A peer has a number and a far end, whose MIU and receive window are those that an end may have, and to which a server
+-- is bound.
 pub record IsServed (number : Option ℕ) (above : Option FarEnd) : Type 0 where
   pub peer : ℕ
   pub numbered : number ≡ Some peer
@@ -50,8 +51,9 @@ IsFirstWith n place [] = ⊥
 IsFirstWith n zero (p ∷ ps) = is_number n p ≡ true
 IsFirstWith n (suc place) (p ∷ ps) = (is_number n p ≡ false) × IsFirstWith n place ps
 
--- The peer of an open link, by its number, stands at a place of the lit field. It has a link, and is selected, alone and in step with the
--- initiator there, whose last exchange didn't end by a fault. Its far end stands above it, and the client accords with that.
+-- The peer of an open link, by its number, stands at a place of the lit field. It has a link, and is selected, alone
+-- and in step with the initiator there, whose last exchange didn't end by a fault. Its far end stands above it, and the
+-- client accords with that.
 pub record IsOpen (air : Air Device) (ends : List (Option FarEnd)) (peers : Peers) (l : OpenLink) : Type 0 where
   pub place : ℕ
   pub number : IsFirstWith l.peer place peers.numbers

@@ -1,5 +1,5 @@
--- Peers among the devices of a bench: their numbers, the links that they had, and their far ends (NFC Forum LLCP 1.3, SNEP 1.0; the numbers
--- of peers and links are this project's own).
+-- Peers among the devices of a bench: their numbers, the links that they had, and their far ends (NFC Forum LLCP 1.3,
+-- SNEP 1.0; the numbers of peers and links are this project's own).
 use Rattle.std.specs.Prelude.{ℕ, List, [], ◌∷◌, ◌++◌, length, slice_set, codes, nat_eq, if◌then◌else◌, Option, Some, None, option_map}
 use Rattle.std.specs.Cmp.Lexicographic.{pointwise}
 use Rattle.llcp_link.specs.State.{Bound, fresh_end}
@@ -11,9 +11,10 @@ use Rattle.bench_devices.specs.Device.{device_id}
 use Rattle.bench_world.specs.declared.inbox.LinkRange.{LinkRange}
 use Rattle.bench_world.specs.World.{FarEnd}
 
--- Of each device, at its place, its number among the peers, and nothing of a tag. Peers are numbered from 0 on in the order of placing over the
--- whole run, so a number tells one of them for good. Of each peer so far, by its number, what stayed of its far end where it was taken away, and
--- nothing while it is placed. And the links so far, in order: the first is link 1.
+-- Of each device, at its place, its number among the peers, and nothing of a tag. Peers are numbered from 0 on in the
+-- order of placing over the whole run, so a number tells one of them for good. Of each peer so far, by its number, what
+-- stayed of its far end where it was taken away, and nothing while it is placed. And the links so far, in order: the
+-- first is link 1.
 pub record Peers : Type 0 where
   pub numbers : List (Option ℕ)
   pub gone : List (Option FarEnd)
@@ -34,7 +35,8 @@ with_tag p = record { numbers = p.numbers ++ None ∷ []; gone = p.gone; links =
 abbrev pub with_peer : Peers → Peers
 with_peer p = record { numbers = p.numbers ++ Some (next_number p) ∷ []; gone = p.gone ++ None ∷ []; links = p.links }
 
--- what stands at the places of devices, without that of the first device that has an identifier; the others stay in their order
+-- what stands at the places of devices, without that of the first device that has an identifier; the others stay in
+-- their order
 abbrev pub without_place : {X : Type 0} → List ℕ → List Device → List (Option X) → List (Option X)
 without_place id [] xs = xs
 without_place id (d ∷ ds) xs = if pointwise nat_eq (device_id d) id then later_fars xs else first_far xs ∷ without_place id ds (later_fars xs)
@@ -77,7 +79,8 @@ snep_sap = 4
 abbrev pub snep_bound : Bound
 snep_bound = record { name = snep_name; sap = snep_sap }
 
--- the far end of a new peer: an end of this MIU and receive window, with a server that takes messages of at most so many bytes
+-- the far end of a new peer: an end of this MIU and receive window, with a server that takes messages of at most so
+-- many bytes
 abbrev pub new_end : ℕ → ℕ → ℕ → FarEnd
 new_end miu window limit = record (fresh_end miu window (fresh_server limit)) { bound = snep_bound ∷ [] }
 

@@ -1,11 +1,12 @@
--- What is heard on quiet air, where no fate is left but Pass, and what a script without noise comes to. A later command adds its case.
+-- What is heard on quiet air, where no fate is left but Pass, and what a script without noise comes to. A later command
+-- adds its case.
 use Rattle.std.specs.Prelude.{◌≡◌, ℕ, List, [], ◌∷◌, Option, Some, None, Ok}
 use Rattle.std.specs.List.{AllByRecursion}
 use Rattle.nfc_base.specs.Trace.{noise}
 use Rattle.nfc_base.specs.declared.event.Fate.{Fate}
 use Rattle.air_core.specs.Conversation.{Note, receptions}
 use Rattle.bench_script.specs.declared.command.Command.{Command}
-use Rattle.bench_script.specs.declared.command.Command.TheVariants.{Fates, Find, Read, Write, Link, Put, Get, Lookup, Unlink}
+use Rattle.bench_script.specs.declared.command.Command.TheVariants.{Fates, Find, Read, Write, Link}
 use Rattle.bench_script.specs.declared.command.DeviceId.{DeviceId}
 use Rattle.bench_script.specs.declared.command.DeviceId.TheVariants.{A}
 use Rattle.bench_script.specs.DeviceIds.{bytes_of}
@@ -20,14 +21,15 @@ use Rattle.bench_devices.specs.Placed.{device_with}
 use Rattle.bench_devices.specs.Polling.{Told, selecting}
 use Rattle.bench_world.specs.declared.entry.Entry.{Entry}
 use Rattle.bench_world.specs.Completing.{whole_field}
-use Rattle.bench_world.specs.Journal.{LeadsTo}
+use Rattle.bench_world.specs.Journal.{LeadsTo, IsOnLink}
 use Rattle.bench_world.specs.Legal.{State, Joins, changed, state_after, first_state}
 use Rattle.bench_world.specs.Quiet.{AllPass}
 use Rattle.bench_world.specs.QuietLinks.{LinksQuietly, TalksQuietly}
 use Rattle.bench_world.specs.Reading.{TellsOf}
 use Rattle.bench_world.specs.Writing.{TellsWrite}
 
--- something holds of each entry, of the state that the entries before it lead to, and of the one that it leads to, by these numbers of PDUs
+-- something holds of each entry, of the state that the entries before it lead to, and of the one that it leads to, by
+-- these numbers of PDUs
 abbrev pub AllAlong : (State → Entry → State → Type 0) → State → List Joins → List Entry → Type 0
 AllAlong P s numbers [] = Unit {0}
 AllAlong P s [] (e ∷ es) = ⊥
@@ -41,22 +43,14 @@ selected_by (Write id m) = Some id
 selected_by (Link id miu window) = Some (A id)
 selected_by c = None
 
--- a command that talks on the link that is open, if one is
-abbrev pub IsOnLink : Command → Type 0
-IsOnLink (Put m) = Unit {0}
-IsOnLink (Get most key) = Unit {0}
-IsOnLink (Lookup name) = Unit {0}
-IsOnLink Unlink = Unit {0}
-IsOnLink c = ⊥
-
 -- Behind the selection of a device each note of an entry is a whole answer.
 abbrev pub AnswersAll : DeviceId → Entry → Type 0
 AnswersAll id e =
     (kind : SeenKind) (behind : List Note) → selecting id (receptions e.events) ≡ Told (Ok kind) behind
     → AllByRecursion IsAnswered behind
 
--- In an entry nothing was damaged or lost: no reception is bad but silences. Behind the selection of its device each is a whole
--- answer, and so is each of what is asked on a link, so those silences are polling's.
+-- In an entry nothing was damaged or lost: no reception is bad but silences. Behind the selection of its device each is
+-- a whole answer, and so is each of what is asked on a link, so those silences are polling's.
 pub record IsWellHeard (e : Entry) : Type 0 where
   pub unharmed : AllByRecursion IsUnharmed (receptions e.events)
   pub answered : (id : DeviceId) → selected_by e.command ≡ Some id → AnswersAll id e
@@ -87,8 +81,9 @@ pub record WritesPlaced (s : State) (e : Entry) (id : DeviceId) (m : Msg) (d : D
   pub placed : device_with (bytes_of id) s.world.field.listeners ≡ Some d
   pub named : IsNamed id d
 
--- An entry of a script without noise: everything passed; a read of a placed tag tells what its store holds, a write what it comes
--- to, and a search lists the whole field; a placed peer is linked, and each command on the open link is answered as the peer answers it.
+-- An entry of a script without noise: everything passed; a read of a placed tag tells what its store holds, a write
+-- what it comes to, and a search lists the whole field; a placed peer is linked, and each command on the open link is
+-- answered as the peer answers it.
 pub record IsQuietEntry (s : State) (e : Entry) (t : State) : Type 0 where
   pub quiet : noise e.events ≡ 0
   pub hears : IsWellHeard e

@@ -22,7 +22,8 @@ use Rattle.bench_world.specs.World.{FarEnd, stable}
 abbrev pub gained : List ℕ → FarEnd → List Received
 gained m end = if nat_lt end.service.limit (length m) then [] else from_client m ∷ []
 
--- A put is told by the limit, and the list of the peer's server gains just that at its end. Of other far ends nothing that stays changes.
+-- A put is told by the limit, and the list of the peer's server gains just that at its end. Of other far ends nothing
+-- that stays changes.
 pub record IsPut (s : State) (l : OpenLink) (m : List ℕ) (answer : Answer) (t : State) (end : FarEnd) : Type 0 where
   pub told : answer ≡ put_answer m end
   pub gains : (stable t.world).ends ≡ with_accepted (gained m end) l.peer s.peers.numbers (stable s.world).ends

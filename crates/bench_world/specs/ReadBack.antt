@@ -14,7 +14,8 @@ IsOf t (Request f x) = IsSignal f × (f.tech ≡ t)
 IsOf t (Answer f x) = IsSignal f × (f.tech ≡ t)
 IsOf t (Clash f x) = IsSignal f × (f.tech ≡ t)
 
--- Two events of one technology have one line only where they are equal. A line doesn't tell the technology; the command does.
+-- Two events of one technology have one line only where they are equal. A line doesn't tell the technology; the command
+-- does.
 abbrev pub LinesTellEvents : Type 0
 LinesTellEvents =
     (t : Tech) (n k : ℕ) (e f : Event) → n < 2 ^ 32 → k < 2 ^ 32 → IsOf t e → IsOf t f → line_text n (event_text e) ≡ line_text k (event_text f) → (n ≡ k) × (e ≡ f)

@@ -1,5 +1,6 @@
--- The story of each link of a bench: how it was opened and to which end, what happened while it was open, what was put on it and how that was told,
--- and what its peer accepted on it (NFC Forum SNEP 1.0; that links have numbers is this project's own). A later command adds its case.
+-- The story of each link of a bench: how it was opened and to which end, what happened while it was open, what was put
+-- on it and how that was told, and what its peer accepted on it (NFC Forum SNEP 1.0; that links have numbers is this
+-- project's own). A later command adds its case.
 use Rattle.std.specs.Prelude.{ℕ, drop, length, List, [], ◌∷◌, ◌++◌, Option, Some, None}
 use Rattle.nfc_base.specs.declared.event.Event.{Event}
 use Rattle.snep_core.specs.Links.{Told, Success, Rejected, Unanswered, Put}
@@ -34,9 +35,9 @@ pub record LinkPut : Type 0 where
   pub source : ℕ
   pub put : Put
 
--- The story of a link: the number that `linked` told; how it was opened; its peer, by its number among the peers; the general bytes that were said
--- to it, and its end as the link began; what happened in the entries behind, while the link was open; what was put on it, in order; and what the
--- peer's list of accepted messages gained on it.
+-- The story of a link: the number that `linked` told; how it was opened; its peer, by its number among the peers; the
+-- general bytes that were said to it, and its end as the link began; what happened in the entries behind, while the
+-- link was open; what was put on it, in order; and what the peer's list of accepted messages gained on it.
 pub record Story : Type 0 where
   pub number : ℕ
   pub opener : Opener
@@ -111,8 +112,8 @@ abbrev pub begun_in : Command → Option Answer → State → List Story
 begun_in (commands.Link id miu window) (Some (answers.Linked number)) t = story_if number (own_general miu) t.link t
 begun_in c told t = []
 
--- The stories behind a stretch. A link is open in it that was open once its command changed what it itself changes: one that begins with a reset
--- ended it.
+-- The stories behind a stretch. A link is open in it that was open once its command changed what it itself changes: one
+-- that begins with a reset ended it.
 abbrev pub stories_behind : State → Stretch → State → List Story → List Story
 stories_behind s x t ys = open_goes_on (changed s x.command).link (goes_on s x t) ys ++ begun_in x.command x.told t
 

@@ -1,5 +1,5 @@
--- Which lines of a script are taken, by the lines alone: what each spells, and what the commands before it place, take away and
--- lock. What is sent plays no part in it. (Commands and their conditions are this project's own.)
+-- Which lines of a script are taken, by the lines alone: what each spells, and what the commands before it place, take
+-- away and lock. What is sent plays no part in it. (Commands and their conditions are this project's own.)
 use Rattle.std.specs.Prelude.{◌↔◌, ℕ, List, [], ◌∷◌}
 use Rattle.bench_script.specs.declared.command.Command.{Command}
 use Rattle.bench_script.specs.Script.{Spells}
@@ -7,8 +7,8 @@ use Rattle.bench_world.specs.declared.entry.Entry.{Entry}
 use Rattle.bench_world.specs.Journal.{LeadsTo}
 use Rattle.bench_world.specs.Legal.{State, Joins, Accepts, changed, first_state}
 
--- where a script stands behind some commands, as if nothing had been sent: these devices are placed, with these identifiers and
--- so many blocks
+-- where a script stands behind some commands, as if nothing had been sent: these devices are placed, with these
+-- identifiers and so many blocks
 abbrev pub standing_from : State → List Command → State
 standing_from s [] = s
 standing_from s (c ∷ cs) = standing_from (changed s c) cs
@@ -37,8 +37,8 @@ pub record AreTaken (lines : List (List ℕ)) (commands : List Command) : Type 0
   pub spelled : AreSpelled lines commands
   pub accepted : AreAccepted first_state commands
 
--- The lines alone decide it: those of a legal journal are taken, and behind them a line is taken exactly where it is taken in the
--- state that the journal leads to, whatever was sent.
+-- The lines alone decide it: those of a legal journal are taken, and behind them a line is taken exactly where it is
+-- taken in the state that the journal leads to, whatever was sent.
 abbrev pub LinesDecide : Type 0
 LinesDecide =
     (lines : List (List ℕ)) (numbers : List Joins) (journal : List Entry) (last : State) → LeadsTo lines numbers journal last

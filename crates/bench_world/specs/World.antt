@@ -1,5 +1,5 @@
--- The world of a bench: the field's, and the far ends above its devices. A peer's far end is an end of a link whose service is a SNEP
--- server; a tag has none (NFC Forum LLCP 1.3, SNEP 1.0; the air is this project's own).
+-- The world of a bench: the field's, and the far ends above its devices. A peer's far end is an end of a link whose
+-- service is a SNEP server; a tag has none (NFC Forum LLCP 1.3, SNEP 1.0; the air is this project's own).
 use Rattle.std.specs.Prelude.{List, [], ◌∷◌, ◌++◌, map, false, Option}
 use Rattle.air_core.specs.Conversation.{AirModel}
 use Rattle.llcp_link.specs.State.{LlcState}

@@ -1,9 +1,6 @@
 //! The bench: the field, and the journal of what was obeyed.
 
-ghost use Rattle.std.specs.Prelude.{◌≡◌, ◌≢◌, ◌↔◌, ◌+◌, ◌*◌, ◌≤◌, ◌<◌, ◌++◌, List, [], ◌∷◌, Bool, true, is_some, Some, None, MatchOption, IsTrue, IsSome, get_or, option_map, option_copied, false, IfOk, OnOk, OnErr, IsErrOf, vec_len, vec_capacity, length};
-ghost use Rattle.std.specs.List.{AllByRecursion};
-ghost use Rattle.nfc_base.specs.declared.frame.Tech.TheVariants as techs;
-ghost use Rattle.bench_devices.specs.Device.{device_tech};
+ghost use Rattle.std.specs.Prelude.{◌≡◌, ◌≢◌, ◌↔◌, ◌≤◌, ◌<◌, ◌++◌, [], ◌∷◌, true, is_some, Some, None, IsTrue, IsSome, get_or, option_map, option_copied, false, IfOk, OnOk, OnErr, IsErrOf, vec_len, vec_capacity, length};
 ghost use Rattle.bench_world.specs.Legal.{Accepts, memory_of};
 ghost use Rattle.bench_devices.specs.Device.{most_devices};
 ghost use Rattle.bench_devices.specs.Placed.{device_with};

@@ -8,8 +8,8 @@ use nfc_base::Items;
 use snep_core::Server;
 use std::alloc::{AllocError, Global};
 
-/// A link: its peer, by its number, and where that peer's list of accepted messages stood at the link's start and at its
-/// end; while it is open it goes to the list's end.
+/// A link: its peer, by its number, and where that peer's list of accepted messages stood at the link's start and at
+/// its end; while it is open it goes to the list's end.
 #[derive(Clone, Copy, Debug)]
 pub struct LinkRange {
     pub peer: u64,
@@ -117,7 +117,8 @@ fn add_ranges(
     Ok(())
 }
 
-/// What a peer's server accepted: first what came on none of these links, then what came on each of them that is the peer's.
+/// What a peer's server accepted: first what came on none of these links, then what came on each of them that is the
+/// peer's.
 pub fn inbox_of(
     alloc: Global,
     server: &Server,

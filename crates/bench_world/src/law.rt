@@ -1,25 +1,24 @@
-//! That a command answers what it is asked for where noise doesn't keep it from that. The calls do nothing: they stand for
-//! these laws.
+//! That a command answers what it is asked for where noise doesn't keep it from that. The calls do nothing: they stand
+//! for these laws.
 
 ghost use Rattle.bench_world.specs.Behind.{WrittenIsRead, OneOfThreeIsRead};
 ghost use Rattle.bench_world.specs.Completing.{ReadsComplete, WritesComplete, ValidIsWritten, FindsComplete};
 ghost use Rattle.bench_world.specs.CompletingLinks.{PutsComplete, GetsComplete, LookupsComplete, UnlinksComplete, ValidIsOk, LinkingsComplete, KindsTold};
 ghost use Rattle.bench_world.specs.LinkLaw.{LinkLaw};
-ghost use Rattle.bench_world.specs.CompletingLinks.{PutsComplete, GetsComplete, LookupsComplete, UnlinksComplete, ValidIsOk, LinkingsComplete};
 ghost use Rattle.bench_world.specs.Quiet.{QuietStays, QuietReads, QuietWrites, QuietFinds};
 ghost use Rattle.bench_world.specs.QuietHearing.{QuietHears, QuietScript};
 ghost use Rattle.bench_world.specs.QuietLinks.{QuietTalks, QuietLinkings};
 ghost use Rattle.bench_world.specs.ReadBack.{LinesTellEvents, AnswersApart};
 ghost use Rattle.bench_world.specs.Taking.{LinesDecide};
 
-/// A legal read of a placed tag, without a Break, without a wait of six bad receptions and with one round (of a Type 5 tag one
-/// try) of polling without noise, tells what the tag's store holds.
+/// A legal read of a placed tag, without a Break, without a wait of six bad receptions and with one round (of a Type 5
+/// tag one try) of polling without noise, tells what the tag's store holds.
 pub fn reads_complete()
     ensures { ReadsComplete }
 {}
 
-/// So does a legal write tell what it comes to by the tag's store and its locked blocks: a message is written where the tag
-/// takes it and refuses none of its writes.
+/// So does a legal write tell what it comes to by the tag's store and its locked blocks: a message is written where the
+/// tag takes it and refuses none of its writes.
 pub fn writes_complete()
     ensures told { WritesComplete }
     ensures written { ValidIsWritten }
@@ -30,9 +29,9 @@ pub fn finds_complete()
     ensures { FindsComplete }
 {}
 
-/// A legal command on the open link is answered as its peer answers it, and the link is closed, exactly where no Break was used
-/// and no wait had six bad receptions: so a valid one gives what it's asked for. Where little noise is, a placed peer is linked,
-/// and a tag tells that it has no link as peers do.
+/// A legal command on the open link is answered as its peer answers it, and the link is closed, exactly where no Break
+/// was used and no wait had six bad receptions: so a valid one gives what it's asked for. Where little noise is, a
+/// placed peer is linked, and a tag tells that it has no link as peers do.
 pub fn links_complete()
     ensures puts { PutsComplete }
     ensures gets { GetsComplete }
@@ -43,8 +42,8 @@ pub fn links_complete()
     ensures kinds { KindsTold }
 {}
 
-/// Behind a write, with no command between that touches its tag, a read that tells a message tells the new one where the
-/// write was a success, and whatever it answered the old one, the empty one or the new one.
+/// Behind a write, with no command between that touches its tag, a read that tells a message tells the new one where
+/// the write was a success, and whatever it answered the old one, the empty one or the new one.
 pub fn reads_behind()
     ensures written { WrittenIsRead }
     ensures three { OneOfThreeIsRead }
@@ -55,17 +54,17 @@ pub fn lines_decide()
     ensures { LinesDecide }
 {}
 
-/// A stored report can be read back: two events of one technology have one line only where they are equal, and no answer's line
-/// is an event's.
+/// A stored report can be read back: two events of one technology have one line only where they are equal, and no
+/// answer's line is an event's.
 pub fn lines_tell_events()
     ensures events { LinesTellEvents }
     ensures answers { AnswersApart }
 {}
 
-/// Where no fate is left but Pass, the air stays quiet, a read of a placed tag tells what its store holds, a write what it
-/// comes to, a search lists the whole field, a placed peer is linked, and each command on the open link is answered as its peer
-/// answers it; no reception is bad but the silences of polling, so behind the selection of a device, and on a link, each is a
-/// whole answer. Where no line has another fate, all this holds of each entry of a script's journal.
+/// Where no fate is left but Pass, the air stays quiet, a read of a placed tag tells what its store holds, a write what
+/// it comes to, a search lists the whole field, a placed peer is linked, and each command on the open link is answered
+/// as its peer answers it; no reception is bad but the silences of polling, so behind the selection of a device, and on
+/// a link, each is a whole answer. Where no line has another fate, all this holds of each entry of a script's journal.
 pub fn quiet_air()
     ensures stays { QuietStays }
     ensures reads { QuietReads }
@@ -77,11 +76,11 @@ pub fn quiet_air()
     ensures script { QuietScript }
 {}
 
-/// Of each link in a legal journal, and of each client's SAP: what the peer accepted on it is the first of the messages that
-/// were put and are within its limit, and covers all that were told to be taken, by at most one more: the last put, which
-/// then wasn't answered. It's just what the payloads put that arrived there while the link was open, counted from PNI 0,
-/// whatever was offered between them. And an inbox tells what its peer accepted on each link, each message once, and nothing
-/// else.
+/// Of each link in a legal journal, and of each client's SAP: what the peer accepted on it is the first of the messages
+/// that were put and are within its limit, and covers all that were told to be taken, by at most one more: the last
+/// put, which then wasn't answered. It's just what the payloads put that arrived there while the link was open, counted
+/// from PNI 0, whatever was offered between them. And an inbox tells what its peer accepted on each link, each message
+/// once, and nothing else.
 pub fn links_accept()
     ensures { LinkLaw }
 {}

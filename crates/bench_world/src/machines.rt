@@ -137,8 +137,9 @@ fn keep_under(gone: &mut [Option<Llc<Server>>], number: Option<u64>, end: Option
     }
 }
 
-/// A field; for each device, at its place, the far end above it and its number among the peers, of which a tag has none; under the
-/// number of each peer so far its far end where it was taken away; the links so far, and the one that is open.
+/// A field; for each device, at its place, the far end above it and its number among the peers, of which a tag has
+/// none; under the number of each peer so far its far end where it was taken away; the links so far, and the one that
+/// is open.
 #[derive(Drop)]
 pub struct Machines {
     pub(crate) field: Field<Device>,
@@ -168,7 +169,7 @@ impl Model for Machines {
 }
 
 impl Machines {
-    ghost use Rattle.std.specs.Prelude.{◌≡◌, ◌<◌, ◌^◌, ◌++◌, [], ◌∷◌, Some, None, false, length, get_or, option_map, option_copied, if◌then◌else◌, ℕ, ◌+◌, IfSome, IfOk, IfErr, OnOk, OnErr};
+    ghost use Rattle.std.specs.Prelude.{◌≡◌, ◌<◌, ◌^◌, [], Some, None, false, length, get_or, option_map, option_copied, if◌then◌else◌, ℕ, ◌+◌, IfSome, IfOk, IfErr, OnOk, OnErr};
     ghost use Rattle.bench_world.specs.Obeying.{untraced, put_in, with_end, taken_out, link_ended};
     ghost use Rattle.bench_world.specs.Links.{OpenLink, is_with};
     ghost use Rattle.bench_world.specs.Opened.{IsServed};
@@ -422,8 +423,8 @@ impl Machines {
         }
     }
 
-    /// Takes the device at a place out, its far end and its number. Later places move down by one. The far end of a peer is kept
-    /// under its number: room for it was made as the peer was put in.
+    /// Takes the device at a place out, its far end and its number. Later places move down by one. The far end of a
+    /// peer is kept under its number: room for it was made as the peer was put in.
     pub fn take_out(&mut self, place: usize)
         requires device { place < length self.old.air.listeners }
         requires end { place < length self.old.ends }

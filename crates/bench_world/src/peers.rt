@@ -12,6 +12,7 @@ ghost use Rattle.bench_devices.specs.Choosing.{StandsAt};
 
 use crate::bench::{ObeyFault, is_free, is_placed};
 use crate::entry::Answer;
+use crate::linking::are_link_sizes;
 use crate::machines::Machines;
 use bench_devices::{Device, PeerUpper, peer_params, place_of};
 use bench_script::{Command, DeviceId};
@@ -24,10 +25,7 @@ use std::alloc::{AllocError, Global};
 fn are_sizes(lr: u8, miu: u16, rw: u8, limit: u32) -> bool
     ensures { IsTrue result ↔ ((lr < 4) × IsMiu miu × IsWindow rw × IsLimit limit) }
 {
-    lr < 4
-        && (128 <= miu && miu < 2176)
-        && (1 <= rw && rw <= 15)
-        && (1024 <= limit && limit <= 65536)
+    lr < 4 && are_link_sizes(miu, rw) && (1024 <= limit && limit <= 65536)
 }
 
 /// The far end of a new peer.

@@ -20,7 +20,8 @@ const MOST_BYTES: usize = 320;
 /// The SAP from which a reader's client connects, which a line leaves out.
 const CLIENT_SAP: u8 = 32;
 
-/// Goes over the pieces of an answer's line, none of which is empty. Contracts see the text that is left. It takes no memory.
+/// Goes over the pieces of an answer's line, none of which is empty. Contracts see the text that is left. It takes no
+/// memory.
 #[derive(Debug, Drop)]
 pub struct AnswerPieces<'a> {
     head: ArrayVec<u8, 640>,

@@ -1,8 +1,7 @@
-use Rattle.std.proofs.Common.{rules, ◌≡◌, ℕ, List, Option, Some, None, refl, sym, subst, map}
+use Rattle.std.proofs.Common.{rules, ◌≡◌, refl, sym, subst, map}
 use Rattle.far_air.specs.FarEnds.{rests}
 use Rattle.peer_air.specs.PeerFars.{peer_ends}
-use Rattle.dep_link.specs.Initiator.{InitState}
-use Rattle.snep_core.specs.declared.fault.SnepFault.TheVariants.{BadPeer, Excess, LinkEnded, Memory, NotFound, NotImplemented, Reject}
+use Rattle.snep_core.specs.declared.fault.SnepFault.TheVariants.{BadPeer}
 use Rattle.bench_world.specs.declared.entry.Answer.TheVariants as answers
 use Rattle.bench_world.specs.Legal.{Joins}
 use Rattle.bench_world.specs.Links.{OpenLink}

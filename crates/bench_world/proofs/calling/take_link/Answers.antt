@@ -1,4 +1,4 @@
-use Rattle.std.proofs.Common.{rules, ◌≡◌, ℕ, List, Option, Some, None, refl, subst, map, ◌∙◌}
+use Rattle.std.proofs.Common.{rules, ◌≡◌, List, Option, Some, None, refl, subst, map}
 use Rattle.std.specs.Prelude.{get_or}
 use Rattle.far_air.specs.FarEnds.{rests}
 use Rattle.peer_air.specs.PeerFars.{peer_ends}
