@@ -1,5 +1,4 @@
 use Rattle.std.proofs.Common.{rules, ◌≡◌, ◌∙◌, true, List, ℕ, Some, ap}
-use Rattle.air_core.specs.Listening.{Step}
 use Rattle.dep_link.specs.Frames.{air_frame}
 use Rattle.dep_link.specs.Target.{target_table, replied, reply_frame}
 use Rattle.dep_link.specs.declared.target.TargetStep.TheVariants.{Deliver}
