@@ -207,8 +207,8 @@ fn new_over_fates<R: Abort>(rt: &R, sizes: &Sizes, fates: u32) -> Result<End, Fa
     over_fates(rt, &mut ReaderEnd::new(0), &mut card, sizes, fates)
 }
 
-/// One exchange of new ends over these fates. Where it is answered the next one, over air in which all pass, takes as few
-/// transmissions as it can.
+/// One exchange of new ends over these fates. Where it is answered the next one, over air in which all pass, takes as
+/// few transmissions as it can.
 fn over_fates_and_on<R: Abort>(rt: &R, sizes: &Sizes, fates: u32) -> Result<(), Fail> {
     let mut card = lit_card(sizes.4)?;
     let mut reader = ReaderEnd::new(0);

@@ -24,8 +24,8 @@ fn reader_does(step: &ReaderStep, kind: u8, bytes: &[u8]) -> bool {
     }
 }
 
-/// What goes in at an end, the kind of what comes of it, and the bytes of that: a frame that is heard, unless the kind says
-/// otherwise. Kind `=` is an answer that a card gives, and its frame; `b` a command that a reader begins, and its first
+/// What goes in at an end, the kind of what comes of it, and the bytes of that. A frame is heard, unless the kind says
+/// otherwise: kind `=` is an answer that a card gives, and its frame; `b` a command that a reader begins, and its first
 /// frame; at `0` a card loses the field.
 type Row<'a> = (&'a [u8], u8, &'a [u8]);
 
