@@ -9,31 +9,36 @@ use crate::{Plan, Space, Step, Walk, capacity, find_message, plan};
 use std::process::Abort;
 use std::test::Fail;
 
-/// What a plan comes to: its steps, each the number of a block and what is written there; or the number of its fault and
-/// the capacity; or that the area holds no message.
-#[derive(Debug, Drop, PartialEq, Eq)]
+/// What planning comes to: a plan; or the number of its fault and the capacity; or that the area holds no message.
+#[derive(Drop)]
 enum Outcome {
-    Steps(Vec<(u16, Vec<u8>)>),
+    Made(Plan),
     Fault(u8, u32),
     NoMessage,
 }
 
-fn written(rt: &HostRuntime, step: &Step) -> Result<(u16, Vec<u8>), Fail> {
-    Ok((step.block, step.content.to_vec(rt.alloc())?))
+/// How many steps a plan has.
+fn count_steps(plan: &Plan) -> usize {
+    let ends = usize::from(plan.close.is_some()) + usize::from(plan.last.is_some());
+    plan.fill.as_slice().len().saturating_add(ends)
 }
 
-fn steps(rt: &HostRuntime, plan: &Plan) -> Result<Vec<(u16, Vec<u8>)>, Fail> {
-    let mut steps = Vec::new(rt.alloc());
-    if let Some(step) = &plan.close {
-        steps.push(written(rt, step)?)?;
+/// The step at a place among those behind the one that closes.
+fn later_step(plan: &Plan, at: usize) -> Option<&Step> {
+    let fill = plan.fill.as_slice();
+    if at == fill.len() {
+        return plan.last.as_ref();
     }
-    for step in plan.fill.as_slice() {
-        steps.push(written(rt, step)?)?;
+    fill.get(at)
+}
+
+/// The step at a place among all of them.
+fn step_at(plan: &Plan, index: usize) -> Option<&Step> {
+    match (&plan.close, index.checked_sub(1)) {
+        (Some(step), None) => Some(step),
+        (Some(_), Some(at)) => later_step(plan, at),
+        (None, _) => later_step(plan, index),
     }
-    if let Some(step) = &plan.last {
-        steps.push(written(rt, step)?)?;
-    }
-    Ok(steps)
 }
 
 /// The plan of a message of so many bytes, counting up from the first.
@@ -61,14 +66,14 @@ fn planned(
         return Ok(Outcome::NoMessage);
     };
     match plan(rt.alloc(), &map, store, block, &message) {
-        Ok(plan) => Ok(Outcome::Steps(steps(rt, &plan)?)),
+        Ok(plan) => Ok(Outcome::Made(plan)),
         Err(fault) => Ok(Outcome::Fault(fault.number(), capacity(&map))),
     }
 }
 
-fn is_step(steps: &[(u16, Vec<u8>)], index: usize, block: u16, content: &[u8]) -> bool {
-    match steps.get(index) {
-        Some(step) => step.0 == block && step.1.as_slice() == content,
+fn is_step(plan: &Plan, index: usize, block: u16, content: &[u8]) -> bool {
+    match step_at(plan, index) {
+        Some(step) => step.block == block && step.content.as_slice() == content,
         None => false,
     }
 }
@@ -78,12 +83,12 @@ type Row<'a> = (usize, u16, &'a [u8]);
 
 /// A plan has so many steps, these among them.
 fn has_steps(rt: &impl Abort, outcome: &Outcome, count: usize, rows: &[Row]) {
-    let Outcome::Steps(steps) = outcome else {
+    let Outcome::Made(plan) = outcome else {
         panic!(rt; "no plan");
     };
-    assert_eq!(rt; steps.len(), count);
+    assert_eq!(rt; count_steps(plan), count);
     for (index, block, content) in rows {
-        assert!(rt; is_step(steps, *index, *block, content), "at {index}");
+        assert!(rt; is_step(plan, *index, *block, content), "at {index}");
     }
 }
 
@@ -240,16 +245,23 @@ fn one_block_of_a_type_5_tag(rt: HostRuntime) -> Result<(), Fail> {
     Ok(())
 }
 
+/// The capacity of an area up to this address that holds an empty message alone.
+fn capacity_to(rt: &HostRuntime, end: u32) -> Result<Option<u32>, Fail>
+    requires order { 16 ≤ end }
+    requires small { end ≤ 1024 }
+{
+    let store = store(rt, 280, 16, &[3, 0])?;
+    match find_message(&t2_space(end), &store) {
+        Walk::Held { map } => Ok(Some(capacity(&map))),
+        _ => Ok(None),
+    }
+}
+
 /// An area of a message's TLV alone: its capacity at the borders of the two forms of a length.
 #[test]
 fn capacities(rt: HostRuntime) -> Result<(), Fail> {
     for (end, most) in [(18, 0), (272, 254), (273, 254), (274, 254), (275, 255)] {
-        let store = store(&rt, 280, 16, &[3, 0])?;
-        let space = t2_space(end);
-        let Walk::Held { map } = find_message(&space, &store) else {
-            panic!(rt; "no message");
-        };
-        assert_eq!(rt; capacity(&map), most, "with {end}");
+        assert_eq!(rt; capacity_to(&rt, end)?, Some(most), "with {end}");
     }
     Ok(())
 }

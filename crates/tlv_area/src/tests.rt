@@ -12,7 +12,7 @@ use std::process::Abort;
 use std::test::Fail;
 
 /// What a store holds: a message, or the number of a container's fault, 6 for no message and 7 for a bad TLV.
-#[derive(Debug, Drop, PartialEq, Eq)]
+#[derive(Debug, Drop)]
 enum Holds {
     Message(Vec<u8>),
     Fault(u8),
