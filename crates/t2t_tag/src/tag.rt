@@ -276,22 +276,24 @@ mod tests {
         Ok(T2Tag::new(store).is_ok())
     }
 
+    /// A store's length, the byte that says that it is one of an NDEF tag, the area's size, and whether a tag takes it.
+    const STORES: [(usize, u8, u8, bool); 9] = [
+        (12, 0, 0, false),
+        (16, 0, 0, true),
+        (18, 0, 0, false),
+        (1024, 0xE1, 0x7E, true),
+        (1020, 0xE1, 0x7E, false),
+        (16, 0xE1, 0x7F, true),
+        (16, 0xE1, 1, false),
+        (24, 0xE1, 1, true),
+        (1028, 0, 0, false),
+    ];
+
     #[test]
     fn takes_its_stores_alone(rt: HostRuntime) -> Result<(), Fail> {
-        let rows = [
-            (12, 0, 0, false),
-            (16, 0, 0, true),
-            (18, 0, 0, false),
-            (1024, 0xE1, 0x7E, true),
-            (1020, 0xE1, 0x7E, false),
-            (16, 0xE1, 0x7F, true),
-            (16, 0xE1, 1, false),
-            (24, 0xE1, 1, true),
-            (1028, 0, 0, false),
-        ];
-        for (length, magic, area, taken) in rows {
-            let told = is_taken(&rt, length, magic, area)?;
-            assert_eq!(rt; told, taken, "at {length} {magic} {area}");
+        for (length, magic, area, taken) in STORES.iter() {
+            let told = is_taken(&rt, *length, *magic, *area)?;
+            assert_eq!(rt; told, *taken, "at {length} {magic} {area}");
         }
         Ok(())
     }
