@@ -213,6 +213,7 @@ fn is_line_at(events: &[Event], at: usize, line: &Line) -> bool {
     }
 }
 
+/// Each of these lines is the event at its place; where there is no event, it isn't.
 fn begin_with(rt: &impl Abort, events: &[Event], lines: &[Line]) {
     for (at, line) in lines.iter().enumerate() {
         assert!(rt;
@@ -337,9 +338,9 @@ fn resolved(alloc: Global, fates: &[Fate]) -> Result<Result<Picked, PollFault>, 
 /// Each call tells that a field is dark.
 fn calls_tell_dark(rt: &impl Abort, field: &mut Field<Front<Card>>) {
     assert_eq!(rt; resolve(field), Err(PollFault::FieldLost));
-    assert_eq!(rt; inventory_one(field), Err(PollFault::FieldLost));
-    assert_eq!(rt; pick_v(field, [0; 8]), Err(PollFault::FieldLost));
-    assert_eq!(rt; PollFault::BadAnswer.number(), 6);
+    let told = (inventory_one(field), pick_v(field, [0; 8]));
+    let dark = (Err(PollFault::FieldLost), Err(PollFault::FieldLost));
+    assert_eq!(rt; told, dark);
 }
 
 #[test]
@@ -357,6 +358,7 @@ fn faults(rt: HostRuntime) -> Result<(), Fail> {
         assert_eq!(rt; told.err(), Some(fault), "at {fates:?}");
     }
     calls_tell_dark(&rt, &mut Field::new(rt.alloc()));
+    assert_eq!(rt; PollFault::BadAnswer.number(), 6);
     Ok(())
 }
 
@@ -431,7 +433,7 @@ fn picks(
     Ok(pick(alloc, field, &id))
 }
 
-/// Behind the call the device is active alone, so it alone answers RATS, and the frame by which it falls asleep.
+/// After the call the device is active alone, so it alone answers RATS, and the frame by which it falls asleep.
 fn is_active_alone(
     rt: &impl Abort,
     alloc: Global,
@@ -522,6 +524,7 @@ fn first_picked(alloc: Global, fates: &[Fate]) -> Result<Result<Kind, PollFault>
     picks(alloc, &mut field_of(alloc, &TWO, fates)?, TWO[0])
 }
 
+/// What two devices come to by these fates: what is found of them, and what comes of the first one.
 type Noisy = (Rounds, Result<Kind, PollFault>);
 
 fn noisy(alloc: Global, fates: &[Fate]) -> Result<Noisy, Fail> {

@@ -55,42 +55,44 @@ fn hears(rt: &impl Abort, tag: &mut T5Tag, request: &[u8], answer: &[u8]) -> Res
     Ok(())
 }
 
+/// What a tag of 16 bytes answers, one command after the other.
+const ADDRESSED: [Row; 29] = [
+    (0x20, &[0], &[0, 0xE1, 0x40, 0x06, 0]),
+    (0x20, &[1], &[0, 3, 3, 0xD0, 0]),
+    (0x20, &[3], &[0, 0, 0, 0, 0]),
+    (0x20, &[4], &[1, 0x10]),
+    (0x20, &[255], &[1, 0x10]),
+    (0x20, &[], &[1, 0x0F]),
+    (0x20, &[0, 0], &[1, 0x0F]),
+    (0x21, &[2, 1, 2, 3, 4], &[0]),
+    (0x20, &[2], &[0, 1, 2, 3, 4]),
+    (0x21, &[4, 1, 2, 3, 4], &[1, 0x10]),
+    (0x21, &[4, 1], &[1, 0x10]),
+    (0x21, &[0, 1, 2, 3], &[1, 0x0F]),
+    (0x21, &[0, 1, 2, 3, 4, 5], &[1, 0x0F]),
+    (0x21, &[0], &[1, 0x0F]),
+    (0x21, &[], &[1, 0x0F]),
+    (0x23, &[0, 0], &[0, 0xE1, 0x40, 0x06, 0]),
+    (0x23, &[0, 1], &[0, 0xE1, 0x40, 0x06, 0, 3, 3, 0xD0, 0]),
+    (0x23, &[2, 1], &[0, 1, 2, 3, 4, 0, 0, 0, 0]),
+    (0x23, &[2, 2], &[1, 0x10]),
+    (0x23, &[255, 255], &[1, 0x10]),
+    (0x23, &[0], &[1, 0x0F]),
+    (0x23, &[0, 1, 0], &[1, 0x0F]),
+    (0x30, &[2, 0], &[0, 1, 2, 3, 4]),
+    (0x30, &[0, 2], &[1, 0x10]),
+    (0x30, &[2], &[1, 0x0F]),
+    (0x31, &[2], &[1, 0x0F]),
+    (0x2B, &[], &[1, 0x0F]),
+    (0x02, &[0], &[1, 0x0F]),
+    (0x20, &[0], &[0, 0xE1, 0x40, 0x06, 0]),
+];
+
 #[test]
 fn obeys_addressed_commands(rt: HostRuntime) -> Result<(), Fail> {
-    let rows: [Row; 29] = [
-        (0x20, &[0], &[0, 0xE1, 0x40, 0x06, 0]),
-        (0x20, &[1], &[0, 3, 3, 0xD0, 0]),
-        (0x20, &[3], &[0, 0, 0, 0, 0]),
-        (0x20, &[4], &[1, 0x10]),
-        (0x20, &[255], &[1, 0x10]),
-        (0x20, &[], &[1, 0x0F]),
-        (0x20, &[0, 0], &[1, 0x0F]),
-        (0x21, &[2, 1, 2, 3, 4], &[0]),
-        (0x20, &[2], &[0, 1, 2, 3, 4]),
-        (0x21, &[4, 1, 2, 3, 4], &[1, 0x10]),
-        (0x21, &[4, 1], &[1, 0x10]),
-        (0x21, &[0, 1, 2, 3], &[1, 0x0F]),
-        (0x21, &[0, 1, 2, 3, 4, 5], &[1, 0x0F]),
-        (0x21, &[0], &[1, 0x0F]),
-        (0x21, &[], &[1, 0x0F]),
-        (0x23, &[0, 0], &[0, 0xE1, 0x40, 0x06, 0]),
-        (0x23, &[0, 1], &[0, 0xE1, 0x40, 0x06, 0, 3, 3, 0xD0, 0]),
-        (0x23, &[2, 1], &[0, 1, 2, 3, 4, 0, 0, 0, 0]),
-        (0x23, &[2, 2], &[1, 0x10]),
-        (0x23, &[255, 255], &[1, 0x10]),
-        (0x23, &[0], &[1, 0x0F]),
-        (0x23, &[0, 1, 0], &[1, 0x0F]),
-        (0x30, &[2, 0], &[0, 1, 2, 3, 4]),
-        (0x30, &[0, 2], &[1, 0x10]),
-        (0x30, &[2], &[1, 0x0F]),
-        (0x31, &[2], &[1, 0x0F]),
-        (0x2B, &[], &[1, 0x0F]),
-        (0x02, &[0], &[1, 0x0F]),
-        (0x20, &[0], &[0, 0xE1, 0x40, 0x06, 0]),
-    ];
     let head = [0xE1, 0x40, 0x06, 0, 3, 3, 0xD0, 0, 0, 0xFE];
     let mut tag = tag(rt.alloc(), 16, 4, &head)?;
-    obeys(&rt, &mut tag, &rows)?;
+    obeys(&rt, &mut tag, &ADDRESSED)?;
     assert_eq!(rt; (tag.store().len(), tag.id()), (16, ID));
     Ok(())
 }
@@ -98,33 +100,35 @@ fn obeys_addressed_commands(rt: HostRuntime) -> Result<(), Fail> {
 /// The answer of an inventory.
 const PRESENT: [u8; 10] = [0, 0, 6, 5, 4, 3, 2, 1, 4, 0xE0];
 
+/// What a fresh tag of four zero bytes answers to these bytes.
+const FLAGGED: [(&[u8], &[u8]); 22] = [
+    (&[0x26, 1, 64, 6, 5, 4, 3, 2, 1, 4, 0xE0], &PRESENT),
+    (&[0x26, 1, 0], &PRESENT),
+    (&[0x26, 1, 8, 6], &PRESENT),
+    (&[0x26, 1, 3, 6], &PRESENT),
+    (&[0x26, 1, 10, 6, 1], &PRESENT),
+    (&[0x26, 1, 8, 5], &[]),
+    (&[0x26, 1, 3, 14], &[]),
+    (&[0x26, 1, 10, 6, 5], &[]),
+    (&[0x26, 1, 8, 6, 5], &[]),
+    (&[0x26, 1, 8], &[]),
+    (&[0x26, 1, 65, 6, 5, 4, 3, 2, 1, 4, 0xE0, 0], &[]),
+    (&[0x26, 1], &[]),
+    (&[0x26, 2, 0], &[]),
+    (&[0x22, 0x20, 6, 5, 4, 3, 2, 1, 4, 0xE1, 0], &[]),
+    (&[0x22, 0x20, 0xE0, 4, 1, 2, 3, 4, 5, 6, 0], &[]),
+    (&[0x22, 0x20, 6, 5, 4, 3, 2, 1, 4], &[]),
+    (&[0x22], &[]),
+    (&[0x62, 0x20, 6, 5, 4, 3, 2, 1, 4, 0xE0, 0], &[]),
+    (&[], &[]),
+    (&[2], &[1, 0x0F]),
+    (&[2, 2], &[1, 0x0F]),
+    (&[2, 0x20, 0], &[0, 0, 0, 0, 0]),
+];
+
 #[test]
 fn hears_flags_and_masks(rt: HostRuntime) -> Result<(), Fail> {
-    let rows: [(&[u8], &[u8]); 22] = [
-        (&[0x26, 1, 64, 6, 5, 4, 3, 2, 1, 4, 0xE0], &PRESENT),
-        (&[0x26, 1, 0], &PRESENT),
-        (&[0x26, 1, 8, 6], &PRESENT),
-        (&[0x26, 1, 3, 6], &PRESENT),
-        (&[0x26, 1, 10, 6, 1], &PRESENT),
-        (&[0x26, 1, 8, 5], &[]),
-        (&[0x26, 1, 3, 14], &[]),
-        (&[0x26, 1, 10, 6, 5], &[]),
-        (&[0x26, 1, 8, 6, 5], &[]),
-        (&[0x26, 1, 8], &[]),
-        (&[0x26, 1, 65, 6, 5, 4, 3, 2, 1, 4, 0xE0, 0], &[]),
-        (&[0x26, 1], &[]),
-        (&[0x26, 2, 0], &[]),
-        (&[0x22, 0x20, 6, 5, 4, 3, 2, 1, 4, 0xE1, 0], &[]),
-        (&[0x22, 0x20, 0xE0, 4, 1, 2, 3, 4, 5, 6, 0], &[]),
-        (&[0x22, 0x20, 6, 5, 4, 3, 2, 1, 4], &[]),
-        (&[0x22], &[]),
-        (&[0x62, 0x20, 6, 5, 4, 3, 2, 1, 4, 0xE0, 0], &[]),
-        (&[], &[]),
-        (&[2], &[1, 0x0F]),
-        (&[2, 2], &[1, 0x0F]),
-        (&[2, 0x20, 0], &[0, 0, 0, 0, 0]),
-    ];
-    for (request, answer) in rows {
+    for (request, answer) in FLAGGED.iter() {
         hears(&rt, &mut tag(rt.alloc(), 4, 4, &[])?, request, answer)?;
     }
     Ok(())
@@ -283,6 +287,20 @@ fn blocks_past_255_are_named_by_two_bytes(rt: HostRuntime) -> Result<(), Fail> {
     obeys(&rt, &mut wide_tag(rt.alloc())?, &rows)
 }
 
+/// A command is sent by this frame, and is this text.
+fn is_command(
+    rt: &impl Abort,
+    alloc: Global,
+    command: &T5Command,
+    frame: &Frame,
+    text: &str,
+) -> Result<(), Fail> {
+    assert!(rt; command.to_frame().is_same(frame), "at {text}");
+    let told = format!(in alloc; "{command:?}")?;
+    assert_eq!(rt; told.as_str(), text);
+    Ok(())
+}
+
 /// These bytes spell this command, and the command is sent by them.
 fn command_comes_back(
     rt: &impl Abort,
@@ -291,13 +309,10 @@ fn command_comes_back(
     text: &str,
 ) -> Result<(), Fail> {
     let frame = Frame::whole(Tech::V, bytes)?;
-    let Some(command) = T5Command::read_from(&frame) else {
-        return Err(Fail::new("no command"));
-    };
-    assert!(rt; command.to_frame().is_same(&frame), "at {bytes:?}");
-    let told = format!(in alloc; "{command:?}")?;
-    assert_eq!(rt; told.as_str(), text, "at {bytes:?}");
-    Ok(())
+    match T5Command::read_from(&frame) {
+        Some(command) => is_command(rt, alloc, &command, &frame, text),
+        None => Err(Fail::new("no command")),
+    }
 }
 
 #[test]
@@ -365,13 +380,19 @@ fn other_frames_spell_no_command(rt: HostRuntime) -> Result<(), Fail> {
     Ok(())
 }
 
+/// An answer is sent by this frame, where it is one.
+fn is_sent_by(answer: &Option<T5Answer>, frame: &Frame) -> bool {
+    match answer {
+        Some(answer) => answer.to_frame().is_same(frame),
+        None => true,
+    }
+}
+
 /// These bytes spell this answer, and it is sent by them; or they spell none.
 fn answer_comes_back(rt: &impl Abort, alloc: Global, bytes: &[u8], text: &str) -> Result<(), Fail> {
     let frame = Frame::whole(Tech::V, bytes)?;
     let answer = T5Answer::read_from(&frame);
-    if let Some(answer) = &answer {
-        assert!(rt; answer.to_frame().is_same(&frame), "at {bytes:?}");
-    }
+    assert!(rt; is_sent_by(&answer, &frame), "at {bytes:?}");
     let told = format!(in alloc; "{answer:?}")?;
     assert_eq!(rt; told.as_str(), text, "at {bytes:?}");
     Ok(())
