@@ -85,127 +85,143 @@ pub(crate) fn server(rt: &impl Abort, alloc: Global) -> Result<Llc<Notes>, Fail>
 fn waiting(alloc: Global, llc: &Llc<Notes>) -> Result<Vec<u8>, AllocError> {
     let mut told = Vec::new(alloc);
     for queued in llc.queue.iter() {
-        match &queued.part {
-            Part::Cc { dsap, ssap, .. } => told.extend_from_slice(&[b'C', *dsap, *ssap])?,
-            Part::Dm { dsap, ssap, reason } => {
-                told.extend_from_slice(&[b'D', *dsap, *ssap, *reason])?
-            }
-            Part::Frmr { dsap, ssap, report } => {
-                told.extend_from_slice(&[b'F', *dsap, *ssap, report.flags, report.sequence])?
-            }
-            Part::Snl(params) => {
-                told.push(b'S')?;
-                for param in params.as_slice() {
-                    if let Param::SdRes { tid, sap } = param {
-                        told.extend_from_slice(&[*tid, *sap])?;
-                    }
-                }
-            }
-            _ => told.push(b'?')?,
-        }
+        tell(&queued.part, &mut told)?;
     }
     Ok(told)
 }
 
-/// It takes payloads one after the other.
-fn takes(rt: &impl Abort, llc: &mut Llc<Notes>, payloads: &[&[u8]]) -> Result<(), Fail> {
-    for payload in payloads {
-        assert_eq!(rt; llc.take(payload), Ok(()));
+fn tell(part: &Part, told: &mut Vec<u8>) -> Result<(), AllocError> {
+    match part {
+        Part::Cc { dsap, ssap, .. } => told.extend_from_slice(&[b'C', *dsap, *ssap]),
+        Part::Dm { dsap, ssap, reason } => told.extend_from_slice(&[b'D', *dsap, *ssap, *reason]),
+        Part::Frmr { dsap, ssap, report } => {
+            told.extend_from_slice(&[b'F', *dsap, *ssap, report.flags, report.sequence])
+        }
+        Part::Snl(params) => tell_answers(params.as_slice(), told),
+        _ => told.extend_from_slice(b"?"),
+    }
+}
+
+fn tell_answers(params: &[Param], told: &mut Vec<u8>) -> Result<(), AllocError> {
+    told.extend_from_slice(b"S")?;
+    for param in params {
+        if let Param::SdRes { tid, sap } = param {
+            told.extend_from_slice(&[*tid, *sap])?;
+        }
     }
     Ok(())
 }
 
-/// What waits and what was noted once a server took these payloads.
-fn brings(
+/// What is handed to a new server, what waits then, and what its service noted.
+type Row<'a> = (&'a [&'a [u8]], &'a [u8], &'a [u8]);
+
+/// A server that is lent comes to what the row says.
+fn comes_to(
     rt: &impl Abort,
     alloc: Global,
-    payloads: &[&[u8]],
-    answers: &[u8],
-    units: &[u8],
+    llc: &mut Llc<Notes>,
+    row: &Row<'_>,
 ) -> Result<(), Fail> {
-    let mut llc = server(rt, alloc)?;
-    llc.restart(&GENERAL);
-    takes(rt, &mut llc, payloads)?;
-    assert_eq!(rt; waiting(alloc, &llc)?.as_slice(), answers);
-    assert_eq!(rt; llc.service().units.as_slice(), units);
+    let (payloads, answers, units) = row;
+    for payload in *payloads {
+        assert_eq!(rt; llc.take(payload), Ok(()), "at {payloads:?}");
+    }
+    assert_eq!(rt;
+        waiting(alloc, llc)?.as_slice(),
+        *answers,
+        "at {payloads:?}"
+    );
+    assert_eq!(rt; llc.service().units.as_slice(), *units, "at {payloads:?}");
     Ok(())
 }
 
+/// A new server comes to what each row says.
+fn brings(rt: &impl Abort, alloc: Global, rows: &[Row<'_>]) -> Result<(), Fail> {
+    for row in rows {
+        let mut llc = server(rt, alloc)?;
+        llc.restart(&GENERAL);
+        comes_to(rt, alloc, &mut llc, row)?;
+    }
+    Ok(())
+}
+
+const CONNECT: &[u8] = &[0x11, 0x20];
+
+const UNIT: &[u8] = &[0x13, 0x20, 0x00, 0xAA];
+
 #[test]
 fn connections(rt: HostRuntime) -> Result<(), Fail> {
-    let alloc = rt.alloc();
-    let connect: &[u8] = &[0x11, 0x20];
-    brings(&rt, alloc, &[connect], b"C\x20\x04", &[])?;
-    let unit: &[u8] = &[0x13, 0x20, 0x00, 0xAA];
-    brings(&rt, alloc, &[connect, unit], b"C\x20\x04", &[32, 0xAA])?;
-    brings(&rt, alloc, &[unit], b"D\x20\x04\x01", &[])?;
     let wrong: &[u8] = &[0x13, 0x20, 0x10, 0xAA];
-    brings(
-        &rt,
-        alloc,
-        &[connect, wrong],
-        b"C\x20\x04F\x20\x04\x10\x10",
-        &[],
-    )?;
     let short: &[u8] = &[0x13, 0x60];
-    brings(
-        &rt,
-        alloc,
-        &[connect, short],
-        b"C\x20\x04F\x20\x04\x80\x00",
-        &[],
-    )?;
-    brings(
-        &rt,
-        alloc,
-        &[connect, connect],
-        b"C\x20\x04D\x20\x04\x20",
-        &[],
-    )?;
     let linux: &[u8] = &[0x11, 0x20, 0x02, 0x02, 0x07, 0xFF, 0x05, 0x01, 0x0F];
-    brings(&rt, alloc, &[linux, unit], b"C\x20\x04", &[32, 0xAA])?;
     let rnr: &[u8] = &[0x13, 0xA0, 0x00];
-    brings(&rt, alloc, &[connect, rnr, unit], b"C\x20\x04", &[32, 0xAA])?;
     let two: &[u8] = &[0x00, 0x80, 0x00, 0x02, 0x11, 0x20, 0x00, 0x02, 0x11, 0x21];
-    brings(&rt, alloc, &[two], b"C\x20\x04C\x21\x04", &[])
+    let rows: [Row<'_>; 9] = [
+        (&[CONNECT], b"C\x20\x04", &[]),
+        (&[CONNECT, UNIT], b"C\x20\x04", &[32, 0xAA]),
+        (&[UNIT], b"D\x20\x04\x01", &[]),
+        (&[CONNECT, wrong], b"C\x20\x04F\x20\x04\x10\x10", &[]),
+        (&[CONNECT, short], b"C\x20\x04F\x20\x04\x80\x00", &[]),
+        (&[CONNECT, CONNECT], b"C\x20\x04D\x20\x04\x20", &[]),
+        (&[linux, UNIT], b"C\x20\x04", &[32, 0xAA]),
+        (&[CONNECT, rnr, UNIT], b"C\x20\x04", &[32, 0xAA]),
+        (&[two], b"C\x20\x04C\x21\x04", &[]),
+    ];
+    brings(&rt, rt.alloc(), &rows)
 }
 
 #[test]
 fn refusals_and_names(rt: HostRuntime) -> Result<(), Fail> {
-    let alloc = rt.alloc();
     let named: &[u8] = b"\x05\x20\x06\x0Furn:nfc:sn:snep";
-    brings(&rt, alloc, &[named], b"C\x20\x04", &[])?;
     let no_window: &[u8] = &[0x11, 0x20, 0x05, 0x01, 0x10];
-    brings(&rt, alloc, &[no_window], b"D\x20\x04\x03", &[])?;
     let unbound: &[u8] = &[0x15, 0x20];
-    brings(&rt, alloc, &[unbound], b"D\x20\x05\x02", &[])?;
     let lookups: &[u8] = b"\x06\x41\x08\x10\x00urn:nfc:sn:snep\x08\x02\x01x";
-    brings(&rt, alloc, &[lookups], b"S\x00\x04\x01\x00", &[])?;
     let malformed: &[u8] = &[0x11, 0x20, 0x05];
-    brings(&rt, alloc, &[malformed, &[0x11]], b"", &[])
+    let rows: [Row<'_>; 5] = [
+        (&[named], b"C\x20\x04", &[]),
+        (&[no_window], b"D\x20\x04\x03", &[]),
+        (&[unbound], b"D\x20\x05\x02", &[]),
+        (&[lookups], b"S\x00\x04\x01\x00", &[]),
+        (&[malformed, &[0x11]], b"", &[]),
+    ];
+    brings(&rt, rt.alloc(), &rows)
 }
 
-#[test]
-fn nine_clients_and_seventeen_answers(rt: HostRuntime) -> Result<(), Fail> {
-    let alloc = rt.alloc();
-    let mut llc = server(&rt, alloc)?;
+/// How many PDUs wait, and how many connections of clients it has.
+fn counts(llc: &Llc<Notes>) -> (usize, usize) {
+    (llc.queue.len(), llc.served.len())
+}
+
+/// Nine clients ask for connections.
+fn nine_ask(rt: &impl Abort, llc: &mut Llc<Notes>) {
     for client in 32..41u8 {
         assert_eq!(rt; llc.take(&[0x11, client]), Ok(()));
     }
-    assert_eq!(rt; (llc.queue.len(), llc.served.len()), (9, 8));
-    llc.restart(&GENERAL);
+    assert_eq!(rt; counts(llc), (9, 8));
+}
+
+/// Seventeen PDUs come that a DM answers.
+fn seventeen_come(rt: &impl Abort, llc: &mut Llc<Notes>) {
     for _ in 0..17 {
         assert_eq!(rt; llc.take(&[0x13, 0x60, 0x00]), Ok(()));
     }
     assert_eq!(rt; llc.queue.len(), 16);
+}
+
+#[test]
+fn nine_clients_and_seventeen_answers(rt: HostRuntime) -> Result<(), Fail> {
+    let mut llc = server(&rt, rt.alloc())?;
+    nine_ask(&rt, &mut llc);
+    llc.restart(&GENERAL);
+    seventeen_come(&rt, &mut llc);
     llc.restart(&[0x46, 0x66, 0x6D]);
     assert_eq!(rt; llc.take(&[0x11, 0x20]), Ok(()));
-    assert_eq!(rt; (llc.queue.len(), llc.served.len()), (0, 0));
+    assert_eq!(rt; counts(&llc), (0, 0));
     Ok(())
 }
 
 /// The reply to a payload.
-pub(crate) fn answers<A: Answerer>(
+fn answers<A: Answerer>(
     rt: &impl Abort,
     alloc: Global,
     end: &mut A,
@@ -215,7 +231,20 @@ pub(crate) fn answers<A: Answerer>(
     let mut got = Vec::new(alloc);
     assert!(rt; payload.len() < 64);
     assert_eq!(rt; end.answer(alloc, payload, &mut got), Ok(()));
-    assert_eq!(rt; got.as_slice(), reply);
+    assert_eq!(rt; got.as_slice(), reply, "at {payload:?}");
+    Ok(())
+}
+
+/// An end answers payloads, one after the other, by these replies.
+pub(crate) fn replies_by<A: Answerer>(
+    rt: &impl Abort,
+    alloc: Global,
+    end: &mut A,
+    rows: &[(&[u8], &[u8])],
+) -> Result<(), Fail> {
+    for (payload, reply) in rows {
+        answers(rt, alloc, end, payload, reply)?;
+    }
     Ok(())
 }
 
@@ -223,44 +252,27 @@ pub(crate) fn answers<A: Answerer>(
 fn replies(rt: HostRuntime) -> Result<(), Fail> {
     let alloc = rt.alloc();
     let mut llc = server(&rt, alloc)?;
-    answers(&rt, alloc, &mut llc, &[0x11, 0x20, 0x05], &[0, 0])?;
-    answers(&rt, alloc, &mut llc, &[0x11], &[0, 0])?;
-    let two = [0x00, 0x80, 0x00, 0x02, 0x11, 0x20, 0x00, 0x02, 0x11, 0x21];
-    let joined = [0x00, 0x80, 0x00, 0x02, 0x81, 0x84, 0x00, 0x02, 0x85, 0x84];
-    answers(&rt, alloc, &mut llc, &two, &joined)?;
-    answers(&rt, alloc, &mut llc, &[0, 0], &[0, 0])?;
-    answers(
-        &rt,
-        alloc,
-        &mut llc,
-        &[0x13, 0x20, 0x00, 0xAA],
-        &[0x83, 0x44, 0x01],
-    )?;
-    answers(
-        &rt,
-        alloc,
-        &mut llc,
-        &[0x13, 0x20, 0x00, 0xAA],
-        &[0x82, 0x04, 0x1C, 0x00, 0x01, 0x01],
-    )?;
-    answers(
-        &rt,
-        alloc,
-        &mut llc,
-        &[0x13, 0x21, 0x00, 0xBB],
-        &[0x87, 0x44, 0x01],
-    )?;
-    answers(
-        &rt,
-        alloc,
-        &mut llc,
-        &[0x13, 0x60, 0x01],
-        &[0x81, 0xC4, 0x01],
-    )?;
+    let rows: [(&[u8], &[u8]); 8] = [
+        (&[0x11, 0x20, 0x05], &[0, 0]),
+        (&[0x11], &[0, 0]),
+        (
+            &[0x00, 0x80, 0x00, 0x02, 0x11, 0x20, 0x00, 0x02, 0x11, 0x21],
+            &[0x00, 0x80, 0x00, 0x02, 0x81, 0x84, 0x00, 0x02, 0x85, 0x84],
+        ),
+        (&[0, 0], &[0, 0]),
+        (&[0x13, 0x20, 0x00, 0xAA], &[0x83, 0x44, 0x01]),
+        (
+            &[0x13, 0x20, 0x00, 0xAA],
+            &[0x82, 0x04, 0x1C, 0x00, 0x01, 0x01],
+        ),
+        (&[0x13, 0x21, 0x00, 0xBB], &[0x87, 0x44, 0x01]),
+        (&[0x13, 0x60, 0x01], &[0x81, 0xC4, 0x01]),
+    ];
+    replies_by(&rt, alloc, &mut llc, &rows)?;
+    // to general bytes that can't be read nothing is answered
     llc.restart(&[0x46, 0x66, 0x6D]);
-    answers(&rt, alloc, &mut llc, &[0x11, 0x20], &[])?;
-    answers(&rt, alloc, &mut llc, &[0x00, 0x00], &[])?;
-    answers(&rt, alloc, &mut llc, &[0x11], &[])
+    let rows: [(&[u8], &[u8]); 3] = [(&[0x11, 0x20], &[]), (&[0x00, 0x00], &[]), (&[0x11], &[])];
+    replies_by(&rt, alloc, &mut llc, &rows)
 }
 
 /// A service that sends so many units, each its client's SAP.
@@ -333,58 +345,72 @@ fn sending_server(rt: &impl Abort, alloc: Global, left: u8) -> Result<Llc<Units>
 #[test]
 fn units_of_three_clients_and_their_windows(rt: HostRuntime) -> Result<(), Fail> {
     let alloc = rt.alloc();
-    let mut llc = sending_server(&rt, alloc, 5)?;
-    let connects = [
-        0x00, 0x80, 0x00, 0x02, 0x11, 0x20, 0x00, 0x02, 0x11, 0x21, 0x00, 0x02, 0x11, 0x22,
+    let rows: [(&[u8], &[u8]); 3] = [
+        (
+            &[
+                0x00, 0x80, 0x00, 0x02, 0x11, 0x20, 0x00, 0x02, 0x11, 0x21, 0x00, 0x02, 0x11, 0x22,
+            ],
+            &[
+                0x00, 0x80, 0x00, 0x02, 0x81, 0x84, 0x00, 0x02, 0x85, 0x84, 0x00, 0x02, 0x89, 0x84,
+                0x00, 0x04, 0x83, 0x04, 0x00, 0x20, 0x00, 0x04, 0x87, 0x04, 0x00, 0x21, 0x00, 0x04,
+                0x8B, 0x04, 0x00, 0x22,
+            ],
+        ),
+        // the first isn't ready, the second acknowledges, and the third brings a unit
+        (
+            &[
+                0x00, 0x80, 0x00, 0x03, 0x13, 0xA0, 0x01, 0x00, 0x03, 0x13, 0x61, 0x01, 0x00, 0x04,
+                0x13, 0x22, 0x01, 0xAA,
+            ],
+            &[
+                0x00, 0x80, 0x00, 0x04, 0x87, 0x04, 0x10, 0x21, 0x00, 0x04, 0x8B, 0x04, 0x11, 0x22,
+            ],
+        ),
+        // the service has no unit left: an acknowledgement is owed
+        (&[0x13, 0x20, 0x01, 0xAA], &[0x83, 0x44, 0x01]),
     ];
-    let accepted = [
-        0x00, 0x80, 0x00, 0x02, 0x81, 0x84, 0x00, 0x02, 0x85, 0x84, 0x00, 0x02, 0x89, 0x84, 0x00,
-        0x04, 0x83, 0x04, 0x00, 0x20, 0x00, 0x04, 0x87, 0x04, 0x00, 0x21, 0x00, 0x04, 0x8B, 0x04,
-        0x00, 0x22,
-    ];
-    answers(&rt, alloc, &mut llc, &connects, &accepted)?;
-    // the first isn't ready, the second acknowledges, and the third brings a unit
-    let said = [
-        0x00, 0x80, 0x00, 0x03, 0x13, 0xA0, 0x01, 0x00, 0x03, 0x13, 0x61, 0x01, 0x00, 0x04, 0x13,
-        0x22, 0x01, 0xAA,
-    ];
-    let units = [
-        0x00, 0x80, 0x00, 0x04, 0x87, 0x04, 0x10, 0x21, 0x00, 0x04, 0x8B, 0x04, 0x11, 0x22,
-    ];
-    answers(&rt, alloc, &mut llc, &said, &units)?;
-    // the service has no unit left: an acknowledgement is owed
-    answers(
-        &rt,
-        alloc,
-        &mut llc,
-        &[0x13, 0x20, 0x01, 0xAA],
-        &[0x83, 0x44, 0x01],
-    )
+    replies_by(&rt, alloc, &mut sending_server(&rt, alloc, 5)?, &rows)
+}
+
+/// An AGF of seventeen PDUs that a DM answers.
+fn seventeen(alloc: Global) -> Result<Vec<u8>, AllocError> {
+    let mut acks = Vec::from_slice(alloc, &[0x00, 0x80])?;
+    for _ in 0..17 {
+        acks.extend_from_slice(&[0x00, 0x03, 0x13, 0x60, 0x01])?;
+    }
+    Ok(acks)
+}
+
+/// The length of the payload behind one that it takes.
+fn length_behind(rt: &impl Abort, alloc: Global, llc: &mut Llc<Notes>, payload: &[u8]) -> usize {
+    let mut got = Vec::new(alloc);
+    assert_eq!(rt; llc.take(payload), Ok(()));
+    assert_eq!(rt; llc.give(0, &mut got), Ok(()));
+    got.len()
 }
 
 #[test]
 fn sixteen_answers_joined(rt: HostRuntime) -> Result<(), Fail> {
     let alloc = rt.alloc();
+    let acks = seventeen(alloc)?;
     let mut llc = server(&rt, alloc)?;
-    let mut acks = Vec::new(alloc);
-    acks.extend_from_slice(&[0x00, 0x80])?;
-    for _ in 0..17 {
-        acks.extend_from_slice(&[0x00, 0x03, 0x13, 0x60, 0x01])?;
-    }
-    let mut got = Vec::new(alloc);
-    assert_eq!(rt; llc.take(&acks), Ok(()));
-    assert_eq!(rt; llc.give(0, &mut got), Ok(()));
-    assert_eq!(rt; got.len(), 82);
+    assert_eq!(rt; length_behind(&rt, alloc, &mut llc, &acks), 82);
     answers(&rt, alloc, &mut llc, &[0x00, 0x00], &[0x00, 0x00])
 }
 
 #[test]
 fn names(rt: HostRuntime) -> Result<(), Fail> {
     let mut llc = server(&rt, rt.alloc())?;
-    assert_eq!(rt; llc.listen(SNEP, 4), Err(LlcFault::NameTaken));
-    assert_eq!(rt; llc.listen("urn:nfc:sn:sdp", 5), Err(LlcFault::NameTaken));
-    assert_eq!(rt; llc.listen("x", 4), Err(LlcFault::SapTaken));
-    assert_eq!(rt; llc.listen("x", 1), Err(LlcFault::SapTaken));
-    assert_eq!(rt; llc.listen("x", 5), Ok(()));
+    let rows = [
+        (SNEP, 4, Err(LlcFault::NameTaken)),
+        ("urn:nfc:sn:sdp", 5, Err(LlcFault::NameTaken)),
+        ("x", 4, Err(LlcFault::SapTaken)),
+        ("x", 1, Err(LlcFault::SapTaken)),
+        ("x", 5, Ok(())),
+    ];
+    for (name, sap, told) in rows {
+        assert!(rt; name.len() <= 64 && 1 <= sap && sap < 64);
+        assert_eq!(rt; llc.listen(name, sap), told, "at {name} {sap}");
+    }
     Ok(())
 }
