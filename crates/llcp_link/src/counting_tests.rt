@@ -33,14 +33,24 @@ fn gives(
     Ok(())
 }
 
-/// A server that three clients ask gives these payloads, one after the other, each by the number before it.
+/// It gives these payloads, one after the other, each by the number before it.
+fn gives_all(
+    rt: &impl Abort,
+    alloc: Global,
+    llc: &mut Llc<Notes>,
+    rows: &[(u32, &[u8])],
+) -> Result<(), Fail> {
+    for (count, payload) in rows {
+        gives(rt, alloc, llc, *count, payload)?;
+    }
+    Ok(())
+}
+
+/// A server that three clients ask does so.
 fn gives_three(rt: &impl Abort, alloc: Global, rows: &[(u32, &[u8])]) -> Result<(), Fail> {
     let mut llc = server(rt, alloc)?;
     assert_eq!(rt; llc.take(&THREE), Ok(()));
-    for (count, payload) in rows {
-        gives(rt, alloc, &mut llc, *count, payload)?;
-    }
-    Ok(())
+    gives_all(rt, alloc, &mut llc, rows)
 }
 
 #[test]
@@ -67,11 +77,16 @@ fn of_more_than_are_due_a_payload_has_all(rt: HostRuntime) -> Result<(), Fail> {
     gives_three(&rt, rt.alloc(), &[(7, &all), (7, &SYMM)])
 }
 
+/// A server that gives as many PDUs as these numbers say.
+fn counted(rt: &impl Abort, alloc: Global, numbers: &[u32]) -> Result<Counted<Notes>, Fail> {
+    let numbers = Vec::from_slice(alloc, numbers)?;
+    Ok(Counted::new(server(rt, alloc)?, Counts::new(numbers)))
+}
+
 #[test]
 fn payloads_have_the_given_numbers_and_then_as_many_as_fit(rt: HostRuntime) -> Result<(), Fail> {
     let alloc = rt.alloc();
-    let numbers = Vec::from_slice(alloc, &[1, 2])?;
-    let mut end = Counted::new(server(&rt, alloc)?, Counts::new(numbers));
+    let mut end = counted(&rt, alloc, &[1, 2])?;
     let rows: [(&[u8], &[u8]); 3] = [
         (&FIVE, &[0x81, 0x84]),
         (

@@ -9,7 +9,7 @@ use std::process::Abort;
 use std::test::Fail;
 
 /// One call at an end, or what two ends do with each other.
-#[derive(Clone, Copy, Debug)]
+#[derive(Clone, Copy)]
 enum Step {
     /// It asks for a connection from SAP 32 to SAP 4.
     Connect,
@@ -131,7 +131,7 @@ fn follows(
 ) -> Result<(), Fail> {
     for (at, (step, wanted)) in rows.iter().enumerate() {
         let text = told(rt, alloc, near, far, *step)?;
-        assert_eq!(rt; text.as_str(), *wanted, "at {at}, {step:?}");
+        assert_eq!(rt; text.as_str(), *wanted, "at row {at}");
     }
     Ok(())
 }

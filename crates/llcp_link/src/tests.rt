@@ -115,6 +115,12 @@ fn tell_answers(params: &[Param], told: &mut Vec<u8>) -> Result<(), AllocError> 
 /// What is handed to a new server, what waits then, and what its service noted.
 type Row<'a> = (&'a [&'a [u8]], &'a [u8], &'a [u8]);
 
+fn takes(rt: &impl Abort, llc: &mut Llc<Notes>, payloads: &[&[u8]]) {
+    for payload in payloads {
+        assert_eq!(rt; llc.take(payload), Ok(()), "at {payload:?}");
+    }
+}
+
 /// A server that is lent comes to what the row says.
 fn comes_to(
     rt: &impl Abort,
@@ -122,16 +128,10 @@ fn comes_to(
     llc: &mut Llc<Notes>,
     row: &Row<'_>,
 ) -> Result<(), Fail> {
-    let (payloads, answers, units) = row;
-    for payload in *payloads {
-        assert_eq!(rt; llc.take(payload), Ok(()), "at {payloads:?}");
-    }
-    assert_eq!(rt;
-        waiting(alloc, llc)?.as_slice(),
-        *answers,
-        "at {payloads:?}"
-    );
-    assert_eq!(rt; llc.service().units.as_slice(), *units, "at {payloads:?}");
+    let (payloads, answers, units) = *row;
+    takes(rt, llc, payloads);
+    assert_eq!(rt; waiting(alloc, llc)?.as_slice(), answers, "at {payloads:?}");
+    assert_eq!(rt; llc.as_service().units.as_slice(), units, "at {payloads:?}");
     Ok(())
 }
 
@@ -208,15 +208,19 @@ fn seventeen_come(rt: &impl Abort, llc: &mut Llc<Notes>) {
     assert_eq!(rt; llc.queue.len(), 16);
 }
 
-#[test]
-fn nine_clients_and_seventeen_answers(rt: HostRuntime) -> Result<(), Fail> {
-    let mut llc = server(&rt, rt.alloc())?;
-    nine_ask(&rt, &mut llc);
+/// The queue is full then, and a new link begins with none of this.
+fn fills_up(rt: &impl Abort, llc: &mut Llc<Notes>) {
+    nine_ask(rt, llc);
     llc.restart(&GENERAL);
-    seventeen_come(&rt, &mut llc);
+    seventeen_come(rt, llc);
     llc.restart(&[0x46, 0x66, 0x6D]);
     assert_eq!(rt; llc.take(&[0x11, 0x20]), Ok(()));
-    assert_eq!(rt; counts(&llc), (0, 0));
+    assert_eq!(rt; counts(llc), (0, 0));
+}
+
+#[test]
+fn nine_clients_and_seventeen_answers(rt: HostRuntime) -> Result<(), Fail> {
+    fills_up(&rt, &mut server(&rt, rt.alloc())?);
     Ok(())
 }
 
@@ -248,10 +252,15 @@ pub(crate) fn replies_by<A: Answerer>(
     Ok(())
 }
 
-#[test]
-fn replies(rt: HostRuntime) -> Result<(), Fail> {
-    let alloc = rt.alloc();
-    let mut llc = server(&rt, alloc)?;
+/// To general bytes that can't be read nothing is answered.
+fn answers_nothing(rt: &impl Abort, alloc: Global, llc: &mut Llc<Notes>) -> Result<(), Fail> {
+    llc.restart(&[0x46, 0x66, 0x6D]);
+    let rows: [(&[u8], &[u8]); 3] = [(&[0x11, 0x20], &[]), (&[0x00, 0x00], &[]), (&[0x11], &[])];
+    replies_by(rt, alloc, llc, &rows)
+}
+
+/// The replies of a new end at SAP 4, one after the other.
+fn replies_of(rt: &impl Abort, alloc: Global, llc: &mut Llc<Notes>) -> Result<(), Fail> {
     let rows: [(&[u8], &[u8]); 8] = [
         (&[0x11, 0x20, 0x05], &[0, 0]),
         (&[0x11], &[0, 0]),
@@ -268,11 +277,14 @@ fn replies(rt: HostRuntime) -> Result<(), Fail> {
         (&[0x13, 0x21, 0x00, 0xBB], &[0x87, 0x44, 0x01]),
         (&[0x13, 0x60, 0x01], &[0x81, 0xC4, 0x01]),
     ];
-    replies_by(&rt, alloc, &mut llc, &rows)?;
-    // to general bytes that can't be read nothing is answered
-    llc.restart(&[0x46, 0x66, 0x6D]);
-    let rows: [(&[u8], &[u8]); 3] = [(&[0x11, 0x20], &[]), (&[0x00, 0x00], &[]), (&[0x11], &[])];
-    replies_by(&rt, alloc, &mut llc, &rows)
+    replies_by(rt, alloc, llc, &rows)?;
+    answers_nothing(rt, alloc, llc)
+}
+
+#[test]
+fn replies(rt: HostRuntime) -> Result<(), Fail> {
+    let alloc = rt.alloc();
+    replies_of(&rt, alloc, &mut server(&rt, alloc)?)
 }
 
 /// A service that sends so many units, each its client's SAP.
@@ -381,36 +393,48 @@ fn seventeen(alloc: Global) -> Result<Vec<u8>, AllocError> {
     Ok(acks)
 }
 
-/// The length of the payload behind one that it takes.
-fn length_behind(rt: &impl Abort, alloc: Global, llc: &mut Llc<Notes>, payload: &[u8]) -> usize {
+/// Of these sixteen are answered in one payload, which takes 82 bytes.
+fn joins(rt: &impl Abort, alloc: Global, llc: &mut Llc<Notes>, payload: &[u8]) {
     let mut got = Vec::new(alloc);
     assert_eq!(rt; llc.take(payload), Ok(()));
     assert_eq!(rt; llc.give(0, &mut got), Ok(()));
-    got.len()
+    assert_eq!(rt; got.len(), 82);
+}
+
+fn joins_sixteen(rt: &impl Abort, alloc: Global, llc: &mut Llc<Notes>) -> Result<(), Fail> {
+    joins(rt, alloc, llc, &seventeen(alloc)?);
+    answers(rt, alloc, llc, &[0x00, 0x00], &[0x00, 0x00])
 }
 
 #[test]
 fn sixteen_answers_joined(rt: HostRuntime) -> Result<(), Fail> {
     let alloc = rt.alloc();
-    let acks = seventeen(alloc)?;
-    let mut llc = server(&rt, alloc)?;
-    assert_eq!(rt; length_behind(&rt, alloc, &mut llc, &acks), 82);
-    answers(&rt, alloc, &mut llc, &[0x00, 0x00], &[0x00, 0x00])
+    joins_sixteen(&rt, alloc, &mut server(&rt, alloc)?)
+}
+
+fn listens(rt: &impl Abort, llc: &mut Llc<Notes>, name: &str, sap: u8) -> Result<(), LlcFault> {
+    assert!(rt; name.len() <= 64);
+    assert!(rt; sap < 64);
+    llc.listen(name, sap)
+}
+
+fn binds(rt: &impl Abort, llc: &mut Llc<Notes>) {
+    let name_taken = Err(LlcFault::NameTaken);
+    let sap_taken = Err(LlcFault::SapTaken);
+    let rows = [
+        (SNEP, 4, name_taken),
+        ("urn:nfc:sn:sdp", 5, name_taken),
+        ("x", 4, sap_taken),
+        ("x", 1, sap_taken),
+        ("x", 5, Ok(())),
+    ];
+    for (name, sap, told) in rows {
+        assert_eq!(rt; listens(rt, llc, name, sap), told, "at {name} {sap}");
+    }
 }
 
 #[test]
 fn names(rt: HostRuntime) -> Result<(), Fail> {
-    let mut llc = server(&rt, rt.alloc())?;
-    let rows = [
-        (SNEP, 4, Err(LlcFault::NameTaken)),
-        ("urn:nfc:sn:sdp", 5, Err(LlcFault::NameTaken)),
-        ("x", 4, Err(LlcFault::SapTaken)),
-        ("x", 1, Err(LlcFault::SapTaken)),
-        ("x", 5, Ok(())),
-    ];
-    for (name, sap, told) in rows {
-        assert!(rt; name.len() <= 64 && 1 <= sap && sap < 64);
-        assert_eq!(rt; llc.listen(name, sap), told, "at {name} {sap}");
-    }
+    binds(&rt, &mut server(&rt, rt.alloc())?);
     Ok(())
 }
