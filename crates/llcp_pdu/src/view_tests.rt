@@ -1,7 +1,7 @@
 use crate::{
     ConnectParams, InnerWalk, ParamWalk, Pdu, PduFault, PduKind, PduRefusal, PduView, view,
 };
-use std::alloc::Global;
+use std::alloc::{AllocError, Global};
 use std::fmt::Write;
 use std::process::Abort;
 use std::test::Fail;
@@ -226,19 +226,18 @@ fn a_connect_is_heard_whole(rt: HostRuntime) -> Result<(), Fail> {
     Ok(())
 }
 
+/// What a view tells of a payload, with ample memory.
+fn told_in_place(alloc: Global, bytes: &[u8]) -> Result<Result<Pdu, PduFault>, AllocError> {
+    match view(bytes) {
+        Ok(seen) => Ok(Ok(Pdu::from_view(alloc, seen)?)),
+        Err(PduRefusal { place, kind }) => Ok(Err(PduFault::Refused { place, kind })),
+    }
+}
+
 /// The same answer in place and, with ample memory, copied.
 fn reads_alike(rt: &impl Abort, alloc: Global, bytes: &[u8]) -> Result<(), Fail> {
-    let read = Pdu::read_from(alloc, bytes);
-    match view(bytes) {
-        Ok(seen) => assert_eq!(rt; read, Ok(Pdu::from_view(alloc, seen)?), "at {bytes:?}"),
-        Err(PduRefusal { place, kind }) => {
-            assert_eq!(rt;
-                read,
-                Err(PduFault::Refused { place, kind }),
-                "at {bytes:?}"
-            );
-        }
-    }
+    let told = told_in_place(alloc, bytes)?;
+    assert_eq!(rt; Pdu::read_from(alloc, bytes), told, "at {bytes:?}");
     Ok(())
 }
 
