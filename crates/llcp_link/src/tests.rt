@@ -121,26 +121,27 @@ fn takes(rt: &impl Abort, llc: &mut Llc<Notes>, payloads: &[&[u8]]) {
     }
 }
 
-/// A server that is lent comes to what the row says.
+/// A server that is lent comes to what the row at this place says.
 fn comes_to(
     rt: &impl Abort,
     alloc: Global,
     llc: &mut Llc<Notes>,
     row: &Row<'_>,
+    at: usize,
 ) -> Result<(), Fail> {
     let (payloads, answers, units) = *row;
     takes(rt, llc, payloads);
-    assert_eq!(rt; waiting(alloc, llc)?.as_slice(), answers, "at {payloads:?}");
-    assert_eq!(rt; llc.as_service().units.as_slice(), units, "at {payloads:?}");
+    assert_eq!(rt; waiting(alloc, llc)?.as_slice(), answers, "in row {at}");
+    assert_eq!(rt; llc.as_service().units.as_slice(), units, "in row {at}");
     Ok(())
 }
 
 /// A new server comes to what each row says.
 fn brings(rt: &impl Abort, alloc: Global, rows: &[Row<'_>]) -> Result<(), Fail> {
-    for row in rows {
+    for (at, row) in rows.iter().enumerate() {
         let mut llc = server(rt, alloc)?;
         llc.restart(&GENERAL);
-        comes_to(rt, alloc, &mut llc, row)?;
+        comes_to(rt, alloc, &mut llc, row, at)?;
     }
     Ok(())
 }
@@ -192,7 +193,7 @@ fn counts(llc: &Llc<Notes>) -> (usize, usize) {
     (llc.queue.len(), llc.served.len())
 }
 
-/// Nine clients ask for connections.
+/// Nine clients ask for connections; eight have one then.
 fn nine_ask(rt: &impl Abort, llc: &mut Llc<Notes>) {
     for client in 32..41u8 {
         assert_eq!(rt; llc.take(&[0x11, client]), Ok(()));
@@ -200,7 +201,7 @@ fn nine_ask(rt: &impl Abort, llc: &mut Llc<Notes>) {
     assert_eq!(rt; counts(llc), (9, 8));
 }
 
-/// Seventeen PDUs come that a DM answers.
+/// Seventeen PDUs come, each of which a DM answers; sixteen answers wait then.
 fn seventeen_come(rt: &impl Abort, llc: &mut Llc<Notes>) {
     for _ in 0..17 {
         assert_eq!(rt; llc.take(&[0x13, 0x60, 0x00]), Ok(()));
@@ -384,7 +385,7 @@ fn units_of_three_clients_and_their_windows(rt: HostRuntime) -> Result<(), Fail>
     replies_by(&rt, alloc, &mut sending_server(&rt, alloc, 5)?, &rows)
 }
 
-/// An AGF of seventeen PDUs that a DM answers.
+/// An AGF of seventeen PDUs, each of which a DM answers.
 fn seventeen(alloc: Global) -> Result<Vec<u8>, AllocError> {
     let mut acks = Vec::from_slice(alloc, &[0x00, 0x80])?;
     for _ in 0..17 {
@@ -393,7 +394,7 @@ fn seventeen(alloc: Global) -> Result<Vec<u8>, AllocError> {
     Ok(acks)
 }
 
-/// Of these sixteen are answered in one payload, which takes 82 bytes.
+/// Sixteen of them are answered in one payload of 82 bytes.
 fn joins(rt: &impl Abort, alloc: Global, llc: &mut Llc<Notes>, payload: &[u8]) {
     let mut got = Vec::new(alloc);
     assert_eq!(rt; llc.take(payload), Ok(()));

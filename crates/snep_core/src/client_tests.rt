@@ -8,7 +8,7 @@ use arrayvec::ArrayVec;
 use llcp_link::{Counts, Llc};
 use llcp_pdu::LinkParams;
 use nfc_base::{Answerer, Carrier, EndCause, Items, LinkEnd, Mute};
-use std::alloc::Global;
+use std::alloc::{AllocError, Global};
 use std::fmt::Write;
 use std::process::Abort;
 use std::test::Fail;
@@ -210,18 +210,23 @@ fn is_all(bytes: &[u8], one: u8) -> bool {
     true
 }
 
-/// Bytes in hexadecimal, many equal ones as "300 of 09".
-fn written(alloc: Global, bytes: &[u8]) -> Result<String, Fail> {
-    if let [first, _, ..] = bytes
-        && is_all(bytes, *first)
-    {
-        return Ok(format!(in alloc; "{} of {first:02X}", bytes.len())?);
-    }
+fn in_hex(alloc: Global, bytes: &[u8]) -> Result<String, Fail> {
     let mut text = String::new(alloc);
     for byte in bytes {
         write!(text, "{byte:02X}")?;
     }
     Ok(text)
+}
+
+/// Bytes in hexadecimal, many equal ones as "300 of 09".
+fn written(alloc: Global, bytes: &[u8]) -> Result<String, Fail> {
+    match bytes {
+        [first, _, ..] if is_all(bytes, *first) => Ok(format!(in alloc;
+            "{} of {first:02X}",
+            bytes.len()
+        )?),
+        _ => in_hex(alloc, bytes),
+    }
 }
 
 fn written_at(alloc: Global, all: &[Items<u8>], place: usize) -> Result<String, Fail> {
@@ -238,10 +243,9 @@ fn looked_up(
     link: &mut Straight,
     far: &mut Llc<Server>,
     name: &str,
-) -> Result<String, Fail> {
+) -> Result<u8, SnepFault> {
     assert!(rt; name.len() <= 64);
-    let told = client.lookup(link, far, Counts::most(alloc), name);
-    Ok(format!(in alloc; "{told:?}")?)
+    client.lookup(link, far, Counts::most(alloc), name)
 }
 
 fn put(
@@ -251,10 +255,9 @@ fn put(
     link: &mut Straight,
     far: &mut Llc<Server>,
     message: &[u8],
-) -> Result<String, Fail> {
+) -> Result<(), SnepFault> {
     assert!(rt; message.len() <= 65536);
-    let told = client.put(link, far, Counts::most(alloc), message);
-    Ok(format!(in alloc; "{told:?}")?)
+    client.put(link, far, Counts::most(alloc), message)
 }
 
 fn got(
@@ -265,33 +268,30 @@ fn got(
     far: &mut Llc<Server>,
     most: u32,
     key: &[u8],
-) -> Result<String, Fail> {
+) -> Result<Vec<u8>, SnepFault> {
     assert!(rt; key.len() <= 65536);
-    match client.get(link, far, Counts::most(alloc), most, key) {
+    client.get(link, far, Counts::most(alloc), most, key)
+}
+
+/// A value, or why there is none.
+fn written_value(alloc: Global, got: Result<Vec<u8>, SnepFault>) -> Result<String, Fail> {
+    match got {
         Ok(value) => written(alloc, &value),
         Err(fault) => Ok(format!(in alloc; "{fault:?}")?),
     }
 }
 
-fn closed(
-    alloc: Global,
-    client: &mut Client,
-    link: &mut Straight,
-    far: &mut Llc<Server>,
-) -> Result<String, Fail> {
-    let told = client.close(link, far, Counts::most(alloc));
-    Ok(format!(in alloc; "{told:?}")?)
-}
-
 fn offered(
     rt: &impl Abort,
-    alloc: Global,
     far: &mut Llc<Server>,
     key: &[u8],
     value: &[u8],
-) -> Result<String, Fail> {
+) -> Result<(), AllocError> {
     assert!(rt; value.len() <= 65536);
-    let told = far.service().offer(key, value);
+    far.service().offer(key, value)
+}
+
+fn done(alloc: Global, told: Result<(), SnepFault>) -> Result<String, Fail> {
     Ok(format!(in alloc; "{told:?}")?)
 }
 
@@ -305,12 +305,15 @@ fn told(
     step: Step,
 ) -> Result<String, Fail> {
     match step {
-        Step::Lookup(name) => looked_up(rt, alloc, client, link, far, name),
+        Step::Lookup(name) => {
+            let sap = looked_up(rt, alloc, client, link, far, name);
+            Ok(format!(in alloc; "{sap:?}")?)
+        }
         Step::Connect => Ok(format!(in alloc; "{:?}", client.llc.connect(4))?),
-        Step::Put(message) => put(rt, alloc, client, link, far, message),
-        Step::Get(most, key) => got(rt, alloc, client, link, far, most, key),
-        Step::Close => closed(alloc, client, link, far),
-        Step::Offer(key, value) => offered(rt, alloc, far, key, value),
+        Step::Put(message) => done(alloc, put(rt, alloc, client, link, far, message)),
+        Step::Get(most, key) => written_value(alloc, got(rt, alloc, client, link, far, most, key)),
+        Step::Close => done(alloc, client.close(link, far, Counts::most(alloc))),
+        Step::Offer(key, value) => Ok(format!(in alloc; "{:?}", offered(rt, far, key, value))?),
         Step::Handed => Ok(format!(in alloc; "{}", link.handed.len())?),
         Step::Payload(place) => written_at(alloc, link.handed.as_slice(), place),
         Step::Accepted => Ok(format!(in alloc; "{}", far.as_service().accepted().len())?),
@@ -406,7 +409,6 @@ fn causes(
 #[test]
 fn a_link_that_is_over_is_told_by_its_cause(rt: HostRuntime) -> Result<(), Fail> {
     let alloc = rt.alloc();
-    causes(&rt, alloc, &mut client(alloc), &mut peer(&rt, alloc)?)?;
     assert_eq!(rt; SnepFault::BadPeer.number(), 7);
-    Ok(())
+    causes(&rt, alloc, &mut client(alloc), &mut peer(&rt, alloc)?)
 }

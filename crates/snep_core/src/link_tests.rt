@@ -54,6 +54,20 @@ fn replies_by(
     Ok(())
 }
 
+/// The same, and then its server has one message from each of these clients.
+fn accepts_from(
+    rt: &impl Abort,
+    alloc: Global,
+    llc: &mut Llc<Server>,
+    rows: &[(&[u8], &[u8])],
+    clients: &[u8],
+) -> Result<(), Fail> {
+    replies_by(rt, alloc, llc, rows)?;
+    assert_eq!(rt; llc.as_service().accepted().len(), clients.len());
+    assert_eq!(rt; llc.as_service().sources(), clients);
+    Ok(())
+}
+
 const CONNECT: &[u8] = &[0x11, 0x20];
 
 const CC: &[u8] = &[0x81, 0x84];
@@ -114,7 +128,6 @@ fn a_put_of_1024_bytes_goes_in_nine_units(rt: HostRuntime) -> Result<(), Fail> {
 fn a_put_of_1025_bytes_is_rejected(rt: HostRuntime) -> Result<(), Fail> {
     let alloc = rt.alloc();
     let first = first_unit(alloc, 4, 1)?;
-    let mut llc = peer(&rt, alloc)?;
     let rows: [(&[u8], &[u8]); 3] = [
         (CONNECT, CC),
         (&first, &[0x83, 0x04, 0x01, 0x10, 0xFF, 0, 0, 0, 0]),
@@ -123,9 +136,14 @@ fn a_put_of_1025_bytes_is_rejected(rt: HostRuntime) -> Result<(), Fail> {
             &[0x83, 0x04, 0x12, 0x10, 0x81, 0, 0, 0, 0],
         ),
     ];
-    replies_by(&rt, alloc, &mut llc, &rows)?;
-    assert_eq!(rt; llc.as_service().accepted().len(), 1);
-    Ok(())
+    accepts_from(&rt, alloc, &mut peer(&rt, alloc)?, &rows, &[32])
+}
+
+/// An end whose server has 130 nines under the empty key.
+fn with_nines(rt: &impl Abort, alloc: Global) -> Result<Llc<Server>, Fail> {
+    let mut llc = peer(rt, alloc)?;
+    llc.service().offer(&[], &[9; 130])?;
+    Ok(llc)
 }
 
 /// The first unit of a value of 130 nines.
@@ -151,15 +169,12 @@ fn a_get_and_its_continue_in_one_payload(rt: HostRuntime) -> Result<(), Fail> {
             &[0x83, 0x04, 0x12, 9, 9, 9, 9, 9, 9, 9, 9],
         ),
     ];
-    let mut llc = peer(&rt, alloc)?;
-    llc.service().offer(&[], &[9; 130])?;
-    replies_by(&rt, alloc, &mut llc, &rows)
+    replies_by(&rt, alloc, &mut with_nines(&rt, alloc)?, &rows)
 }
 
 #[test]
 fn clients_put_one_after_the_other(rt: HostRuntime) -> Result<(), Fail> {
     let alloc = rt.alloc();
-    let mut llc = peer(&rt, alloc)?;
     let rows: [(&[u8], &[u8]); 3] = [
         (
             &[0x00, 0x80, 0x00, 0x02, 0x11, 0x20, 0x00, 0x02, 0x11, 0x21],
@@ -174,7 +189,5 @@ fn clients_put_one_after_the_other(rt: HostRuntime) -> Result<(), Fail> {
             &[0x83, 0x04, 0x01, 0x10, 0x81, 0, 0, 0, 0],
         ),
     ];
-    replies_by(&rt, alloc, &mut llc, &rows)?;
-    assert_eq!(rt; llc.as_service().sources(), [33u8, 32].as_slice());
-    Ok(())
+    accepts_from(&rt, alloc, &mut peer(&rt, alloc)?, &rows, &[33, 32])
 }
