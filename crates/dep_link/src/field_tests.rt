@@ -235,29 +235,33 @@ fn went(rt: &impl Abort, events: &[Event], frames: &[&[u8]]) {
     }
 }
 
+/// A link is made, two payloads are swapped, and it is released.
+fn talk(
+    rt: &impl Abort,
+    alloc: Global,
+    field: &mut Field<Phone>,
+    far: &mut Desk,
+) -> Result<(), Fail>
+    requires { (bytes : List ℕ) → HasTarget ⟦<Phone as Listener>⟧ (λ l. l.target) field.old bytes }
+{
+    let (mut initiator, general) = activate(field, OWN, far)?;
+    assert_eq!(rt; general.as_slice(), PHONES);
+    let mut pair = DepPair::on(field, &mut initiator);
+    let connected = pair.swap(alloc, &CONNECT, far)?;
+    assert_eq!(rt; connected.as_slice(), CC.as_slice());
+    let put = pair.swap(alloc, &PUT, far)?;
+    assert_eq!(rt; put.as_slice(), DONE.as_slice());
+    release(pair, far)?;
+    assert_eq!(rt; (far.links, far.swaps), (1, 2));
+    Ok(())
+}
+
 #[test]
 fn payloads_come_through_noise(rt: HostRuntime) -> Result<(), Fail> {
+    use Fate::{Damage, Lose, Pass};
     let alloc = rt.alloc();
-    let mut far = new_desk();
-    let fates = [
-        Fate::Lose,
-        Fate::Pass,
-        Fate::Pass,
-        Fate::Pass,
-        Fate::Pass,
-        Fate::Pass,
-        Fate::Damage,
-    ];
-    let mut field = met(alloc, &fates)?;
-    let (mut initiator, general) = activate(&mut field, OWN, &mut far)?;
-    assert_eq!(rt; general.as_slice(), PHONES);
-    let mut pair = DepPair::on(&mut field, &mut initiator);
-    let connected = pair.swap(alloc, &CONNECT, &mut far)?;
-    assert_eq!(rt; connected.as_slice(), CC.as_slice());
-    let put = pair.swap(alloc, &PUT, &mut far)?;
-    assert_eq!(rt; put.as_slice(), DONE.as_slice());
-    release(pair, &mut far)?;
-    assert_eq!(rt; (far.links, far.swaps), (1, 2));
+    let mut field = met(alloc, &[Lose, Pass, Pass, Pass, Pass, Pass, Damage])?;
+    talk(&rt, alloc, &mut field, &mut new_desk())?;
     let frames: [&[u8]; 13] = [
         ATR_REQ,
         ATR_RES,
