@@ -1,14 +1,25 @@
 -- What a dump tells: its text spells a memory, and the memory holds a message, or none for a cause (NFC Forum Type 2 Tag).
-use Rattle.std.specs.Prelude.{◌≡◌, ℕ, ◌<◌, ◌⊎◌, List, length, filter, not, Result, Ok, Err, IsErr}
+use Rattle.std.specs.Prelude.{◌+◌, ◌≡◌, ℕ, ◌<◌, ◌⊎◌, List, length, filter, not, Result, Ok, Err, IsErr}
 use Rattle.std.specs.Char.{is_ascii_whitespace}
 use Rattle.hex.specs.Hex.{decode_of}
 use Rattle.tlv_area.specs.declared.space.Space.{Space}
 use Rattle.tlv_area.specs.declared.container.ContainerFault.{ContainerFault}
-use Rattle.tlv_area.specs.Containers.{t2_container}
+use Rattle.tlv_area.specs.Containers.{t2_container, container_fault_number}
 use Rattle.tlv_area.specs.Form.{Faulty, NoMessageTlv, BadTlv as BadForm, NeedsMore}
 use Rattle.tlv_area.specs.Stores.{IsT2Form, four_bytes}
 use Rattle.dump_message.specs.declared.dump.DumpFault.{DumpFault}
-use Rattle.dump_message.specs.declared.dump.DumpFault.TheVariants.{NotHex, Memory, Short, Container, NoMessage, BadTlv}
+use Rattle.dump_message.specs.declared.dump.DumpFault.TheVariants.{NotHex, Unread, Unwritten, Memory, Short, Container, NoMessage, BadTlv}
+
+-- the exit status of a refusal
+abbrev pub status_of : DumpFault → ℕ
+status_of NotHex = 2
+status_of Unread = 3
+status_of Unwritten = 4
+status_of Memory = 5
+status_of Short = 6
+status_of NoMessage = 7
+status_of BadTlv = 8
+status_of (Container fault) = 10 + container_fault_number fault
 
 -- a text without its white space
 abbrev pub digits : List ℕ → List ℕ

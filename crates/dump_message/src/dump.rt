@@ -5,7 +5,7 @@ ghost use Rattle.std.specs.String.{string_bytes};
 ghost use Rattle.hex.specs.Hex.{encode_upper};
 ghost use Rattle.tlv_area.specs.Form.{Message};
 ghost use Rattle.tlv_area.specs.Stores.{IsT2Form};
-ghost use Rattle.dump_message.specs.Dump.{Spells, RefusesText, RefusesMemory, RefusesDump};
+ghost use Rattle.dump_message.specs.Dump.{Spells, RefusesText, RefusesMemory, RefusesDump, status_of};
 
 use std::alloc::Global;
 use thiserror::Error;
@@ -34,7 +34,9 @@ pub enum DumpFault {
 
 impl DumpFault {
     /// The exit status.
-    pub fn status(&self) -> u8 {
+    pub fn status(&self) -> u8
+        ensures { result ≡ status_of self.now }
+    {
         match self {
             DumpFault::NotHex => 2,
             DumpFault::Unread => 3,
