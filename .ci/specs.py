@@ -5,6 +5,7 @@ the same name, where its own definition binds it by `(NAME : ..)` or on the left
 """
 
 import re
+from itertools import takewhile
 from pathlib import Path
 
 ROOT = Path(__file__).resolve().parent.parent
@@ -14,6 +15,7 @@ WORDS = re.compile(rf"{NAME}(?:\.{NAME})*")
 HEAD = re.compile(rf"((?:abbrev|unfoldable|opaque|pub|record|data) )*({NAME})")
 BOUND = re.compile(r"[({]([^(){}:=]+) : ")
 CONSTRUCTOR = re.compile(r"\s+([A-Z][\w']*) :")
+TYPE = r"^(?:pub(?:\([a-z ]+\))? )?(?:(trait) {0}\b.*?^}}|(?:struct|enum) {0}\b.*?(?:;$|^}}|}}$))"
 IMPORT = re.compile(rf"^(?:pub |ghost )?use Rattle\.([\w.]+?)(?:\.\{{([^}}]*)\}})?(?: as ({NAME}))?;?$", re.M)
 
 
@@ -62,21 +64,23 @@ class SpecFile:
         self.read()
 
     def read(self):
-        """Each line belongs to the definition that the last line at the margin names. Behind `module` the margin is two wide."""
-        now, margin, shared = None, 0, set()
+        """Each line belongs to the definition that the last line at the margin names. Behind `module` the margin is two wider."""
+        now, modules = None, [(0, set())]
         for line in self.text.split("\n"):
-            if not line.strip() or line.lstrip().startswith("--") or line.startswith(("use ", "pub use ", "pub mod ")):
+            bare = line.lstrip()
+            if not bare or bare.startswith("--") or line.startswith(("use ", "pub use ", "pub mod ")):
                 continue
-            if line.startswith("module "):
-                now, margin, shared = None, 2, set(WORDS.findall(line))
+            indent = len(line) - len(bare)
+            while indent < modules[-1][0]:
+                modules.pop()
+            if bare.startswith("module "):
+                now = None
+                modules.append((indent + 2, set(WORDS.findall(line)) | modules[-1][1]))
                 continue
-            indent = len(line) - len(line.lstrip())
-            head = HEAD.match(line.lstrip())
-            if head and indent == 0:
-                margin, shared = 0, set()
-            if head and indent == margin:
+            head = HEAD.match(bare)
+            if head and indent == modules[-1][0]:
                 now = self.definitions.setdefault(head.group(2), Definition(self.path, head.group(2)))
-                now.words |= shared
+                now.words |= modules[-1][1]
             if now:
                 now.add(line)
                 made = CONSTRUCTOR.match(line)
@@ -85,20 +89,14 @@ class SpecFile:
 
     def first_comment(self):
         """The comment that the file begins with, as one text."""
-        lines = []
-        for line in self.text.split("\n"):
-            if not line.startswith("--"):
-                break
-            lines.append(line[2:].strip())
-        return " ".join(lines)
+        return " ".join(line[2:].strip() for line in takewhile(lambda line: line.startswith("--"), self.text.split("\n")))
 
 
 class Specs:
     """All files, read when they are asked for."""
 
     def __init__(self):
-        self.files = {}
-        self.types = {}
+        self.files, self.types = {}, {}
 
     def file(self, path):
         if path not in self.files:
@@ -106,15 +104,16 @@ class Specs:
         return self.files[path]
 
     def type_of_code(self, module):
-        """The struct or enum that `specs.declared` shows: its lines in src/. What it names isn't followed."""
+        """The struct or enum that `specs.declared` shows, by its lines in src/, or the ghosts of a trait. What it names isn't followed."""
         crate, way = module.split(".specs.declared.")
         *folders, kind = way.removesuffix(".TheVariants").split(".")
         path = CRATES / crate / "src" / ("/".join(folders) + ".rt" if folders else "lib.rt")
         if (path, kind) not in self.types:
             one = Definition(path, kind)
             text = path.read_text() if path.exists() else ""
-            found = re.search(rf"^pub(?:\([a-z ]+\))? (?:struct|enum) {kind}\b.*?(?:;$|^}}|\}}$)", text, re.M | re.S)
-            one.lines = [line for line in (found.group(0) if found else "").split("\n") if line.strip() and "//" not in line]
+            found = re.search(TYPE.format(kind), text, re.M | re.S)
+            lines = found.group(0).split("\n") if found else []
+            one.lines = [line for line in lines if line.strip() and "//" not in line and ("ghost " in line or not found.group(1))]
             self.types[path, kind] = one
         return self.types[path, kind]
 
