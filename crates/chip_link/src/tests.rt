@@ -91,30 +91,64 @@ fn a_recorded_write(rt: HostRuntime) -> Result<(), Fail> {
     Ok(())
 }
 
-/// Reads a device a command at a time: `read` goes over the answers so far, and `last` is the command to send next.
-#[test]
-fn a_device_that_is_driven(rt: HostRuntime) -> Result<(), Fail> {
-    let alloc = rt.alloc();
+/// A device that holds the message.
+fn device(alloc: Global) -> Result<T2Tag, Fail> {
     let mut store = hex::decode(alloc, CONTAINER)?;
     store.extend_from_slice(&hex::decode(alloc, MESSAGE)?)?;
     store.resize(64, 0)?;
-    let mut device = T2Tag::new(store)?;
+    Ok(T2Tag::new(store)?)
+}
+
+/// Sends the command that comes next, and puts its answer behind the others.
+fn go_on(
+    device: &mut T2Tag,
+    heard: &ChipLink<Recorded>,
+    answers: &mut Vec<Frame>,
+) -> Result<(), Fail> {
+    if let Some(command) = heard.last()
+        && let Some(answer) = device.obey(&command)
+    {
+        answers.push(answer)?;
+    }
+    Ok(())
+}
+
+/// A device is read a command at a time: `read` goes over the answers so far, and `last` is the command to send next.
+#[test]
+fn a_device_that_is_driven(rt: HostRuntime) -> Result<(), Fail> {
+    let alloc = rt.alloc();
+    let mut device = device(alloc)?;
     let mut answers = Vec::new(alloc);
     for _ in 0..3 {
         let mut heard = link(alloc, answers.clone()?);
-        match read(alloc, &mut heard, How::T2) {
-            Err(ReadFault::SixBad) => {}
-            told => {
-                assert!(rt; told?.message.as_slice() == [0xD0, 0, 0].as_slice());
-                return Ok(());
-            }
+        let told = read(alloc, &mut heard, How::T2);
+        if !matches!(told, Err(ReadFault::SixBad)) {
+            assert!(rt; told?.message.as_slice() == [0xD0, 0, 0].as_slice());
+            return Ok(());
         }
-        let Some(command) = heard.last() else { break };
-        let Some(answer) = device.obey(&command) else {
-            break
-        };
-        answers.push(answer)?;
+        go_on(&mut device, &heard, &mut answers)?;
     }
     assert!(rt; false, "three readings tell no message");
+    Ok(())
+}
+
+/// A write likewise.
+#[test]
+fn a_write_that_is_driven(rt: HostRuntime) -> Result<(), Fail> {
+    let alloc = rt.alloc();
+    let mut device = device(alloc)?;
+    let mut answers = Vec::new(alloc);
+    for _ in 0..8 {
+        let mut heard = link(alloc, answers.clone()?);
+        let told = write(alloc, &mut heard, How::T2, &[0xD1, 1, 1, 0x54, 1]);
+        if !matches!(told, Err(WriteFault::SixBad)) {
+            assert!(rt; told.is_ok());
+            let held = device.store().get(16..23);
+            assert!(rt; held == Some([3, 5, 0xD1, 1, 1, 0x54, 1].as_slice()));
+            return Ok(());
+        }
+        go_on(&mut device, &heard, &mut answers)?;
+    }
+    assert!(rt; false, "eight writes tell nothing");
     Ok(())
 }
