@@ -84,7 +84,7 @@ def breaks_law(link):
     """Whether the peer accepted on a link what it must not, or not what was told."""
     fitting = [message for message, _ in link.puts if len(message) <= LIMIT]
     told = [message for message, answer in link.puts if answer == "success"]
-    if not (is_prefix(link.accepted, fitting) and is_first(told, link.accepted)):
+    if not (is_prefix(link.accepted, fitting) and is_prefix(told, link.accepted)):
         return True
     if len(link.accepted) == len(told):
         return False
