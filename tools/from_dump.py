@@ -390,14 +390,19 @@ def t5_words(dump, ident, block_size):
     return [shown(t5_ident(ident)), count, size, shown(without_zeros(dump.memory))]
 
 
-def words_of(words):
-    parser = argparse.ArgumentParser(description="Makes the place line of a script from a dump of a tag.")
+def add_words(parser):
+    """The words that the tool takes."""
     parser.add_argument("dump", nargs="?", default="-", help="the dump; standard input where none is named")
     parser.add_argument("--type", choices=("t2", "t4", "t5"), help="the tag's type, needed for raw and hexadecimal")
     parser.add_argument("--id", help="the identifier, hexadecimal; of Type 5 high byte first")
     parser.add_argument("--block-size", type=int, help="Type 5: bytes of a block, 4 where not given")
     parser.add_argument("--code", type=int, default=MOST_CODE, help="Type 4: the size code, 8 where not given")
     parser.add_argument("--container", help="Type 4: the capability container, hexadecimal")
+
+
+def words_of(words):
+    parser = argparse.ArgumentParser(description="Makes the place line of a script from a dump of a tag.")
+    add_words(parser)
     return parser.parse_args(words)
 
 

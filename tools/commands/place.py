@@ -1,0 +1,19 @@
+"""makes the `place` line of a script from a dump of a real tag
+
+    python3 tools/nfc.py place [DUMP]
+"""
+
+from __future__ import annotations
+
+import from_dump
+from commands.given import BadInput, Words
+
+
+def main(words: list[str]) -> int:
+    parser = Words("place", __doc__)
+    from_dump.add_words(parser)
+    try:
+        from_dump.run(parser.parse_args(words))
+    except from_dump.DumpError as problem:
+        raise BadInput(str(problem)) from None
+    return 0
