@@ -296,7 +296,7 @@ const drawLadder = (() => {
 
   function column(x, step, text, className) {
     const made = svg("text", { x, y: 14, class: className, "text-anchor": "middle" });
-    const width = Math.max(2, Math.floor(step / 7.2));
+    const width = Math.max(2, Math.min(text.length <= 10 ? 10 : 8, Math.floor(step / 7.2)));
     for (let start = 0, place = 0; start < text.length && place < 3; start += width, place += 1) {
       const piece = svg("tspan", { x, dy: place ? 13 : 0 });
       piece.textContent = text.slice(start, start + width);

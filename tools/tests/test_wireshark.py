@@ -21,13 +21,15 @@ REPORTS = ("examples/*.stdout", "tests/cases/written-by-hand/*.stdout", "tests/c
 FIELDS = (
     "frame.comment _ws.col.Info nfc_forum.line nfc_forum.fate nfc_forum.sdd.known_bits nfc_forum.common_bits "
     "nfc_dep.pni nfc_dep.again llcp.ptype llcp.ssap llcp.dsap llcp.ns llcp.nr llcp.miu llcp.sn snep.code snep.length "
-    "snep.missing _ws.expert.message t2t.command t2t.block t2t.answer t5t.command t5t.block t5t.uid t5t.error iso14443.event"
+    "snep.missing _ws.expert.message t2t.command t2t.block t2t.answer t5t.command t5t.block t5t.uid t5t.error"
 ).split()
 
 PDU = re.compile(r"\b(SYMM|SNL|AGF)\b|\b(UI|CONNECT|DISC|CC|DM|FRMR|I|RR|RNR) from (\d+) to (\d+)")
 FIXED = {"SYMM": (llcp.SYMM, 0, 0), "SNL": (llcp.SNL, 1, 1), "AGF": (llcp.AGF, 0, 0)}
 TYPES = {name: kind for kind, name in llcp.NAMES.items()}
-MESSAGE = re.compile(r"SNEP \d\.\d ([A-Z ]+), (\d+) bytes?(?:, (\d+) of them here)?|SNEP, .*? more, (\d+) bytes? to come")
+MESSAGE = re.compile(
+    r"SNEP \d\.\d ([A-Z ]+), (\d+) bytes?(?:, (\d+) of them here)?|SNEP, .*? more, (\d+) bytes? to come"
+)
 
 
 def is_installed() -> bool:
@@ -101,8 +103,8 @@ class Reports(unittest.TestCase):
                 self.compared(field, lambda comment: [int(number) for number in re.findall(pattern, comment)], least)
 
     def test_each_clash_has_its_common_bits(self):
-        told = lambda comment: [int(count or 0) for count in re.findall(r"clash (?:behind (\d+)|at the first)", comment)]
-        self.compared("nfc_forum.common_bits", told, 20)
+        counts = lambda comment: re.findall(r"clash (?:behind (\d+)|at the first)", comment)
+        self.compared("nfc_forum.common_bits", lambda comment: [int(count or 0) for count in counts(comment)], 20)
 
     def test_each_pdu_has_its_type_and_access_points(self):
         for place, field in enumerate(("llcp.ptype", "llcp.ssap", "llcp.dsap")):
@@ -171,8 +173,8 @@ class Frames(unittest.TestCase):
         self.assertEqual((packet["llcp.miu"], packet["llcp.sn"]), (["1151"], [name.decode()]))
 
     def test_frames_of_type_5(self):
-        report = ("1 > 222106050403020104E00711223344 pass", "1 < 0110 pass", "1 > 0230FF01 pass", "1 < 0001020304 pass")
-        write, refused, read, _ = shown(to_pcap.convert(report))
+        turns = ("> 222106050403020104E00711223344", "< 0110", "> 0230FF01", "< 0001020304")
+        write, refused, read, _ = shown(to_pcap.convert(f"1 {turn} pass" for turn in turns))
         self.assertEqual((write["t5t.command"], write["t5t.block"]), (["0x21"], ["7"]))
         self.assertEqual((write["t5t.uid"], refused["t5t.error"]), (["E004010203040506"], ["0x10"]))
         self.assertEqual((read["t5t.command"], read["t5t.block"], read["t5t.uid"]), (["0x30"], ["511"], []))
