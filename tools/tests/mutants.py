@@ -3,14 +3,25 @@
 from __future__ import annotations
 
 import random
+import re
 from typing import Callable, Iterable
 
 from script.grammar import FIRST_WORDS, IN_ORDER
+from script.kinds import Kind, Number, OneOf
 
 IDS = ("01020304", "88020304", "04112233445566", "04112288445566", "0A112233445566778899", "E004010203040506", "08010203")
 NUMBERS = (0, 1, 2, 3, 4, 5, 6, 8, 9, 15, 16, 17, 31, 32, 33, 59, 60, 127, 128, 255, 256, 257, 1023, 1024, 2047, 2048,
            2049, 2175, 2176, 16384, 16385, 32767, 65535, 65536, 65537)  # fmt: skip
 BYTES = (b" ", b"\t", b"\r", b"\0", b"\x7f", b"\xc3\xa4", b"#", b"-", b":", b"+", b"x", b"0", b"F", b"g", b"~")
+CONTAINER = "000F20003B00340406E1{}{:04X}0000{}"
+WORDS = {
+    "HEX": ("-", "00", "0fF0", "ABC", "00" * 40, "000000000000000000000000E1100600")
+    + tuple(CONTAINER.format(*word) for word in (("04", 0, ""), ("04", 50, "FF"), ("03", 9, ""), ("04", 0x7FFF, ""),
+                                                ("04", 0x8000, ""), ("05", 9, "00" * 49), ("05", 9, "00" * 50))),
+    "MSG": ("-", "D00000", "gen:65536:255", "gen:65537:0", "gen:0:256", "gen:1", "gen:01:2", "gen:2:2:2", "gen:3:4"),
+    "NAME": ("urn:nfc:sn:sdp", "a", "~" * 64, "~" * 65, "-"),
+    "FATES": ("P", "PDLB", "-", "p", "P" * 4000, "P" * 4001),
+}  # fmt: skip
 CONTAINER_PLACES = (9, 10, 11, 12, 13, 14)
 CONTAINER_BYTES = ("00", "01", "06", "0C", "0D", "3E", "3F", "7E", "7F", "80", "E1", "E2", "03", "FF")
 
@@ -142,21 +153,21 @@ def moved_lines(chance: random.Random, lines: Lines) -> None:
 def made_line(chance: random.Random, lines: Lines) -> None:
     """A line as the grammar makes it, with words at their limits, stands somewhere."""
     command = chance.choice(IN_ORDER)
-    told = [one_word(chance, kind.name, lines) for kind in command.kinds]
+    told = [one_word(chance, kind, lines) for kind in command.kinds]
     lines.insert(chance.randrange(len(lines) + 1), " ".join([command.name] + told).encode())
 
 
-def one_word(chance: random.Random, name: str, lines: Lines) -> str:
-    if name == "ID":
-        placed = [line.split(b" ")[2].decode("latin-1") for line in lines if line.startswith(b"place ") and line.count(b" ") > 2]
-        return chance.choice(placed * 3 + list(IDS))
-    made = {
-        "HEX": ("-", "00", "0fF0", "000F20003B00340406E104000A0000", "ABC", "00" * chance.randrange(1, 80)),
-        "MSG": ("-", "D00000", f"gen:{chance.choice(NUMBERS)}:{chance.choice(NUMBERS)}", "gen:1", "gen:01:2", "gen:2:2:2"),
-        "NAME": ("urn:nfc:sn:sdp", "a", "~" * 64, "~" * 65, "-"),
-        "FATES": ("P", "PDLB", "-", "p", "P" * 4000, "P" * 4001),
-    }
-    return chance.choice(made.get(name, tuple(map(str, NUMBERS))))
+def one_word(chance: random.Random, kind: Kind, lines: Lines) -> str:
+    """A word of this kind, and now and then one that is just none."""
+    if isinstance(kind, Number):
+        inside = chance.randint(kind.least, kind.most)
+        return str(chance.choice((kind.least, kind.most, inside, inside, inside, kind.most + 1, kind.least - 1)))
+    if isinstance(kind, OneOf):
+        return chance.choice(kind.words)
+    if kind.name == "ID":
+        spelled = [line.split(b" ")[2].decode("latin-1") for line in lines if re.match(rb"place \S+ \S", line)]
+        return chance.choice(spelled * 3 + list(IDS))
+    return chance.choice(WORDS[kind.name])
 
 
 def limits(chance: random.Random, lines: Lines) -> None:
