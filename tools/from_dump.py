@@ -50,6 +50,8 @@ import string
 import sys
 from typing import NamedTuple, Optional
 
+from faults import BadInput
+
 # The limits of docs/script.md.
 LONGEST_LINE = 4096
 T2_BLOCK_SIZE = 4
@@ -74,7 +76,7 @@ FLIPPER_T2 = re.compile(r"NTAG.*|.*Ultralight.*")
 FLIPPER_T5 = ("ISO15693-3", "SLIX")
 
 
-class DumpError(Exception):
+class DumpError(BadInput):
     """Why no line can be made of a dump."""
 
 

@@ -14,7 +14,7 @@ import os
 import sys
 
 import commands
-from commands.given import BadInput
+from faults import BadInput
 
 
 def overview() -> str:
@@ -64,4 +64,5 @@ def main(words: list[str] | None = None) -> int:
 
 
 if __name__ == "__main__":
+    sys.stdout.reconfigure(errors="backslashreplace")
     sys.exit(main())
