@@ -12,8 +12,8 @@ and `put` of a script take. To the bench a message is bytes: it never looks whet
 from __future__ import annotations
 
 from commands.given import Words
+from dumps.dump import hex_bytes
 from faults import BadInput
-from from_dump import hex_bytes
 from ndef.records import MIME, WELL_KNOWN, NoMessage, Record
 from ndef.telling import bytes_text, message_lines
 from ndef.text import LENGTH_BITS, make_text
