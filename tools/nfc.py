@@ -33,7 +33,7 @@ def close_output() -> None:
 def obeyed(word: str, words: list[str]) -> int:
     """The status of a word's run, where bad input is one sentence and never a traceback."""
     try:
-        status = commands.run(word, words)
+        status = commands.obey(word, words)
         sys.stdout.flush()
         return status
     except BrokenPipeError:

@@ -24,5 +24,5 @@ def summary(word: str) -> str:
     return (importlib.import_module(f"commands.{word}").__doc__ or "").strip().partition("\n")[0]
 
 
-def run(word: str, behind: list[str]) -> int:
+def obey(word: str, behind: list[str]) -> int:
     return importlib.import_module(f"commands.{word}").main(behind)

@@ -69,3 +69,52 @@ def t5_dump(fields, ident):
     if len(memory) != count * size:
         raise DumpError(f"Data Content has {len(memory)} bytes, and {count} blocks of {size} have {count * size}")
     return Dump(memory, "t5", ident, size)
+
+
+def write(tag):
+    """A file of a tag that begins as the Flipper's own do, with what a simulated tag doesn't have as zeros."""
+    shape = t2_fields if tag.kind == "t2" else t5_fields
+    return "".join(f"{key}: {value}\n" for key, value in [("Filetype", TITLE.split(": ")[1]), ("Version", "4"), *shape(tag)])
+
+
+def t2_fields(tag):
+    size = T2_BLOCK_SIZE
+    pages = [tag.memory[start : start + size] for start in range(0, len(tag.memory), size)]
+    atqa = {4: "00 04", 7: "00 44", 10: "00 84"}[len(tag.ident)]
+    counters = [field for number in range(3) for field in ((f"Counter {number}", "0"), (f"Tearing {number}", "00"))]
+    return [
+        ("Device type", "NTAG/Ultralight"),
+        ("UID", spaced(tag.ident)),
+        ("ATQA", atqa),
+        ("SAK", "00"),
+        ("Data format version", "2"),
+        ("NTAG/Ultralight type", "Mifare Ultralight"),
+        ("Signature", spaced(bytes(32))),
+        ("Mifare version", spaced(bytes(8))),
+        *counters,
+        ("Pages total", len(pages)),
+        ("Pages read", len(pages)),
+        *((f"Page {number}", spaced(page)) for number, page in enumerate(pages)),
+        ("Failed authentication attempts", "0"),
+    ]
+
+
+def t5_fields(tag):
+    count = len(tag.memory) // tag.block_size
+    return [
+        ("Device type", "ISO15693-3"),
+        ("UID", spaced(tag.ident)),
+        ("DSFID", "00"),
+        ("AFI", "00"),
+        ("IC Reference", "00"),
+        ("Lock DSFID", "false"),
+        ("Lock AFI", "false"),
+        ("Block Count", count),
+        ("Block Size", f"{tag.block_size:02X}"),
+        ("Data Content", spaced(tag.memory)),
+        ("Security Status", spaced(bytes(count))),
+    ]
+
+
+def spaced(content):
+    return content.hex(" ").upper()

@@ -54,3 +54,13 @@ def ident_of(card):
     """The identifier, which stands under a name in large or in small letters."""
     named = [card[name] for name in ("UID", "uid") if name in card] if isinstance(card, dict) else []
     return hex_bytes(named[0], "UID") if named and isinstance(named[0], str) else None
+
+
+def write(tag):
+    """A file of a tag: its kind, identifier and blocks, and no more."""
+    file_type, named = ("mfu", "UID") if tag.kind == "t2" else ("15693 v4", "uid")
+    size = tag.block_size
+    starts = range(0, len(tag.memory), size)
+    blocks = {str(number): tag.memory[start : start + size].hex().upper() for number, start in enumerate(starts)}
+    record = {"Created": "proxmark3", "FileType": file_type, "Card": {named: tag.ident.hex().upper()}, "blocks": blocks}
+    return json.dumps(record, indent=2) + "\n"

@@ -7,6 +7,8 @@ from __future__ import annotations
 
 from dataclasses import dataclass
 
+from frames.words import counted, hexadecimal
+
 MOST_DEVICES = 16
 NDEF_MAGIC = 0xE1
 LARGEST_AREA = 0x7E
@@ -40,13 +42,13 @@ class Field:
 
     def add(self, ident: bytes, device: Device) -> None:
         if ident in self.devices:
-            raise NotAccepted(f"{shown(ident)} is placed already, as {NAMES[self.devices[ident].kind]}")
+            raise NotAccepted(f"{hexadecimal(ident)} is placed already, as {NAMES[self.devices[ident].kind]}")
         if len(self.devices) >= MOST_DEVICES:
             raise NotAccepted(f"{MOST_DEVICES} devices are placed, and no more can be")
         self.devices[ident] = device
 
     def place_t2(self, ident: bytes, blocks: int, head: bytes) -> None:
-        check_fits(head, 4 * blocks, f"{blocks} blocks of 4 bytes")
+        check_fits(head, 4 * blocks, f"{counted(blocks, 'block')} of 4 bytes")
         memory = head.ljust(16, b"\0")
         needed = 4 + 2 * memory[14]
         if memory[12] == NDEF_MAGIC and memory[14] <= LARGEST_AREA and needed > blocks:
@@ -62,13 +64,13 @@ class Field:
             raise NotAccepted("the container names itself, E103h, as the NDEF file (bytes 9 and 10)")
         if size > LONGEST_FILE:
             raise NotAccepted(f"the container gives the file {size} bytes (bytes 11 and 12), and {LONGEST_FILE} is the most")
-        check_fits(head, size, "the file by bytes 11 and 12 of the container")
+        check_fits(head, size, "the file, by bytes 11 and 12 of the container")
         self.add(ident, Device("t4"))
 
     def place_t5(self, ident: bytes, blocks: int, size: int, head: bytes) -> None:
         if blocks * size > LARGEST_T5_STORE:
             raise NotAccepted(f"{blocks} blocks of {size} are {blocks * size} bytes, and {LARGEST_T5_STORE} is the most")
-        check_fits(head, blocks * size, f"{blocks} blocks of {size} bytes")
+        check_fits(head, blocks * size, f"{counted(blocks, 'block')} of {size} bytes")
         self.add(ident, Device("t5", blocks, size))
 
     def place_peer(self, ident: bytes, *_limits: int) -> None:
@@ -79,16 +81,16 @@ class Field:
         found = self.devices.get(ident)
         if found is None:
             gone = f": line {self.removed[ident]} took it away" if ident in self.removed else ""
-            raise NotAccepted(f"no device {shown(ident)} is placed{gone}")
+            raise NotAccepted(f"no device {hexadecimal(ident)} is placed{gone}")
         if found.kind not in kinds:
             wanted = " or ".join(NAMES[kind] for kind in kinds)
-            raise NotAccepted(f"{shown(ident)} is {NAMES[found.kind]}, and {verb} is for {wanted}")
+            raise NotAccepted(f"{hexadecimal(ident)} is {NAMES[found.kind]}, and {verb} is for {wanted}")
         return found
 
     def lock(self, ident: bytes, block: int) -> None:
         device = self.device(ident, "lock", ("t2", "t5"))
         if block >= device.blocks:
-            raise NotAccepted(f"{shown(ident)} has {device.blocks} blocks, of which {device.blocks - 1} is the last")
+            raise NotAccepted(f"{hexadecimal(ident)} has {device.blocks} blocks, of which {device.blocks - 1} is the last")
 
     def busy(self, ident: bytes, *_how: int) -> None:
         self.device(ident, "busy", ("t4", "peer"))
@@ -111,10 +113,6 @@ class Field:
         """A line that is accepted everywhere."""
 
 
-def shown(ident: bytes) -> str:
-    return ident.hex().upper()
-
-
 def word_at(content: bytes, place: int) -> int:
     """Two bytes as a number, high byte first."""
     return int.from_bytes(content[place : place + 2], "big")
@@ -122,4 +120,4 @@ def word_at(content: bytes, place: int) -> int:
 
 def check_fits(head: bytes, size: int, what: str) -> None:
     if len(head) > size:
-        raise NotAccepted(f"HEX has {len(head)} bytes, and {what} hold{'' if what[0].isdigit() else 's'} {size}")
+        raise NotAccepted(f"HEX has {counted(len(head), 'byte')}, more than the {size} of {what}")

@@ -7,6 +7,8 @@ import string
 from dataclasses import dataclass
 from typing import Any, Protocol
 
+from frames.words import counted
+
 CASCADE_TAG = 0x88
 LONGEST_MESSAGE = 65536
 SHOWN = 32
@@ -98,7 +100,7 @@ class Identifier:
     def bytes_fault(self, word: str, ident: bytes) -> str | None:
         if len(ident) not in self.lengths:
             lengths = " or ".join(map(str, self.lengths))
-            return f"{short(word)} has {len(ident)} byte{'s' * (len(ident) != 1)}, and this ID has {lengths}"
+            return f"{short(word)} has {counted(len(ident), 'byte')}, and this ID has {lengths}"
         if len(ident) == 4 and ident[0] == CASCADE_TAG:
             return f"{word} begins with 88h, the cascade tag, which no ID of 4 bytes does"
         if len(ident) == 7 and ident[3] == CASCADE_TAG:

@@ -6,6 +6,7 @@ import difflib
 from dataclasses import dataclass
 from typing import Any, Iterator
 
+from frames.words import counted
 from script.field import Field, NotAccepted
 from script.grammar import COMMANDS, FIRST_WORDS, PLACES, Command
 from script.kinds import Kind, short
@@ -155,9 +156,8 @@ def likely(word: str, known: tuple[str, ...]) -> str:
 def check_words(command: Command, words: list[str]) -> None:
     if len(words) != len(command.kinds):
         wanted = len(command.kinds)
-        needs = f"needs {wanted} word{'s' * (wanted != 1)} behind it" if wanted else "has no word behind it"
-        here = f", and here {'is' if len(words) == 1 else 'are'} {len(words) or 'none'}"
-        raise Refused(f"{command.name} {needs}{here}", command)
+        needs = f"needs {counted(wanted, 'word')} behind it" if wanted else "has no word behind it"
+        raise Refused(f"{command.name} {needs}, and here {'is' if len(words) == 1 else 'are'} {len(words) or 'none'}", command)
     for kind, word in zip(command.kinds, words, strict=True):
         fault = kind.fault(word)
         if fault is not None:
