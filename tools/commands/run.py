@@ -3,7 +3,8 @@
     python3 tools/nfc.py run [--quiet] [SCRIPT]
 
 The report goes to standard output, and the exit status is the program's own (docs/script.md). Where a line is refused,
-the reason goes to standard error, as `why` tells it. The program is the one that the environment variable NFC_BENCH
+the reason goes to standard error, as `why` tells it; and where a command took fates that stood before a later `fates`
+line, or fates are left at the end, a sentence that says so (not with --quiet, which shows no transmission). The program is the one that the environment variable NFC_BENCH
 names, or else crates/nfc_bench/out/nfc_bench, which `rt run` builds. Where there is none the status is 1.
 """
 
@@ -18,6 +19,7 @@ from typing import BinaryIO
 
 import bench
 from commands.given import Words, opened
+from script.fates import Transmissions, fates_notes
 from script.refusal import read_script
 
 REFUSED, NO_PROGRAM = 2, 1
@@ -66,11 +68,25 @@ def missing() -> str:
 
 def run(source: int, command: list[str]) -> int:
     """The program's status; that of a signal by which it ended as a shell counts it."""
-    program = subprocess.Popen(command, stdin=subprocess.PIPE)
+    program = subprocess.Popen(command, stdin=subprocess.PIPE, stdout=subprocess.PIPE)
     feeding = Feeding(source, program.stdin)
     feeding.start()
+    transmissions = passed_on(program.stdout)
     status = program.wait()
-    refusal = read_script(bytes(feeding.kept)).refusal if status == REFUSED else None
-    if refusal is not None:
-        print("\n".join(refusal.told), file=sys.stderr)
+    script = read_script(bytes(feeding.kept))
+    told = fates_notes(script.obeyed, transmissions.counts) if transmissions.counts else []
+    if status == REFUSED and script.refusal is not None:
+        told += script.refusal.told
+    for line in told:
+        print(line, file=sys.stderr)
     return status if status >= 0 else 128 - status
+
+
+def passed_on(report: BinaryIO) -> Transmissions:
+    """Hands each line of the report on as it comes, and counts what was sent."""
+    transmissions = Transmissions()
+    for line in report:
+        sys.stdout.buffer.write(line)
+        sys.stdout.buffer.flush()
+        transmissions.count(line.decode("ascii", "replace").rstrip("\n"))
+    return transmissions
