@@ -25,7 +25,8 @@ Formats, told by what the file holds:
   TagInfo   the text of NXP TagInfo's full scan, with a line `[00] * 04:A2:B3 9D (UID0-UID2, BCC0)` for each page. What
             stands behind the first page that wasn't read whole is left out. The identifier stands behind `ID:`.
 
-The formats of Flipper, Proxmark and TagInfo were written down without the devices at hand: the tests' dumps are made by hand.
+The formats of Flipper, Proxmark and TagInfo were written down without devices at hand: the tests' dumps are made by
+hand.
 
 Raw and hexadecimal dumps need --type. The identifier is that of --id, else the one that the file names, else, of
 Type 2, bytes 0 to 2 and 4 to 7 of the memory, where the check bytes 3 and 8 fit. One of Proxmark's Type 5 dumps that

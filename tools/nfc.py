@@ -4,8 +4,8 @@
     python3 tools/nfc.py WORD ..
 
 `--help` lists the words, and `WORD --help` tells each. The exit status is 0 where what was asked is done, and 2 for
-bad input or wrong words, with one sentence on standard error. `run` ends with the program's own status (docs/script.md),
-and with 1 where there is no program to run.
+bad input or wrong words, with one sentence on standard error. `run` ends with the program's own status
+(docs/script.md), and with 1 where there is no program to run.
 """
 
 from __future__ import annotations
@@ -44,7 +44,7 @@ def obeyed(word: str, words: list[str]) -> int:
     except BadInput as problem:
         sentence = str(problem)
     except OSError as problem:
-        sentence = ": ".join(filter(None, [problem.filename, problem.strerror]))
+        sentence = ": ".join(filter(None, [problem.filename, problem.strerror])) or str(problem)
     print(f"nfc {word}: {sentence}", file=sys.stderr)
     return 2
 

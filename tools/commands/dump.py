@@ -4,8 +4,8 @@
     python3 tools/nfc.py dump [REPORT] --type t5 --id E004010203040506 --block-size 4 --format proxmark -o tag.json
     python3 tools/nfc.py dump [REPORT] -o tag.bin
 
-A report tells the bytes alone. What tag they are of is told by the script, or by words; raw bytes need neither. A report
-of several `store` lines needs --line. `place` makes the tag's line from the file again.
+A report tells the bytes alone. What tag they are of is told by the script, or by words; raw bytes need neither. A
+report of several `store` lines needs --line. `place` makes the tag's line from the file again.
 """
 
 from __future__ import annotations
@@ -18,7 +18,7 @@ from typing import Callable
 from commands.given import Words, content_of, opened, report_lines
 from dumps import flipper, proxmark
 from dumps.dump import T2_BLOCK_SIZE, Dump, hex_bytes
-from dumps.placing import T5_BLOCK_SIZES, t5_ident, nfca_ident
+from dumps.placing import T5_BLOCK_SIZES, nfca_ident, t5_ident
 from faults import BadInput
 from script.refusal import Line, read_script
 
@@ -43,7 +43,7 @@ def parser_of() -> Words:
     parser.add_argument("--script", help="the script of the report, which tells kind and identifier")
     parser.add_argument("--type", choices=("t2", "t5"), help="the kind, where no script tells it")
     parser.add_argument("--id", help="the identifier, where no script tells it; of Type 5 high byte first")
-    parser.add_argument("--block-size", type=int, choices=T5_BLOCK_SIZES, default=4, help="of Type 5; 4 where it isn't given")
+    parser.add_argument("--block-size", type=int, choices=T5_BLOCK_SIZES, default=4, help="of Type 5; 4 if not given")
     parser.add_argument("-o", "--output", default="-", help="the file; standard output where none is named")
     return parser
 
@@ -70,8 +70,8 @@ def tag_of_script(name: str, number: int, memory: bytes) -> Dump:
     if not lines or lines[-1].number != number or lines[-1].command.name != "dump":
         raise BadInput(f"line {number} of the script is no `dump`, so the report isn't of this script")
     ident = lines[-1].values[0]
-    placed = next(line for line in reversed(lines) if line.command.name.startswith("place ") and line.values[0] == ident)
-    return tag_placed(placed, memory)
+    places = [line for line in lines if line.command.name.startswith("place ") and line.values[0] == ident]
+    return tag_placed(places[-1], memory)
 
 
 def tag_placed(line: Line, memory: bytes) -> Dump:
@@ -84,7 +84,7 @@ def tag_placed(line: Line, memory: bytes) -> Dump:
 
 def tag_of_words(options: argparse.Namespace, memory: bytes) -> Dump:
     if options.type is None or options.id is None:
-        raise BadInput(f"a file of format {options.format} tells kind and identifier: give --script, or --type and --id")
+        raise BadInput(f"a {options.format} file tells kind and identifier: give --script, or --type and --id")
     ident = hex_bytes(options.id.replace(":", " "), "--id")
     if options.type == "t2":
         return whole(Dump(memory, "t2", nfca_ident(ident), T2_BLOCK_SIZE))

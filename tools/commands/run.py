@@ -2,10 +2,13 @@
 
     python3 tools/nfc.py run [--quiet] [SCRIPT]
 
-The report goes to standard output, and the exit status is the program's own (docs/script.md). Where a line is refused,
-the reason goes to standard error, as `why` tells it; and where a command took fates that stood before a later `fates`
-line, or fates are left at the end, a sentence that says so (not with --quiet, which shows no transmission). The program is the one that the environment variable NFC_BENCH
-names, or else crates/nfc_bench/out/nfc_bench, which `rt run` builds. Where there is none the status is 1.
+The report goes to standard output, and the exit status is the program's own (docs/script.md). The program is the one
+that the environment variable NFC_BENCH names, or else crates/nfc_bench/out/nfc_bench, which `rt run` builds. Where
+there is none the status is 1.
+
+Where a line is refused, the reason goes to standard error, as `why` tells it. So does a sentence where a command took
+fates that stood before those of a later `fates` line, and where some are left at the end: but not with --quiet, which
+shows no transmission.
 """
 
 from __future__ import annotations
@@ -24,6 +27,7 @@ from script.refusal import read_script
 
 REFUSED, NO_PROGRAM = 2, 1
 PIECE = 4096
+BUILT = "crates/nfc_bench/out/nfc_bench"
 
 
 class Feeding(Thread):
@@ -62,8 +66,9 @@ def main(words: list[str]) -> int:
 def missing() -> str:
     """What to do where there is no program."""
     named = os.environ.get(bench.VARIABLE)
-    what = f"{bench.VARIABLE} names {named}, which is no program" if named else "crates/nfc_bench/out/nfc_bench isn't built"
-    return f"{what}. Build it by `rt run` in crates/nfc_bench, which proves it, or name one by {bench.VARIABLE}=PROGRAM."
+    what = f"{bench.VARIABLE} names {named}, which is no program" if named else f"{BUILT} isn't built"
+    how = f"Build it by `rt run` in crates/nfc_bench, which proves it, or name one by {bench.VARIABLE}=PROGRAM."
+    return f"{what}. {how}"
 
 
 def run(source: int, command: list[str]) -> int:

@@ -1,8 +1,8 @@
 """Files of the Flipper Zero.
 
-`Filetype: Flipper NFC device`. Of Type 2 `Device type: NTAG/Ultralight`, or in older files the tag's name as `NTAG215`,
-with `Page N:` lines; pages from `Pages read:` on count as missing. Of Type 5 `Device type: ISO15693-3` or `SLIX` with
-`Block Count:` (decimal), `Block Size:` (hexadecimal) and `Data Content:`.
+`Filetype: Flipper NFC device`. Of Type 2 `Device type: NTAG/Ultralight`, or in older files the tag's name as
+`NTAG215`, with `Page N:` lines; pages from `Pages read:` on count as missing. Of Type 5 `Device type: ISO15693-3` or
+`SLIX` with `Block Count:` (decimal), `Block Size:` (hexadecimal) and `Data Content:`.
 """
 
 import re
@@ -73,8 +73,8 @@ def t5_dump(fields, ident):
 
 def write(tag):
     """A file of a tag that begins as the Flipper's own do, with what a simulated tag doesn't have as zeros."""
-    shape = t2_fields if tag.kind == "t2" else t5_fields
-    return "".join(f"{key}: {value}\n" for key, value in [("Filetype", TITLE.split(": ")[1]), ("Version", "4"), *shape(tag)])
+    fields = [("Version", "4"), *(t2_fields if tag.kind == "t2" else t5_fields)(tag)]
+    return "".join([f"{TITLE}\n", *(f"{key}: {value}\n" for key, value in fields)])
 
 
 def t2_fields(tag):

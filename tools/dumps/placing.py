@@ -35,7 +35,7 @@ def place_line(dump, options):
 
 
 def kind_of(dump, wanted):
-    """The kind that the dump says, or the one that is wanted; a header says that it is of Type 2, where nothing else does."""
+    """The kind that the dump says, or the one that is wanted; a header alone says Type 2."""
     if None not in (dump.kind, wanted) and dump.kind != wanted:
         raise DumpError(f"the dump is of a {dump.kind} tag, not of a {wanted}")
     kind = dump.kind or wanted or ("t2" if dump.header else None)

@@ -62,5 +62,6 @@ def write(tag):
     size = tag.block_size
     starts = range(0, len(tag.memory), size)
     blocks = {str(number): tag.memory[start : start + size].hex().upper() for number, start in enumerate(starts)}
-    record = {"Created": "proxmark3", "FileType": file_type, "Card": {named: tag.ident.hex().upper()}, "blocks": blocks}
+    card = {named: tag.ident.hex().upper()}
+    record = {"Created": "proxmark3", "FileType": file_type, "Card": card, "blocks": blocks}
     return json.dumps(record, indent=2) + "\n"

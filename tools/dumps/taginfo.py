@@ -13,7 +13,8 @@ import re
 from dumps.dump import T2_BLOCK_SIZE, Dump, DumpError, check_length, has_check_bytes, high_first, joined
 
 BYTE = r"(?:[0-9A-Fa-f]{2}|XX|\?\?|--)"
-PAGE = re.compile(rf"^\[([0-9A-Fa-f]{{2,4}})\]\s+\S{{1,3}}\s+({BYTE}(?:[ :]{BYTE})*)(?!\w)", re.MULTILINE)
+MARKS = r"[^\s0-9A-Fa-f]\S{0,2}"
+PAGE = re.compile(rf"^\[([0-9A-Fa-f]{{2,4}})\]\s+(?:{MARKS}\s+)?({BYTE}(?:[ :]{BYTE})*)(?!\w)", re.MULTILINE)
 IDENT = re.compile(r"^\s*ID: *((?:[0-9A-Fa-f]{2}:)+[0-9A-Fa-f]{2})\s*$", re.MULTILINE)
 T5_ID_LENGTH = 8
 

@@ -54,7 +54,8 @@ def records_of(message: bytes) -> list[Record]:
     goes_on = False
     for number, piece in enumerate(pieces, 1):
         if goes_on != (piece.record.form == UNCHANGED):
-            raise NoMessage(f"record {number} {'is no chunk, and one has' if goes_on else 'is a chunk, and none has'} to come")
+            what = "is no chunk, and one has to come" if goes_on else "is a chunk, and none has to come"
+            raise NoMessage(f"record {number} {what}")
         if goes_on:
             records[-1] = joined(records[-1], piece.record, number)
         else:
@@ -79,7 +80,8 @@ def pieces_of(message: bytes) -> list[Piece]:
     while start < len(message):
         number = len(pieces) + 1
         if bool(message[start] & BEGINS) != (number == 1):
-            raise NoMessage(f"record {number} {'says' if number > 1 else 'does not say'} that the message begins with it")
+            says = "does not say" if number == 1 else "says"
+            raise NoMessage(f"record {number} {says} that the message begins with it")
         piece = piece_at(message, start, number)
         if bool(piece.flags & ENDS) != (piece.end == len(message)):
             raise NoMessage(ending_fault(piece, number, len(message)))

@@ -30,15 +30,29 @@ class Transmissions:
 def fates_notes(lines: Iterable[Line], counts: Counter[int]) -> list[str]:
     """What of the fates a reader may not expect: those that a later list stood before, and those that are left."""
     queue: deque[tuple[int, str]] = deque()
-    notes, last = [], 0
+    notes: list[str] = []
+    last = 0
     for line in lines:
         if line.command.name == "fates":
             last = line.number
             queue.extend((last, letter) for letter in line.values[0])
         taken = Counter(queue.popleft()[0] for _ in range(min(counts[line.number], len(queue))))
-        older = [(owner, count) for owner, count in taken.items() if owner != last]
-        notes += [f"line {line.number} took {counted(count, 'fate')} of line {owner}, before those of line {last}" for owner, count in older]
-    left = Counter(owner for owner, _ in queue) if any(letter != "P" for _, letter in queue) else Counter()
-    notes += [f"{counted(count, 'fate')} of line {owner} {'is' if count == 1 else 'are'} left" for owner, count in left.items()]
+        notes += taken_notes(line.number, taken, last)
+    notes += left_notes(queue)
     more = len(notes) - MOST_NOTES
     return notes if more <= 0 else [*notes[:MOST_NOTES], f"and so {counted(more, 'time')} more"]
+
+
+def taken_notes(number: int, taken: Counter[int], last: int) -> list[str]:
+    """Of which lines before the last list a line took fates."""
+    told = f"line {number} took {{}} of line {{}}, before those of line {last}"
+    return [told.format(counted(count, "fate"), owner) for owner, count in taken.items() if owner != last]
+
+
+def left_notes(queue: Iterable[tuple[int, str]]) -> list[str]:
+    """Of which lines fates are left, where any of them would have done something."""
+    left = list(queue)
+    if all(letter == "P" for _, letter in left):
+        return []
+    counts = Counter(owner for owner, _ in left)
+    return [f"{counted(count, 'fate')} of line {owner} still left" for owner, count in counts.items()]

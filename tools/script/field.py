@@ -7,7 +7,7 @@ from __future__ import annotations
 
 from dataclasses import dataclass
 
-from frames.words import counted, hexadecimal
+from frames.words import counted, either, hexadecimal
 
 MOST_DEVICES = 16
 NDEF_MAGIC = 0xE1
@@ -63,13 +63,15 @@ class Field:
         if word_at(container, 9) == CONTAINER_FILE:
             raise NotAccepted("the container names itself, E103h, as the NDEF file (bytes 9 and 10)")
         if size > LONGEST_FILE:
-            raise NotAccepted(f"the container gives the file {size} bytes (bytes 11 and 12), and {LONGEST_FILE} is the most")
+            told = f"the container gives the file {size} bytes (bytes 11 and 12)"
+            raise NotAccepted(f"{told}, and {LONGEST_FILE} is the most")
         check_fits(head, size, "the file, by bytes 11 and 12 of the container")
         self.add(ident, Device("t4"))
 
     def place_t5(self, ident: bytes, blocks: int, size: int, head: bytes) -> None:
         if blocks * size > LARGEST_T5_STORE:
-            raise NotAccepted(f"{blocks} blocks of {size} are {blocks * size} bytes, and {LARGEST_T5_STORE} is the most")
+            told = f"{blocks} blocks of {size} are {blocks * size} bytes"
+            raise NotAccepted(f"{told}, and {LARGEST_T5_STORE} is the most")
         check_fits(head, blocks * size, f"{counted(blocks, 'block')} of {size} bytes")
         self.add(ident, Device("t5", blocks, size))
 
@@ -83,14 +85,15 @@ class Field:
             gone = f": line {self.removed[ident]} took it away" if ident in self.removed else ""
             raise NotAccepted(f"no device {hexadecimal(ident)} is placed{gone}")
         if found.kind not in kinds:
-            wanted = " or ".join(NAMES[kind] for kind in kinds)
+            wanted = either(NAMES[kind] for kind in kinds)
             raise NotAccepted(f"{hexadecimal(ident)} is {NAMES[found.kind]}, and {verb} is for {wanted}")
         return found
 
     def lock(self, ident: bytes, block: int) -> None:
         device = self.device(ident, "lock", ("t2", "t5"))
         if block >= device.blocks:
-            raise NotAccepted(f"{hexadecimal(ident)} has {device.blocks} blocks, of which {device.blocks - 1} is the last")
+            told = f"{hexadecimal(ident)} has {counted(device.blocks, 'block')}"
+            raise NotAccepted(f"{told}, of which {device.blocks - 1} is the last")
 
     def busy(self, ident: bytes, *_how: int) -> None:
         self.device(ident, "busy", ("t4", "peer"))

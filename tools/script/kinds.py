@@ -7,7 +7,7 @@ import string
 from dataclasses import dataclass
 from typing import Any, Protocol
 
-from frames.words import counted
+from frames.words import counted, either
 
 CASCADE_TAG = 0x88
 LONGEST_MESSAGE = 65536
@@ -36,15 +36,16 @@ def short(word: str) -> str:
 
 @dataclass(frozen=True)
 class Number:
-    """A decimal number within two limits."""
+    """A decimal number within two limits, and what it says."""
 
     name: str
     least: int
     most: int
+    says: str = "a number"
 
     @property
     def told(self) -> str:
-        return f"a decimal number from {self.least} to {self.most}, without sign and leading zeros"
+        return f"{self.says}: from {self.least} to {self.most}, decimal, without sign and leading zeros"
 
     def fault(self, word: str) -> str | None:
         if not re.fullmatch("[0-9]+", word):
@@ -99,8 +100,7 @@ class Identifier:
 
     def bytes_fault(self, word: str, ident: bytes) -> str | None:
         if len(ident) not in self.lengths:
-            lengths = " or ".join(map(str, self.lengths))
-            return f"{short(word)} has {counted(len(ident), 'byte')}, and this ID has {lengths}"
+            return f"{short(word)} has {counted(len(ident), 'byte')}, and this ID has {either(self.lengths)}"
         if len(ident) == 4 and ident[0] == CASCADE_TAG:
             return f"{word} begins with 88h, the cascade tag, which no ID of 4 bytes does"
         if len(ident) == 7 and ident[3] == CASCADE_TAG:
@@ -112,18 +112,18 @@ class Identifier:
 
 
 @dataclass(frozen=True)
-class OneOf:
-    """One of some words."""
+class Size:
+    """How many bytes a block has."""
 
-    name: str
-    words: tuple[str, ...]
+    words: tuple[str, ...] = ("4", "8", "16", "32")
+    name: str = "SIZE"
 
     @property
     def told(self) -> str:
-        return f"{', '.join(self.words[:-1])} or {self.words[-1]}"
+        return f"how many bytes a block has: {either(self.words)}"
 
     def fault(self, word: str) -> str | None:
-        return None if word in self.words else f"{short(word)} is none of {', '.join(self.words)}"
+        return None if word in self.words else f"{short(word)} isn't {either(self.words)}"
 
     def value(self, word: str) -> int:
         return int(word)
@@ -134,7 +134,10 @@ class Message:
     """Bytes, or so many counted ones."""
 
     name: str = "MSG"
-    told: str = f"HEX, or gen:N:S with N from 0 to {LONGEST_MESSAGE} and S from 0 to 255, without leading zeros"
+    told: str = (
+        f"HEX, or gen:N:S with N from 0 to {LONGEST_MESSAGE} and S from 0 to 255; "
+        "`nfc.py ndef` makes HEX of a URI or a text"
+    )
 
     def fault(self, word: str) -> str | None:
         if not word.startswith("gen:"):

@@ -6,7 +6,7 @@ import difflib
 from dataclasses import dataclass
 from typing import Any, Iterator
 
-from frames.words import counted
+from frames.words import counted, either
 from script.field import Field, NotAccepted
 from script.grammar import COMMANDS, FIRST_WORDS, PLACES, Command
 from script.kinds import Kind, short
@@ -143,7 +143,7 @@ def command_of(words: list[str]) -> tuple[Command, list[str]]:
     kind = words[1] if len(words) > 1 else ""
     if kind not in PLACES:
         what = f"{short(kind)} is no kind of device{likely(kind, PLACES)}" if kind else "the kind of device is missing"
-        raise Refused(f"{what}: behind place stands {', '.join(PLACES[:-1])} or {PLACES[-1]}")
+        raise Refused(f"{what}: behind place stands {either(PLACES)}")
     return COMMANDS[f"place {kind}"], words[2:]
 
 
@@ -157,7 +157,8 @@ def check_words(command: Command, words: list[str]) -> None:
     if len(words) != len(command.kinds):
         wanted = len(command.kinds)
         needs = f"needs {counted(wanted, 'word')} behind it" if wanted else "has no word behind it"
-        raise Refused(f"{command.name} {needs}, and here {'is' if len(words) == 1 else 'are'} {len(words) or 'none'}", command)
+        here = f"here {'is' if len(words) == 1 else 'are'} {len(words) or 'none'}"
+        raise Refused(f"{command.name} {needs}, and {here}", command)
     for kind, word in zip(command.kinds, words, strict=True):
         fault = kind.fault(word)
         if fault is not None:

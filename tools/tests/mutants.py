@@ -7,9 +7,10 @@ import re
 from typing import Callable, Iterable
 
 from script.grammar import FIRST_WORDS, IN_ORDER
-from script.kinds import Kind, Number, OneOf
+from script.kinds import Kind, Number, Size
 
-IDS = ("01020304", "88020304", "04112233445566", "04112288445566", "0A112233445566778899", "E004010203040506", "08010203")
+IDS = ("01020304", "88020304", "04112233445566", "04112288445566", "0A112233445566778899", "E004010203040506",
+       "08010203")  # fmt: skip
 NUMBERS = (0, 1, 2, 3, 4, 5, 6, 8, 9, 15, 16, 17, 31, 32, 33, 59, 60, 127, 128, 255, 256, 257, 1023, 1024, 2047, 2048,
            2049, 2175, 2176, 16384, 16385, 32767, 65535, 65536, 65537)  # fmt: skip
 BYTES = (b" ", b"\t", b"\r", b"\0", b"\x7f", b"\xc3\xa4", b"#", b"-", b":", b"+", b"x", b"0", b"F", b"g", b"~")
@@ -162,7 +163,7 @@ def one_word(chance: random.Random, kind: Kind, lines: Lines) -> str:
     if isinstance(kind, Number):
         inside = chance.randint(kind.least, kind.most)
         return str(chance.choice((kind.least, kind.most, inside, inside, inside, kind.most + 1, kind.least - 1)))
-    if isinstance(kind, OneOf):
+    if isinstance(kind, Size):
         return chance.choice(kind.words)
     if kind.name == "ID":
         spelled = [line.split(b" ")[2].decode("latin-1") for line in lines if re.match(rb"place \S+ \S", line)]

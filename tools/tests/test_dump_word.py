@@ -77,8 +77,8 @@ class RoundTrips(Files):
     def test_raw_bytes(self) -> None:
         for place in (*PLACES, T4):
             words = place.split(" ")
-            told = ["--type", words[1], "--id", words[2]]
-            told += {"t2": [], "t4": ["--container", words[4]], "t5": ["--block-size", words[4]]}[words[1]] if len(words) > 4 else []
+            more = {"t2": [], "t4": ["--container", words[4]], "t5": ["--block-size", words[4]]}[words[1]]
+            told = ["--type", words[1], "--id", words[2], *more]
             with self.subTest(place=place[:30]):
                 file = self.folder / "file.bin"
                 self.assertEqual(call("dump", self.given(place)[1], "-o", file).status, 0)
@@ -122,7 +122,7 @@ class Choices(Files):
         self.refuses("/nowhere: No such file or directory", "/nowhere")
         self.refuses("this is no report of the bench: line 1 is no line of one", self.put("text", "hello\n"))
         self.refuses("the report is empty", self.put("empty", ""))
-        told = "a file of format flipper tells kind and identifier: give --script, or --type and --id"
+        told = "a flipper file tells kind and identifier: give --script, or --type and --id"
         self.refuses(told, one, "--format", "flipper")
         self.refuses(told, one, "--format", "flipper", "--id", "01020304")
         words = ("--format", "proxmark", "--type", "t2", "--id")

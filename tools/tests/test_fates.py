@@ -21,19 +21,20 @@ def notes(script: str, **counts: int) -> list[str]:
 class Notes(unittest.TestCase):
     def test_lists_that_are_used_up_are_not_told(self) -> None:
         self.assertEqual(notes("fates PPB\nfind\nfates PL\nfind", line2=3, line4=5), [])
-        self.assertEqual(notes("fates PP\nfates PL\nfind", line3=4), ["line 3 took 2 fates of line 1, before those of line 2"])
+        older = ["line 3 took 2 fates of line 1, before those of line 2"]
+        self.assertEqual(notes("fates PP\nfates PL\nfind", line3=4), older)
         self.assertEqual(notes("fates PPPP\nfind\nfind", line2=1, line3=3), [])
         self.assertEqual(notes("find", line1=4), [])
 
     def test_what_is_left_goes_on(self) -> None:
         self.assertEqual(
             notes("fates PPPPB\nfind\nfates B\nfind", line2=4, line4=1),
-            ["line 4 took 1 fate of line 1, before those of line 3", "1 fate of line 3 is left"],
+            ["line 4 took 1 fate of line 1, before those of line 3", "1 fate of line 3 still left"],
         )
 
     def test_what_is_left_at_the_end(self) -> None:
         self.assertEqual(notes("fates PPPPP\nfind", line2=2), [])
-        self.assertEqual(notes("fates PPPPL\nfind", line2=2), ["3 fates of line 1 are left"])
+        self.assertEqual(notes("fates PPPPL\nfind", line2=2), ["3 fates of line 1 still left"])
 
     def test_many_of_them_are_counted(self) -> None:
         script = "fates PPPPPPPPPP\n" + "fates P\nfind\n" * 6

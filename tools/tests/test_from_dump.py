@@ -69,7 +69,8 @@ def proxmark(file_type, memory, size, card=None):
 def taginfo(memory, ident):
     """A full scan of NXP TagInfo: what stands around the pages, and a line for each page of four bytes."""
     shown = [f"ID: {ident}"] if ident else []
-    head = ["** TagInfo scan (version 4.24.5) 2021-03-04 10:11:12 **", "Report Type: External", "", "# IC type:", "NTAG213"]
+    title = "** TagInfo scan (version 4.24.5) 2021-03-04 10:11:12 **"
+    head = [title, "Report Type: External", "", "# IC type:", "NTAG213"]
     pages = [
         f"[{n // 4:02X}] {'*x.+'[n % 4]}{' P'[n == 172]} {memory[n : n + 4].hex(':').upper()} |...,| (UID0-UID2, BCC0)"
         for n in range(0, len(memory), 4)
@@ -313,6 +314,7 @@ class TagInfo(DumpCase):
         self.places(NTAG213_LINE, taginfo(NTAG213, "04:11:22:33:44:55:66"), name="scan.txt")
         self.places(NTAG213_LINE, taginfo(NTAG213, "04:11:22:33:44:55:66").replace("\n", "\r\n"), "--type", "t2")
         self.places(NTAG213_LINE, taginfo(NTAG213, None))
+        self.places(NTAG213_LINE, re.sub(r"(?m)(?<=]) \S+", "", taginfo(NTAG213, None)))
 
     def test_pages_from_the_first_that_was_not_read_are_left_out(self):
         text = taginfo(NTAG213, None)

@@ -121,7 +121,8 @@ class Records(unittest.TestCase):
             + raw(6, b"", b"com")
             + raw(ENDS | SHORT)
         )
-        self.assertEqual(message_lines(message), ["URI https://example.com, identifier me, in 3 chunks", "empty record"])
+        told = ["URI https://example.com, identifier me, in 3 chunks", "empty record"]
+        self.assertEqual(message_lines(message), told)
 
     def test_what_is_no_message_is_told_why(self) -> None:
         for message, why in {
@@ -185,7 +186,7 @@ class Word(unittest.TestCase):
             ("xyz",): "HEX: 'x' is no hexadecimal digit",
             ("D10",): "HEX: an odd number of hexadecimal digits",
             ("-",): "this is no NDEF message: it has no record (0 bytes)",
-            ("010203",): "this is no NDEF message: record 1 does not say that the message begins with it (3 bytes: 010203)",
+            ("D1",): "this is no NDEF message: record 1 is cut off before the length of its type (1 byte: D1)",
             ("uri",): "behind uri stands one URI",
             ("uri", "a", "b"): "behind uri stands one URI",
             ("uri", "\udcff"): "the words are no UTF-8",

@@ -97,7 +97,8 @@ class Pipes(unittest.TestCase):
             self.assertEqual(program.wait(), 0)
 
     def test_each_stored_report_is_annotated_as_by_itself(self) -> None:
-        alone = subprocess.run([sys.executable, ROOT / "tools" / "annotate.py", REPORT], capture_output=True, check=True)
+        words = [sys.executable, ROOT / "tools" / "annotate.py", REPORT]
+        alone = subprocess.run(words, capture_output=True, check=True)
         self.assertEqual(call("annotate", REPORT).output, alone.stdout)
 
 
@@ -134,7 +135,8 @@ class Run(unittest.TestCase):
         program = self.stand_in("sys.stdin.buffer.read()\nprint('fault 2 line 7')\nsys.exit(2)")
         ended = self.run_by(program, REFUSED)
         self.assertEqual((ended.returncode, ended.stdout), (2, b"fault 2 line 7\n"))
-        self.assertTrue(ended.stderr.startswith(b"line 7 is refused: no device 01020304 is placed: line 5 took it away\n"))
+        told = b"line 7 is refused: no device 01020304 is placed: line 5 took it away\n"
+        self.assertTrue(ended.stderr.startswith(told))
 
     def test_a_program_that_reads_no_further_ends_it(self) -> None:
         ended = self.run_by(self.stand_in("sys.exit(3)"), given=b"x" * 1000000)

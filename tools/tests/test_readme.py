@@ -56,9 +56,9 @@ class Blocks(unittest.TestCase):
         self.assertGreater(len(blocks()), 5)
         for block in blocks():
             needs_program = any("nfc.py run" in line for line in block)
-            if bench.program() is None and needs_program:
-                continue
             with self.subTest(command=block[0]):
+                if needs_program and bench.program() is None:
+                    self.skipTest("the program isn't built")
                 self.assertEqual(self.shown(block), block)
 
 

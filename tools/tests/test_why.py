@@ -39,17 +39,17 @@ ROWS = (
     (("place t2 01020304 16 0x00",), "HEX: '0x00' begins with 0x, which isn't written here"),
     (("place t2 01020304 16 000",), "HEX: '000' has an odd number of digits"),
     (("read 01:02:03:04",), "ID: '01:02:03:04' has ':', which is no hexadecimal digit"),
-    (("read 010203",), "ID: '010203' has 3 bytes, and this ID has 4 or 7 or 8 or 10"),
+    (("read 010203",), "ID: '010203' has 3 bytes, and this ID has 4, 7, 8 or 10"),
     (("read -",), "ID: an identifier has bytes, and - stands for none"),
     (("place t2 88020304 16 -",), "ID: 88020304 begins with 88h, the cascade tag, which no ID of 4 bytes does"),
     (
         ("link 04112288445566 128 1",),
         "ID: 04112288445566 has 88h, the cascade tag, as its fourth byte, which no ID of 7 bytes has",
     ),
-    (("place t5 E004010203040506 4 5 -",), "SIZE: '5' is none of 4, 8, 16, 32"),
+    (("place t5 E004010203040506 4 5 -",), "SIZE: '5' isn't 4, 8, 16 or 32"),
     (("place t4 02030405 9 000F20003B000D0406E10402000000 -",), "CODE: '9' is above 8"),
     (("place peer 08010203 3 128 1 1023",), "LIMIT: 1023 is below 1024"),
-    (("link E004010203040506 128 1",), "ID: 'E004010203040506' has 8 bytes, and this ID has 4 or 7 or 10"),
+    (("link E004010203040506 128 1",), "ID: 'E004010203040506' has 8 bytes, and this ID has 4, 7 or 10"),
     (("link 08010203 127 1",), "MIU: 127 is below 128"),
     (("link 08010203 128 16",), "RW: '16' is above 15"),
     (("get 65537 6B",), "N: '65537' is above 65536"),
@@ -73,7 +73,7 @@ ROWS = (
     ((T2, "lock 01020304 16"), "01020304 has 16 blocks, of which 15 is the last"),
     ((T5, "lock E004010203040506 4"), "E004010203040506 has 4 blocks, of which 3 is the last"),
     ((T2, "busy 01020304 1 3"), "01020304 is a Type 2 tag, and busy is for a Type 4 tag or a peer"),
-    ((PEER, "dump 08010203"), "08010203 is a peer, and dump is for a Type 2 tag or a Type 4 tag or a Type 5 tag"),
+    ((PEER, "dump 08010203"), "08010203 is a peer, and dump is for a Type 2 tag, a Type 4 tag or a Type 5 tag"),
     ((T2, "inbox 01020304"), "01020304 is a Type 2 tag, and inbox is for a peer"),
     (("offer E004010203040506 6B 01",), "no device E004010203040506 is placed"),
     (("place t2 01020304 4 " + "00" * 17,), "HEX has 17 bytes, more than the 16 of 4 blocks of 4 bytes"),
@@ -117,7 +117,8 @@ class Reasons(unittest.TestCase):
             [
                 "  it is:     place t2 01020304 016 -",
                 "  expected:  place t2 ID BLOCKS HEX",
-                "  BLOCKS is a decimal number from 4 to 256, without sign and leading zeros",
+                "  BLOCKS is how many blocks of 4 bytes the tag has: from 4 to 256, decimal, "
+                "without sign and leading zeros",
             ],
         )
         self.assertEqual(
