@@ -20,6 +20,7 @@ from dumps import flipper, proxmark
 from dumps.dump import T2_BLOCK_SIZE, Dump, hex_bytes
 from dumps.placing import T5_BLOCK_SIZES, nfca_ident, t5_ident
 from faults import BadInput
+from frames.words import either
 from script.refusal import Line, read_script
 
 STORE = re.compile(r"([0-9]+) store (-|(?:[0-9A-F]{2})+)")
@@ -56,12 +57,8 @@ def store_of(report: str, wanted: int | None) -> tuple[int, bytes]:
         raise BadInput("the report has no `store` line: only a `dump` of a script makes one")
     chosen = found if wanted is None else [match for match in found if int(match[1]) == wanted]
     if len(chosen) != 1:
-        raise BadInput(f"choose one by --line: `store` is told by {numbers([match[1] for match in found])}")
+        raise BadInput(f"choose a `store` line by --line: {either(match[1] for match in found)}")
     return int(chosen[0][1]), hex_bytes(chosen[0][2].replace("-", ""), "store")
-
-
-def numbers(lines: list[str]) -> str:
-    return f"line{'s' * (len(lines) != 1)} {' and '.join(filter(None, [', '.join(lines[:-1]), lines[-1]]))}"
 
 
 def tag_of_script(name: str, number: int, memory: bytes) -> Dump:

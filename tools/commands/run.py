@@ -27,7 +27,6 @@ from script.refusal import read_script
 
 REFUSED, NO_PROGRAM = 2, 1
 PIECE = 4096
-BUILT = "crates/nfc_bench/out/nfc_bench"
 
 
 class Feeding(Thread):
@@ -66,7 +65,7 @@ def main(words: list[str]) -> int:
 def missing() -> str:
     """What to do where there is no program."""
     named = os.environ.get(bench.VARIABLE)
-    what = f"{bench.VARIABLE} names {named}, which is no program" if named else f"{BUILT} isn't built"
+    what = f"{bench.VARIABLE} names {named}, which is no program" if named else f"{bench.BUILT} isn't built"
     how = f"Build it by `rt run` in crates/nfc_bench, which proves it, or name one by {bench.VARIABLE}=PROGRAM."
     return f"{what}. {how}"
 

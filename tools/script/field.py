@@ -25,11 +25,10 @@ class NotAccepted(Exception):
 
 @dataclass(frozen=True)
 class Device:
-    """What later lines ask of a device: its kind, how many blocks it has, and the size of one."""
+    """What later lines ask of a device: its kind, and how many blocks it has that can be locked."""
 
     kind: str
     blocks: int = 0
-    size: int = 0
 
 
 class Field:
@@ -54,9 +53,9 @@ class Field:
         if memory[12] == NDEF_MAGIC and memory[14] <= LARGEST_AREA and needed > blocks:
             area = f"bytes 12 and 14, E1h and {memory[14]:02X}h, name an area of {8 * memory[14]} bytes"
             raise NotAccepted(f"{area}, which needs {needed} blocks, and the tag has {blocks}")
-        self.add(ident, Device("t2", blocks, 4))
+        self.add(ident, Device("t2", blocks))
 
-    def place_t4(self, ident: bytes, code: int, container: bytes, head: bytes) -> None:
+    def place_t4(self, ident: bytes, _code: int, container: bytes, head: bytes) -> None:
         if len(container) not in CONTAINER_LENGTHS:
             raise NotAccepted(f"the container has {len(container)} bytes, and it has to have 15 to 64")
         size = word_at(container, 11)
@@ -73,7 +72,7 @@ class Field:
             told = f"{blocks} blocks of {size} are {blocks * size} bytes"
             raise NotAccepted(f"{told}, and {LARGEST_T5_STORE} is the most")
         check_fits(head, blocks * size, f"{counted(blocks, 'block')} of {size} bytes")
-        self.add(ident, Device("t5", blocks, size))
+        self.add(ident, Device("t5", blocks))
 
     def place_peer(self, ident: bytes, *_limits: int) -> None:
         self.add(ident, Device("peer"))

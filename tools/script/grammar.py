@@ -24,7 +24,7 @@ BLOCK = Number("BLOCK", 0, 65535, "the number of a block, from 0 on")
 COUNT = Number("COUNT", 0, 5, "how often it asks for more time before an answer")
 TIMES = Number("TIMES", 1, 59, "by which value it asks for more time")
 ACCEPTED = Number("N", 0, 65536, "how many bytes a value may have that is taken")
-FREE = "fewer than 16 devices are placed, none has this ID"
+FREE = "fewer than 16 devices are placed and none has this ID"
 
 
 @dataclass(frozen=True)
@@ -50,34 +50,24 @@ IN_ORDER = (
         "place t2",
         (NFCA_ID, T2_BLOCKS, HEX),
         Field.place_t2,
-        f"{FREE}, HEX fits into the blocks, and so does the area that its bytes 12 and 14 name",
+        f"{FREE}; HEX fits into the blocks, and so does the area that its bytes 12 and 14 name",
     ),
     Command(
         "place t4",
         (NFCA_ID, CODE, HEX, HEX),
         Field.place_t4,
-        f"{FREE}, the container has 15 to 64 bytes and names another file than E103h of at most 32767 bytes, "
+        f"{FREE}; the container has 15 to 64 bytes and names another file than E103h of at most 32767 bytes, "
         "and the second HEX fits into it",
     ),
     Command(
         "place t5",
         (T5_ID, T5_BLOCKS, Size(), HEX),
         Field.place_t5,
-        f"{FREE}, HEX fits into the blocks, and they have at most 65536 bytes",
+        f"{FREE}; HEX fits into the blocks, and they have at most 65536 bytes",
     ),
-    Command(
-        "place peer",
-        (NFCA_ID, LR, MIU, RW, LIMIT),
-        Field.place_peer,
-        FREE,
-    ),
+    Command("place peer", (NFCA_ID, LR, MIU, RW, LIMIT), Field.place_peer, FREE),
     Command("lock", (ANY_ID, BLOCK), Field.lock, "a Type 2 or Type 5 tag with this ID has this block"),
-    Command(
-        "busy",
-        (ANY_ID, COUNT, TIMES),
-        Field.busy,
-        "a Type 4 tag or a peer with this ID is placed",
-    ),
+    Command("busy", (ANY_ID, COUNT, TIMES), Field.busy, "a Type 4 tag or a peer with this ID is placed"),
     Command("offer", (ANY_ID, HEX, HEX), Field.offer, "a peer with this ID is placed"),
     Command("remove", (ANY_ID,), Field.remove, "a device with this ID is placed"),
     Command("dump", (ANY_ID,), Field.dump, "a tag with this ID is placed"),

@@ -151,7 +151,7 @@ class Message:
         if not word.startswith("gen:"):
             return Hexadecimal().value(word)
         count, start = map(int, word.split(":")[1:])
-        return bytes((start + place) % 256 for place in range(count))
+        return (bytes(range(256)) * (count // 256 + 2))[start : start + count]
 
 
 @dataclass(frozen=True)
@@ -178,7 +178,7 @@ class Fates:
     def fault(self, word: str) -> str | None:
         wrong = next((mark for mark in word if mark not in "PDLB"), None)
         if wrong is not None:
-            return f"{wrong!r} is no letter of a fate"
+            return f"letter {word.index(wrong) + 1} is {wrong!r}, and fates are P, D, L and B"
         return f"{len(word)} letters are more than 4000" if len(word) > 4000 else None
 
     def value(self, word: str) -> str:

@@ -21,7 +21,6 @@ class Refused(Exception):
 
     def __init__(self, reason: str, command: Command | None = None, kind: Kind | None = None) -> None:
         super().__init__(reason)
-        self.reason = reason
         self.command = command
         self.kind = kind
 
@@ -47,9 +46,9 @@ class Refusal:
     def told(self) -> list[str]:
         """The reason, and the form that was expected."""
         fault = self.fault
-        told = [f"line {self.number} is refused: {fault.reason}"]
+        told = [f"line {self.number} is refused: {fault}"]
         text = self.line.decode("utf-8", "backslashreplace").rstrip("\r")
-        if text.isprintable():
+        if text and text.isprintable():
             told.append(f"  it is:     {text if len(text) <= 80 else text[:80] + '..'}")
         if fault.command is not None:
             told.append(f"  expected:  {fault.command.form}")

@@ -115,7 +115,7 @@ class Choices(Files):
     def test_bad_input_is_one_sentence_and_status_2(self) -> None:
         report = self.put("report", self.REPORT)
         one = self.put("one", "2 store 010203\n")
-        choose = "choose one by --line: `store` is told by lines 2 and 4"
+        choose = "choose a `store` line by --line: 2 or 4"
         self.refuses(choose, report)
         self.refuses(choose, report, "--line", 3)
         self.refuses("the report has no `store` line: only a `dump` of a script makes one", self.put("none", "1 ok\n"))
