@@ -30,10 +30,24 @@ def close_output() -> None:
     os.dup2(os.open(os.devnull, os.O_WRONLY), sys.stdout.fileno())
 
 
-def obeyed(word: str, words: list[str]) -> int:
-    """The status of a word's run, where bad input is one sentence and never a traceback."""
+def obeyed(words: list[str]) -> int:
+    """The status of the word that stands first, with the words behind it."""
+    if not words:
+        print(overview(), file=sys.stderr)
+        return 2
+    if words[0] in ("-h", "--help"):
+        print(overview())
+        return 0
+    if words[0] not in commands.words():
+        raise BadInput(f"there is no word {words[0]!r}; the words are {', '.join(commands.words())}")
+    return commands.obey(words[0], words[1:])
+
+
+def main(words: list[str] | None = None) -> int:
+    """The exit status. Bad input is one sentence, and never a traceback."""
+    words = sys.argv[1:] if words is None else words
     try:
-        status = commands.obey(word, words)
+        status = obeyed(words)
         sys.stdout.flush()
         return status
     except BrokenPipeError:
@@ -45,24 +59,12 @@ def obeyed(word: str, words: list[str]) -> int:
         sentence = str(problem)
     except OSError as problem:
         sentence = ": ".join(filter(None, [problem.filename, problem.strerror])) or str(problem)
-    print(f"nfc {word}: {sentence}", file=sys.stderr)
+    known = [word for word in words[:1] if word in commands.words()]
+    print(f"{' '.join(['nfc', *known])}: {sentence}", file=sys.stderr)
     return 2
 
 
-def main(words: list[str] | None = None) -> int:
-    words = sys.argv[1:] if words is None else words
-    if not words:
-        print(overview(), file=sys.stderr)
-        return 2
-    if words[0] in ("-h", "--help"):
-        print(overview())
-        return 0
-    if words[0] not in commands.words():
-        print(f"nfc: there is no word {words[0]!r}; the words are {', '.join(commands.words())}", file=sys.stderr)
-        return 2
-    return obeyed(words[0], words[1:])
-
-
 if __name__ == "__main__":
+    sys.stdout = sys.stdout or open(os.devnull, "w")
     sys.stdout.reconfigure(errors="backslashreplace")
     sys.exit(main())
