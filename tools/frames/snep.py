@@ -4,7 +4,7 @@ from __future__ import annotations
 
 from frames.words import code, counted
 from ndef.records import NoMessage
-from ndef.telling import message_lines
+from ndef.telling import message_line
 
 PUT = 0x02
 CONTINUING = (0x00, 0x80)
@@ -61,6 +61,6 @@ class Snep:
 def records_text(message: bytes) -> str:
     """The records of a message that came as a whole; nothing where it is none."""
     try:
-        return f": {'; '.join(message_lines(message))}"
+        return f": {message_line(message)}"
     except NoMessage:
         return ""

@@ -21,6 +21,7 @@ from ndef.uri import read_uri
 
 ACTIONS = ("do it now", "save it", "open it for editing")
 MOST_BYTES = 24
+LONGEST_LINE = 240
 DEEPEST = 4
 
 
@@ -29,10 +30,16 @@ def message_lines(message: bytes) -> list[str]:
     return [record_text(record) for record in records_of(message)]
 
 
+def message_line(message: bytes) -> str:
+    """A message in one line, which is cut off where it is long. `NoMessage` tells why it is none."""
+    told = "; ".join(message_lines(message))
+    return told if len(told) <= LONGEST_LINE else told[:LONGEST_LINE] + ".."
+
+
 def message_text(message: bytes) -> str:
     """A message in one line; why, where it is none."""
     try:
-        return "; ".join(message_lines(message))
+        return message_line(message)
     except NoMessage as fault:
         return f"no NDEF message: {fault}"
 
@@ -98,7 +105,7 @@ def action_text(payload: bytes) -> str | None:
 
 
 def size_text(payload: bytes) -> str | None:
-    return f"size {int.from_bytes(payload, 'big')} bytes" if len(payload) == 4 else None
+    return f"size {counted(int.from_bytes(payload, 'big'), 'byte')}" if len(payload) == 4 else None
 
 
 def kind_text(payload: bytes) -> str | None:

@@ -112,7 +112,7 @@ class Records(unittest.TestCase):
         message = Record(WELL_KNOWN, b"U", None, b"\x01x").encoded
         for _ in range(3000):
             message = Record(WELL_KNOWN, b"Sp", None, message).encoded
-        self.assertIn("too many Smart Posters within each other", message_text(message))
+        self.assertIn("too many Smart Posters within each other", message_lines(message)[0])
 
     def test_chunks_are_put_together(self) -> None:
         message = (
@@ -148,6 +148,10 @@ class Records(unittest.TestCase):
         }.items():
             with self.subTest(message=message):
                 self.assertEqual(message_text(message), f"no NDEF message: {why}")
+
+    def test_a_long_line_is_cut_off(self) -> None:
+        told = well_known(b"U", b"\x00" + b"x" * 500)
+        self.assertEqual(told, "URI " + "x" * 236 + "..")
 
     def test_any_bytes_are_told(self) -> None:
         chance = random.Random(52)
