@@ -4,8 +4,8 @@
     python3 tools/nfc.py WORD ..
 
 `--help` lists the words, and `WORD --help` tells each. The exit status is 0 where what was asked is done, and 2 for
-bad input or wrong words, with one sentence on standard error. `run` ends with the program's own status (docs/script.md),
-and with 1 where there is no program to run.
+bad input or wrong words, with one sentence on standard error. `run` ends with the program's own status
+(docs/script.md), and with 1 where there is no program to run.
 """
 
 from __future__ import annotations
@@ -14,7 +14,7 @@ import os
 import sys
 
 import commands
-from commands.given import BadInput
+from faults import BadInput
 
 
 def overview() -> str:
@@ -30,10 +30,24 @@ def close_output() -> None:
     os.dup2(os.open(os.devnull, os.O_WRONLY), sys.stdout.fileno())
 
 
-def obeyed(word: str, words: list[str]) -> int:
-    """The status of a word's run, where bad input is one sentence and never a traceback."""
+def obeyed(words: list[str]) -> int:
+    """The status of the word that stands first, with the words behind it."""
+    if not words:
+        print(overview(), file=sys.stderr)
+        return 2
+    if words[0] in ("-h", "--help"):
+        print(overview())
+        return 0
+    if words[0] not in commands.words():
+        raise BadInput(f"there is no word {words[0]!r}; the words are {', '.join(commands.words())}")
+    return commands.obey(words[0], words[1:])
+
+
+def main(words: list[str] | None = None) -> int:
+    """The exit status. Bad input is one sentence, and never a traceback."""
+    words = sys.argv[1:] if words is None else words
     try:
-        status = commands.run(word, words)
+        status = obeyed(words)
         sys.stdout.flush()
         return status
     except BrokenPipeError:
@@ -44,24 +58,13 @@ def obeyed(word: str, words: list[str]) -> int:
     except BadInput as problem:
         sentence = str(problem)
     except OSError as problem:
-        sentence = ": ".join(filter(None, [problem.filename, problem.strerror]))
-    print(f"nfc {word}: {sentence}", file=sys.stderr)
+        sentence = ": ".join(filter(None, [problem.filename, problem.strerror])) or str(problem)
+    known = [word for word in words[:1] if word in commands.words()]
+    print(f"{' '.join(['nfc', *known])}: {sentence}", file=sys.stderr)
     return 2
 
 
-def main(words: list[str] | None = None) -> int:
-    words = sys.argv[1:] if words is None else words
-    if not words:
-        print(overview(), file=sys.stderr)
-        return 2
-    if words[0] in ("-h", "--help"):
-        print(overview())
-        return 0
-    if words[0] not in commands.words():
-        print(f"nfc: there is no word {words[0]!r}; the words are {', '.join(commands.words())}", file=sys.stderr)
-        return 2
-    return obeyed(words[0], words[1:])
-
-
 if __name__ == "__main__":
+    sys.stdout = sys.stdout or open(os.devnull, "w")
+    sys.stdout.reconfigure(errors="backslashreplace")
     sys.exit(main())

@@ -2,7 +2,7 @@
 
 A word's module has its name. Its docstring's first line is what `nfc.py --help` tells of it, the whole one what
 `nfc.py WORD --help` tells, and its `main(words)` obeys the words behind it and gives the exit status. It raises
-`BadInput` (given.py) where something can't be done.
+`BadInput` (faults.py) where something can't be done.
 """
 
 from __future__ import annotations
@@ -24,5 +24,5 @@ def summary(word: str) -> str:
     return (importlib.import_module(f"commands.{word}").__doc__ or "").strip().partition("\n")[0]
 
 
-def run(word: str, behind: list[str]) -> int:
+def obey(word: str, behind: list[str]) -> int:
     return importlib.import_module(f"commands.{word}").main(behind)

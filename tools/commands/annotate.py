@@ -2,7 +2,8 @@
 
     python3 tools/nfc.py annotate [REPORT]
 
-The report, a file or else standard input, is written again, and behind each line that shows a frame stands what it is.
+The report, a file or else standard input, is written again, and behind each line that shows a frame stands what it is,
+and behind one that tells messages what records they hold.
 """
 
 from __future__ import annotations

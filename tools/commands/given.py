@@ -7,14 +7,12 @@ import re
 import sys
 from typing import BinaryIO, Iterable, Iterator, NoReturn
 
+from faults import BadInput
+
 REPORT_LINE = re.compile(
-    r"[0-9]+ (?:! reset|[><*] (?:-|(?:[0-9A-F]{2})+(?:/[1-7])?) (?:pass|damage|lose|break)|[a-z0-9][ -~]*)"
+    r"[1-9][0-9]{0,3} (?:! reset|[><*] (?:-|(?:[0-9A-F]{2})+(?:/[1-7])?) (?:pass|damage|lose|break)|[a-z][ -~]*)"
     r"|fault [0-9].*|made .*"
 )
-
-
-class BadInput(Exception):
-    """Why something can't be done, in one sentence."""
 
 
 class Words(argparse.ArgumentParser):

@@ -6,14 +6,11 @@
 from __future__ import annotations
 
 import from_dump
-from commands.given import BadInput, Words
+from commands.given import Words
 
 
 def main(words: list[str]) -> int:
     parser = Words("place", __doc__)
     from_dump.add_words(parser)
-    try:
-        from_dump.run(parser.parse_args(words))
-    except from_dump.DumpError as problem:
-        raise BadInput(str(problem)) from None
+    from_dump.run(parser.parse_args(words))
     return 0
