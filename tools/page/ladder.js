@@ -258,7 +258,8 @@ const drawLadder = (() => {
   /* Entries ------------------------------------------------------------------------------------------------------ */
 
   function count(frames) {
-    return frames.length === 1 ? "1 frame" : `${frames.length} frames`;
+    const number = frames.filter((frame) => frame.mark !== "!").length;
+    return number === 1 ? "1 frame" : `${number} frames`;
   }
 
   function title(entry) {

@@ -46,11 +46,14 @@ class Blocks:
         raise NotImplementedError
 
     def request(self, event: Event) -> str:
-        """The state, where a write didn't arrive. One that arrives is told by what comes back."""
+        """The state before the first write, and at one that doesn't arrive. What comes back tells all others."""
         self.asked = event.frame.data
-        if self.is_write() and not self.has_begun:
+        if not self.is_write():
+            return ""
+        is_first = not self.has_begun
+        if is_first:
             self.first, self.has_begun = self.message(), True
-        return self.state() if self.is_write() and event.fate != "pass" else ""
+        return self.state() if is_first or event.fate != "pass" else ""
 
     def answer(self, event: Event) -> str:
         if not self.is_write():
@@ -128,13 +131,16 @@ class FileStore:
         self.command = b""
         self.is_file = False
         self.length: int | None = None
+        self.has_begun = False
         self.has_finished = False
 
     def request(self, event: Event) -> str:
         if event.whole:
             self.command = event.whole
-        is_update = event.whole[:2] == UPDATE_BINARY
-        return self.state() if is_update and event.fate != "pass" else ""
+        if event.whole[:2] != UPDATE_BINARY:
+            return ""
+        is_first, self.has_begun = not self.has_begun, True
+        return self.state() if is_first or event.fate != "pass" else ""
 
     def answer(self, event: Event) -> str:
         if not event.whole:
