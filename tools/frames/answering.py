@@ -32,13 +32,13 @@ class Answering:
     def addressed(self, request: Frame) -> str:
         """The tag of NFC-V whose identifier a request carries, least byte first, behind its code."""
         data = request.data
-        if data[0] == ONE_SLOT or not data[0] & ADDRESSED or len(data) < 2 + IDENTIFIER_LENGTH:
+        if len(data) < 2 + IDENTIFIER_LENGTH or data[0] == ONE_SLOT or not data[0] & ADDRESSED:
             return ""
         return hexadecimal(data[2 : 2 + IDENTIFIER_LENGTH][::-1])
 
     def present(self, answer: Frame) -> str:
         """The tag of NFC-V that answers an inventory by its identifier, or any other request that was for it."""
-        if self.asked.data[0] == ONE_SLOT and self.asked.data[1:2] == bytes([INVENTORY]):
+        if self.asked.data[:2] == bytes([ONE_SLOT, INVENTORY]):
             whole = len(answer.data) == 2 + IDENTIFIER_LENGTH
             return hexadecimal(answer.data[2:][::-1]) if whole else ""
         return self.addressed(self.asked)

@@ -51,12 +51,15 @@ class Reader:
         self.answering = Answering()
         self.is_nfcv = False
 
+    def dark(self) -> None:
+        self.is_nfcv = False
+        self.answering.dark()
+
     def event(self, text: str) -> Event | None:
         """What happens by this line, if it shows something of the air."""
         number = text.partition(" ")[0]
         if is_reset(text):
-            self.is_nfcv = False
-            self.answering.dark()
+            self.dark()
             return Event(number, "!", Frame(b""), "", self.session.reset(), False)
         shown = frame_line(text)
         return None if shown is None else self.transmission(number, shown)
@@ -65,13 +68,14 @@ class Reader:
         told = self.session.tell(shown)
         if shown.mark == ">":
             self.is_nfcv = self.is_nfcv_request(shown.frame)
-        device = self.answering.device(shown, self.is_nfcv)
+        is_nfcv = self.is_nfcv
+        device = self.answering.device(shown, is_nfcv)
         if shown.fate == "break":
-            self.answering.dark()
+            self.dark()
         told_by = self.session.told_by
-        whole = told_by.whole if isinstance(told_by, (IsoDep, NfcDep)) else b""
+        whole = told_by.whole if shown.mark != "*" and isinstance(told_by, (IsoDep, NfcDep)) else b""
         protocol = type(told_by) if told_by else None
-        return Event(number, shown.mark, shown.frame, shown.fate, told, self.is_nfcv, device, protocol, whole)
+        return Event(number, shown.mark, shown.frame, shown.fate, told, is_nfcv, device, protocol, whole)
 
     def is_nfcv_request(self, frame: Frame) -> bool:
         """Whether it is Type 5's. A report doesn't print it; of one that fits nothing the first byte decides."""

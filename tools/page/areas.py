@@ -52,7 +52,7 @@ def message(memory: Memory, start: int, end: int, reserves: bool) -> bytes | Non
             continue
         length = length_at(memory, free)
         if kind == NDEF:
-            return bytes(memory[next(free)] for _ in range(length))
+            return bytes([memory[next(free)] for _ in range(length)])
         places = [next(free) for _ in range(length)]
         if reserves and kind in (LOCK_CONTROL, MEMORY_CONTROL) and length == 3:
             reserved |= reserved_by(kind, [memory[place] for place in places], places[-1])

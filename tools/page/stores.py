@@ -56,6 +56,8 @@ class Blocks:
         return self.state() if is_first or event.fate != "pass" else ""
 
     def answer(self, event: Event) -> str:
+        if not self.asked:
+            return ""
         if not self.is_write():
             self.read(event.frame.data)
             return ""

@@ -40,7 +40,7 @@ class Windows:
 
     def notes(self, event: Event) -> list[dict[str, object]]:
         """Of each numbered PDU that the frame completes its numbers, and how much of the window is taken behind it."""
-        if event.protocol is not NfcDep:
+        if event.protocol is not NfcDep or event.mark == "*":
             return []
         if event.frame.data[3] & 0xFE == ATR:
             self.connections.clear()

@@ -6,6 +6,7 @@ import collections
 import contextlib
 import io
 import pathlib
+import random
 import re
 import shutil
 import subprocess
@@ -13,6 +14,7 @@ import tempfile
 import unittest
 
 import nfc
+import to_pcap
 from commands.given import report_lines
 from page.data import ladder_data
 from page.file import HERE, as_json, page
@@ -109,6 +111,15 @@ class Data(unittest.TestCase):
         numbers = ["N(S) 0, N(R) 0", "N(S) 0, N(R) 1", "N(S) 0, N(R) 1"]
         self.assertEqual([note["numbers"] for note in notes], numbers)
         self.assertEqual({(note["open"], note["window"], note["own"]) for note in notes}, {(1, 1, True)})
+
+    def test_lines_in_any_order_are_read(self):
+        lines = [line for report in (NOISE, BROKEN_OFF, COLLIDE) for line in report.read_text("ascii").splitlines()]
+        dice = random.Random(52)
+        for _ in range(40):
+            shuffled = dice.sample(lines, 60)
+            data = ladder_data(shuffled, "")
+            self.assertEqual(len(frames(data)), sum(line.split(" ")[1] in list("!<>*") for line in shuffled))
+            self.assertGreaterEqual(len(to_pcap.convert(shuffled)), len(frames(data)))
 
     def test_an_entry_that_is_cut_off_has_no_answer(self):
         (entry,) = ladder_data(["3 ! reset", "3 > 26/7 pass"], "")["entries"]

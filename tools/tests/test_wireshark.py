@@ -17,6 +17,7 @@ from frames import llcp, snep
 
 ROOT = pathlib.Path(__file__).resolve().parents[2]
 SCRIPT = ROOT / "tools" / "wireshark" / "nfc_forum.lua"
+NOISE = ROOT / "tests/cases/written-by-hand/a-put-through-noise.stdout"
 REPORTS = ("examples/*.stdout", "tests/cases/written-by-hand/*.stdout", "tests/cases/links/*[037].stdout")
 FIELDS = (
     "frame.comment _ws.col.Info nfc_forum.line nfc_forum.fate nfc_forum.sdd.known_bits nfc_forum.common_bits "
@@ -45,8 +46,8 @@ def shown(packets, *words: str, filter: str = "") -> list[dict[str, list[str]]]:
         asked = [word for name in FIELDS for word in ("-e", name)]
         chosen = ["-Y", filter] if filter else []
         run = subprocess.run([*command, *asked, *chosen, *words], capture_output=True, text=True, check=True)
-    if "Lua" in run.stderr:
-        raise AssertionError(run.stderr)
+    if "Lua Error" in run.stdout + run.stderr:
+        raise AssertionError(run.stdout + run.stderr)
     split = (dict(zip(FIELDS, line.split("\t"))) for line in run.stdout.splitlines())
     return [{name: value.split("|") if value else [] for name, value in each.items()} for each in split]
 
@@ -145,6 +146,19 @@ def dep(*payloads: str) -> list[str]:
 
 
 @unittest.skipUnless(is_installed(), "tshark isn't installed")
+class Readme(unittest.TestCase):
+    def test_what_it_shows_is_what_comes_out(self):
+        page = (ROOT / "tools" / "README.md").read_text("utf-8")
+        command, told = re.search(r"    (tshark -X .*\n        .*)\n\n((?:    .*\n)+)", page).groups()
+        with tempfile.TemporaryDirectory() as folder:
+            lines = NOISE.read_text("ascii").splitlines()
+            (pathlib.Path(folder) / "noise.pcapng").write_bytes(to_pcap.capture(to_pcap.convert(lines)))
+            (pathlib.Path(folder) / "tools").symlink_to(ROOT / "tools")
+            run = subprocess.run(command, shell=True, cwd=folder, capture_output=True, text=True)
+        self.assertEqual([f"    {line}" for line in run.stdout.splitlines()], told.splitlines())
+
+
+@unittest.skipUnless(is_installed(), "tshark isn't installed")
 class Frames(unittest.TestCase):
     """Packets of each kind that the reports don't have."""
 
@@ -172,6 +186,18 @@ class Frames(unittest.TestCase):
         (packet,) = shown(to_pcap.convert(dep(f"0520020203FF05010F06{len(name):02X}{name.hex().upper()}")))
         self.assertEqual((packet["llcp.miu"], packet["llcp.sn"]), (["1151"], [name.decode()]))
 
+    def test_information_of_no_bytes_is_no_pdu(self):
+        report = ("1 > F004D40600 pass", "1 > F004D40611 pass", "1 > F006D406120000 pass", "1 > F004D40603 pass")
+        told = [packet["_ws.col.Info"] for packet in shown(to_pcap.convert(report))]
+        expected = ["PNI 0", "PNI 1, chained", "PNI 2, chained", "PNI 3: SYMM"]
+        self.assertEqual(told, [[f"DEP_REQ {text}"] for text in expected])
+
+    def test_frames_that_are_broken_are_no_error_of_the_script(self):
+        whole = ("F00DD507018304011081000000", "F00ED40600008000020000", "9320", "93700102030404", "260140060504030201")
+        cut = [frame[:length] for frame in whole for length in range(2, len(frame), 2)]
+        report = [f"1 {mark} {frame} pass" for frame in cut for mark in "><*"]
+        self.assertEqual(len(shown(to_pcap.convert(report))), len(report))
+
     def test_frames_of_type_5(self):
         turns = ("> 222106050403020104E00711223344", "< 0110", "> 0230FF01", "< 0001020304")
         write, refused, read, _ = shown(to_pcap.convert(f"1 {turn} pass" for turn in turns))
@@ -184,7 +210,7 @@ class Frames(unittest.TestCase):
         self.assertEqual((packet["t2t.command"], packet["t2t.block"]), (["0xa2"], ["4"]))
 
     def test_a_filter_finds_a_layer(self):
-        lines = (ROOT / "tests/cases/written-by-hand/a-put-through-noise.stdout").read_text("ascii").splitlines()
+        lines = NOISE.read_text("ascii").splitlines()
         filters = {"llcp.ptype == 12 && nfc_dep.pni == 1": 3, 'nfc_forum.fate == "lose" || nfc_dep.again == 1': 3}
         for filter, count in filters.items():
             with self.subTest(filter):

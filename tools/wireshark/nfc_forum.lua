@@ -39,8 +39,7 @@ local fate_experts = {
   lose = ProtoExpert.new("nfc_forum.lost", "The frame didn't arrive", groups.SEQUENCE, severities.WARN),
   ["break"] = ProtoExpert.new("nfc_forum.broken", "Lost, and the field goes dark", groups.SEQUENCE, severities.ERROR),
 }
-nfc.fields = frame_fields
-nfc.experts = fate_experts
+nfc.fields, nfc.experts = frame_fields, fate_experts
 
 local t2_commands = { [0x30] = "READ", [0xA2] = "WRITE" }
 local t2_fields = {
@@ -144,8 +143,7 @@ local llcp_fields = {
   value = ProtoField.bytes("llcp.parameter.value", "Value"),
 }
 local no_pdu = ProtoExpert.new("llcp.malformed", "No well-formed PDU", groups.MALFORMED, severities.ERROR)
-llcp.fields = llcp_fields
-llcp.experts = { no_pdu }
+llcp.fields, llcp.experts = llcp_fields, { no_pdu }
 
 local snep_codes = {
   [0x00] = "CONTINUE", [0x01] = "GET", [0x02] = "PUT", [0x7F] = "REJECT", [0x80] = "CONTINUE", [0x81] = "SUCCESS",
@@ -434,9 +432,7 @@ end
 -- What a frame does to the link, at the first look: whether it comes again, and the payload that it completes.
 local function dep_step(range, from_reader, record)
   local command = range(2, 2):uint()
-  if command == ATR_REQ then
-    air.link = new_link()
-  end
+  if command == ATR_REQ then air.link = new_link() end
   record.link, record.up, record.units, record.is_new = air.link, not from_reader, {}, true
   local is_exchange = command == DEP_REQ or command == DEP_RES
   if not is_exchange or range:len() < 5 or range(4, 1):bitfield(0, 3) ~= 0 then
@@ -493,8 +489,8 @@ local function dissect_exchange(range, item, tree, record)
   end
   item:add(dep_fields.again, record.again or false):set_generated()
   local text = string.format(" PNI %d%s%s", pni, flag == 1 and ", chained" or "", record.again and ", again" or "")
-  if not record.payload then
-    item:add(dep_fields.data, range(5))
+  if not record.payload or record.payload:len() == 0 then
+    if range:len() > 5 then item:add(dep_fields.data, range(5)) end
     return text
   end
   local payload = record.is_joined and record.payload:tvb("Payload of NFC-DEP"):range() or range(5)
@@ -587,10 +583,14 @@ local HEADER_LENGTH, RATS, DESELECT = 4, 0xE0, 0xC2
 local encapsulations = DissectorTable.get("wtap_encap")
 local iso14443 = encapsulations:get_dissector(wtap_encaps.ISO14443)
 
+-- What is malformed there Wireshark shows by itself. It is no error of this script.
+local function call_iso14443(tvb, pinfo, tree)
+  pcall(iso14443.call, iso14443, tvb, pinfo, tree)
+end
+
 -- A frame without its check bytes. Where the header doesn't say that they were dropped, right ones are taken away.
 local function without_crc(range, event)
-  local dropped = event == FROM_CARD_DROPPED or event == FROM_READER_DROPPED
-  local length = range:len()
+  local dropped, length = event == FROM_CARD_DROPPED or event == FROM_READER_DROPPED, range:len()
   if dropped or length < 3 or range(length - 2, 2):le_uint() ~= crc_a(range(0, length - 2):bytes()) then
     return range
   end
@@ -646,7 +646,7 @@ end
 local function call_with_crc(range, pinfo, tree)
   local crc = crc_a(range:bytes())
   local text = string.format("00FE0003%s%02X%02X", tostring(range:bytes()), crc % 256, math.floor(crc / 256))
-  iso14443:call(ByteArray.new(text):tvb("Frame with its check bytes"), pinfo, tree)
+  call_iso14443(ByteArray.new(text):tvb("Frame with its check bytes"), pinfo, tree)
 end
 
 local dissectors = {
@@ -661,7 +661,7 @@ function nfc.dissector(tvb, pinfo, tree)
     if not pinfo.visited then
       dark()
     end
-    iso14443:call(tvb, pinfo, tree)
+    call_iso14443(tvb, pinfo, tree)
     return
   end
   local range = without_crc(tvb(HEADER_LENGTH), event)
@@ -674,7 +674,7 @@ function nfc.dissector(tvb, pinfo, tree)
   elseif record.kind == "short_block" and tvb:len() == HEADER_LENGTH + 1 then
     call_with_crc(range, pinfo, tree)
   else
-    iso14443:call(tvb, pinfo, tree)
+    call_iso14443(tvb, pinfo, tree)
   end
 end
 
