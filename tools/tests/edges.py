@@ -57,7 +57,7 @@ def lines() -> Iterator[str]:
 
 
 def at_limits(name: str, place: int, kind: Number) -> Iterator[str]:
-    """The command with this number at its limits and just past them, and spelled in ways that aren't the language's."""
+    """The command with this number at its limits and just past them, and spelled as the language doesn't."""
     at = place + len(name.split(" "))
     for value in (kind.least - 1, kind.least, kind.most, kind.most + 1, f"0{kind.least}", f"+{kind.least}", ""):
         words = LEGAL[name].split(" ")
@@ -77,7 +77,7 @@ def on_each_device() -> Iterator[str]:
 
 
 def identifiers() -> Iterator[str]:
-    for ident in ("", "-", "01", "88020304", "8802030405060708", "04112288445566", "88112233445566", "0411228844556601"):
+    for ident in ("", "-", "01", "88020304", "8802030405060708", "04112288445566", "88112233445566"):
         yield f"read {ident}"
         yield f"link {ident} 128 1"
         yield f"place t5 {ident} 4 4 -"
@@ -92,7 +92,7 @@ def contents() -> Iterator[str]:
         head = "00" * min(count * size, 1500)
         yield f"place t5 E001010101010101 {count} {size} {head}"
         yield f"place t5 E001010101010101 {count} {size} {head}00"
-    for blocks, area in ((4, 0), (5, 0), (5, 1), (6, 1), (16, 6), (15, 6), (256, 0x7E), (255, 0x7E), (4, 0x7F), (4, 0xFF)):
+    for blocks, area in ((4, 0), (5, 1), (6, 1), (16, 6), (15, 6), (256, 0x7E), (255, 0x7E), (4, 0x7F), (4, 0xFF)):
         yield f"place t2 01010101 {blocks} {'00' * 12}E110{area:02X}"
         yield f"place t2 01010101 {blocks} {'00' * 12}E210{area:02X}"
         yield f"place t2 01010101 {blocks} {'00' * (4 * blocks)}"
@@ -108,7 +108,7 @@ def contents() -> Iterator[str]:
         yield f"lookup {'~' * length}"
     for length in (0, 1, 3999, 4000, 4001):
         yield f"fates {'PDLB'[: length % 4] + 'P' * (length - length % 4)}"
-    for message in ("gen:0:0", "gen:65536:255", "gen:65537:0", "gen:0:256", "gen:00:0", "gen:0:00", "gen::", "gen:1:1:1"):
+    for message in ("gen:0:0", "gen:65536:255", "gen:65537:0", "gen:0:256", "gen:00:0", "gen:0:00", "gen::", "gen:1"):
         yield f"put {message}"
         yield f"write 02020202 {message}"
 
