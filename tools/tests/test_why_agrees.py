@@ -20,9 +20,9 @@ from tests.edges import edges
 from tests.mutants import mutants
 
 ROOT = Path(__file__).resolve().parents[2]
-COUNT = 5200
+COUNT = 5100
 LARGEST_SEED = 700
-MOST_LINES = 8
+MOST_LINES = 6
 LAST_LINE = re.compile(rb"(?:^|\n)fault 2 line ([0-9]+)\n\Z")
 
 
