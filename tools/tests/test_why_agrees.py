@@ -1,4 +1,4 @@
-"""`nfc.py why` and the program agree on which line is refused, over scripts with faults in them.
+"""`nfc.py why` and the program agree on which line is refused, over scripts with faults in them and at all limits.
 
     NFC_BENCH=PROGRAM python3 -m unittest tests.test_why_agrees       (in tools/)
 
@@ -16,12 +16,13 @@ from pathlib import Path
 
 import bench
 from script.refusal import read_script
+from tests.edges import edges
 from tests.mutants import mutants
 
 ROOT = Path(__file__).resolve().parents[2]
-COUNT = 5200
+COUNT = 5100
 LARGEST_SEED = 700
-MOST_LINES = 8
+MOST_LINES = 6
 LAST_LINE = re.compile(rb"(?:^|\n)fault 2 line ([0-9]+)\n\Z")
 
 
@@ -51,7 +52,7 @@ class Agreement(unittest.TestCase):
         program = bench.program()
         if program is None:
             self.skipTest("the program isn't built")
-        scripts = list(mutants(seeds(), COUNT, 1))
+        scripts = [*edges(), *mutants(seeds(), COUNT, 1)]
         with ThreadPoolExecutor(os.cpu_count()) as pool:
             refused = list(pool.map(lambda script: refused_by_program(program, script), scripts))
         for script, line in zip(scripts, refused, strict=True):
