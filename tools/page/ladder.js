@@ -1,9 +1,10 @@
 /* Draws a report as a ladder: the reader left, each device right, time downwards.
 
-   drawLadder(element, data, options) fills the element and gives { drawAll, fold, unfold }.
+   drawLadder(element, data, options) fills the element and gives { drawAll, fold, unfold }. Called again for the same
+   element it draws anew.
 
    data, as tools/page/data.py makes it:
-     title    a text
+     title    a text, or an empty one
      devices  [{ name, kind }], the columns right of the field's
      entries  [{ line, answer, frames }], and of each frame
        mark    ">" to the devices, "<" an answer, "*" a clash, "!" a reset
@@ -363,7 +364,8 @@ const drawLadder = (() => {
     view.element.style.setProperty("--picture", `${view.columns.width}px`);
     const top = html("div", "top");
     top.append(heads(view));
-    const before = [html("h1", "", view.data.title), devices(view), legend(view), buttons(view), top];
+    const heading = view.data.title ? [html("h1", "", view.data.title)] : [];
+    const before = [...heading, devices(view), legend(view), buttons(view), top];
     view.element.replaceChildren(...before, ...view.data.entries.map((entry) => drawEntry(entry, view)));
     watch(view);
   }
@@ -376,16 +378,29 @@ const drawLadder = (() => {
     view.parts.forEach((part, index) => setFolded(part, folded[index]));
   }
 
+  /* What an element shows; an earlier picture in it listens no more when another takes its place. */
+  const views = new WeakMap();
+
+  function leave(element) {
+    const before = views.get(element);
+    if (!before) return;
+    if (before.observer) before.observer.disconnect();
+    if (before.listening) before.listening.abort();
+  }
+
   return function drawLadder(element, data, options = {}) {
     const total = data.entries.reduce((sum, entry) => sum + entry.frames.length, 0);
     const isFolded = options.folded === undefined ? total > MANY && !options.all : options.folded;
     const view = { element, data, options, isFolded };
     const drawAll = () => view.pieces.forEach((piece) => fill(piece, view));
+    leave(element);
     draw(view);
     if (typeof window !== "undefined") {
-      window.addEventListener("resize", () => redrawAtOtherWidth(view));
-      window.addEventListener("beforeprint", drawAll);
+      view.listening = new AbortController();
+      window.addEventListener("resize", () => redrawAtOtherWidth(view), { signal: view.listening.signal });
+      window.addEventListener("beforeprint", drawAll, { signal: view.listening.signal });
     }
+    views.set(element, view);
     return { drawAll, fold: () => foldAll(view, true), unfold: () => foldAll(view, false) };
   };
 })();

@@ -216,6 +216,20 @@ class Browser(unittest.TestCase):
         self.assertIn('class="ladder narrow"', dom)
 
 
+    def test_a_picture_is_drawn_anew_in_the_same_element(self):
+        other = as_json(ladder_data(["9 ! reset", "9 > 26/7 lose", "9 not found"], "another"))
+        script = f"""<script>
+        const element = document.getElementById("ladder");
+        drawLadder(element, {other}, {{ all: true }});
+        element.style.width = "400px";
+        window.dispatchEvent(new Event("resize"));
+        </script></body>"""
+        dom = self.dom(page(data_of(NOISE)).replace("</body>", script))
+        self.assertEqual(re.findall(r"<h1>(.*?)</h1>", dom), ["another"])
+        self.assertEqual(self.classes(dom)["frame"], 2)
+        self.assertIn('class="ladder narrow"', dom)
+
+
 DOCUMENT = """
 class Element {
   constructor(name) { this.name = name; this.children = []; this.style = { setProperty() {} }; this.text = ""; }
