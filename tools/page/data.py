@@ -3,13 +3,14 @@
 from __future__ import annotations
 
 import re
-from typing import Iterable
+from typing import Iterable, Sequence
 
 from frames.entries import Entry, Event, entries
 from frames.words import hexadecimal
 from page.stores import Stores
 from page.windows import Windows
 
+MOST_SHOWN = 100
 SELECTED = re.compile(r"SEL_RES: (.+), ([0-9A-F]+) is selected")
 ALL = 0
 
@@ -35,11 +36,20 @@ class Columns:
         return [{"name": name, "kind": self.kinds.get(name, "")} for name in self.places]
 
 
-def ladder_data(lines: Iterable[str], title: str) -> dict[str, object]:
-    """A report as what ladder.js takes: a title, the devices and the entries with their frames."""
+def ladder_data(lines: Iterable[str], title: str, script: Sequence[str] = ()) -> dict[str, object]:
+    """A report as what ladder.js takes: a title, the devices and the entries, each with its line of the script."""
     columns, windows = Columns(), Windows()
-    drawn = [entry_data(entry, columns, windows) for entry in entries(lines)]
+    drawn = [entry_data(entry, columns, windows) | command_data(entry, script) for entry in entries(lines)]
     return {"title": title, "devices": columns.told(), "entries": drawn}
+
+
+def command_data(entry: Entry, script: Sequence[str]) -> dict[str, str]:
+    """The line of the script, without what is too long to be shown; nothing where it isn't known."""
+    place = int(entry.line) - 1
+    if not 0 <= place < len(script):
+        return {}
+    text = script[place]
+    return {"command": text if len(text) <= MOST_SHOWN else f"{text[:MOST_SHOWN]} .."}
 
 
 def entry_data(entry: Entry, columns: Columns, windows: Windows) -> dict[str, object]:

@@ -6,7 +6,7 @@
    data, as tools/page/data.py makes it:
      title    a text, or an empty one
      devices  [{ name, kind }], the columns right of the field's
-     entries  [{ line, answer, frames }], and of each frame
+     entries  [{ line, command, answer, frames }], the command only where the script is known, and of each frame
        mark    ">" to the devices, "<" an answer, "*" a clash, "!" a reset
        frame   the bytes, as the report shows them
        fate    "pass", "damage", "lose" or "break"
@@ -264,7 +264,9 @@ const drawLadder = (() => {
   }
 
   function title(entry) {
-    return [html("span", "number", `line ${entry.line}`), " ", html("span", "outcome", entry.answer || "cut off")];
+    const command = entry.command ? [html("code", "command", entry.command), " "] : [];
+    const outcome = html("span", "outcome", entry.answer || "cut off");
+    return [html("span", "number", `line ${entry.line}`), " ", ...command, outcome];
   }
 
   function setFolded(part, isFolded) {

@@ -112,6 +112,12 @@ class Data(unittest.TestCase):
         self.assertEqual([note["numbers"] for note in notes], numbers)
         self.assertEqual({(note["open"], note["window"], note["own"]) for note in notes}, {(1, 1, True)})
 
+    def test_the_script_tells_the_commands(self):
+        script = ["# a comment", "find", f"write 01020304 {'00' * 100}"]
+        told = ladder_data(["2 found 0", "3 not found", "4 ok"], "", script)["entries"]
+        commands = ["find", f"write 01020304 {'0' * 85} .."]
+        self.assertEqual([entry.get("command", "") for entry in told], [*commands, ""])
+
     def test_lines_in_any_order_are_read(self):
         lines = [line for report in (NOISE, BROKEN_OFF, COLLIDE) for line in report.read_text("ascii").splitlines()]
         dice = random.Random(52)
@@ -153,6 +159,7 @@ class File(unittest.TestCase):
                 ((str(empty),), "the report is empty"),
                 ((str(script),), "this is no report of the bench: line 1 is no line of one"),
                 (("/nowhere/report",), "/nowhere/report: No such file or directory"),
+                ((str(NOISE), "--script", "/nowhere/script"), "/nowhere/script: No such file or directory"),
                 ((str(NOISE), "-o", "/nowhere/x.html"), "/nowhere/x.html: No such file or directory"),
             ):
                 with self.subTest(sentence):
