@@ -143,47 +143,57 @@ mod tests {
     /// A server that accepted the messages 01 to 04, the first and the last of them from SAP 33.
     fn server(alloc: Global) -> Result<Server, Fail> {
         let mut server = Server::new(alloc, 1024);
-        server.unit(alloc, 33, &[0x10, 2, 0, 0, 0, 1, 1])?;
-        server.unit(alloc, 32, &[0x10, 2, 0, 0, 0, 1, 2])?;
-        server.unit(alloc, 32, &[0x10, 2, 0, 0, 0, 1, 3])?;
-        server.unit(alloc, 33, &[0x10, 2, 0, 0, 0, 1, 4])?;
+        for (source, byte) in [(33, 1), (32, 2), (32, 3), (33, 4)] {
+            server.unit(alloc, source, &[0x10, 2, 0, 0, 0, 1, byte])?;
+        }
         Ok(server)
     }
 
-    fn range(peer: u64, start: usize, end: Option<usize>) -> LinkRange {
-        LinkRange { peer, start, end }
+    const LINKS: [LinkRange; 4] = [
+        LinkRange {
+            peer: 1,
+            start: 1,
+            end: Some(2),
+        },
+        LinkRange {
+            peer: 7,
+            start: 0,
+            end: Some(4),
+        },
+        LinkRange {
+            peer: 1,
+            start: 2,
+            end: Some(2),
+        },
+        LinkRange {
+            peer: 1,
+            start: 3,
+            end: None,
+        },
+    ];
+
+    /// Of each message that a peer's server accepted its link, its source and its bytes.
+    fn told(alloc: Global, server: &Server, peer: u64) -> Result<String, Fail> {
+        let messages = inbox_of(alloc, server, &LINKS, peer)?;
+        let mut told = String::new(alloc);
+        for one in messages.as_slice() {
+            let bytes = one.message.as_slice();
+            told.push_str(&format!(in alloc; "{}.{}:{bytes:?} ", one.link, one.source)?)?;
+        }
+        Ok(told)
     }
 
     #[test]
     fn messages_by_links(rt: HostRuntime) -> Result<(), Fail> {
         let alloc = rt.alloc();
         let server = server(alloc)?;
-        let links = [
-            range(1, 1, Some(2)),
-            range(7, 0, Some(4)),
-            range(1, 2, Some(2)),
-            range(1, 3, None),
-        ];
-        let rows: [(u64, [(u32, u8, u8); 4]); 3] = [
-            (1, [(0, 33, 1), (0, 32, 3), (1, 32, 2), (4, 33, 4)]),
-            (7, [(2, 33, 1), (2, 32, 2), (2, 32, 3), (2, 33, 4)]),
-            (2, [(0, 33, 1), (0, 32, 2), (0, 32, 3), (0, 33, 4)]),
+        let rows = [
+            (1, "0.33:[1] 0.32:[3] 1.32:[2] 4.33:[4] "),
+            (7, "2.33:[1] 2.32:[2] 2.32:[3] 2.33:[4] "),
+            (2, "0.33:[1] 0.32:[2] 0.32:[3] 0.33:[4] "),
         ];
         for (peer, wanted) in rows {
-            let told = inbox_of(alloc, &server, &links, peer)?;
-            assert_eq!(rt; told.as_slice().len(), 4);
-            for (place, (link, source, byte)) in wanted.iter().enumerate() {
-                let message = Items::from_bytes(alloc, &[*byte])?;
-                let row = Received {
-                    link: *link,
-                    source: *source,
-                    message,
-                };
-                assert!(rt;
-                    told.as_slice().get(place) == Some(&row),
-                    "of {peer} at {place}"
-                );
-            }
+            assert_eq!(rt; told(alloc, &server, peer)?.as_str(), wanted, "of {peer}");
         }
         Ok(())
     }

@@ -21,6 +21,8 @@ mod obeying;
 mod peer_tests;
 pub mod program;
 #[cfg(test)]
+mod report_tests;
+#[cfg(test)]
 mod runs;
 #[cfg(test)]
 mod store_tests;
