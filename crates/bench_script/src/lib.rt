@@ -12,6 +12,8 @@ mod link_tests;
 mod message;
 #[cfg(test)]
 mod peer_tests;
+#[cfg(test)]
+mod rows;
 mod script;
 mod writing;
 

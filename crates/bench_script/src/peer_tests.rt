@@ -1,28 +1,7 @@
 //! The lines of a peer: which of them are taken, what they spell, and how that is written.
 
-use crate::command::{Command, DeviceId};
-use crate::script::parse_line;
-use nfc_base::Items;
-use nfca_poll::Ident;
-use std::alloc::Global;
+use crate::rows::{faults, spell};
 use std::test::Fail;
-
-/// The number of a line's fault, 0 of a line that is taken.
-pub fn fault_of(alloc: Global, line: &str) -> u8 {
-    match parse_line(alloc, line.as_bytes()) {
-        Ok(_) => 0,
-        Err(fault) => fault.number(),
-    }
-}
-
-/// Whether a line spells this command, a copy of which is the same, and which is written as this text.
-pub fn spells(alloc: Global, line: &str, wanted: Command, text: &str) -> Result<bool, Fail> {
-    let command = parse_line(alloc, line.as_bytes())?;
-    let copy = command.copy(alloc)?;
-    let mut written = Vec::new(alloc);
-    copy.write_to(&mut written)?;
-    Ok(command == wanted && copy == wanted && written.as_slice() == text.as_bytes())
-}
 
 #[test]
 fn lines_of_peers(rt: HostRuntime) {
@@ -53,44 +32,27 @@ fn lines_of_peers(rt: HostRuntime) {
         ("inbox 0102030405", 1),
         ("inbox 01020304 1", 1),
     ];
-    for (line, wanted) in rows {
-        assert_eq!(rt; fault_of(rt.alloc(), line), wanted, "{line}");
-    }
+    faults(&rt, rt.alloc(), &rows);
 }
 
 #[test]
 fn values_of_peers(rt: HostRuntime) -> Result<(), Fail> {
-    let alloc = rt.alloc();
-    let peer = Command::PlacePeer {
-        id: Ident::new(&[8, 1, 2, 0xFF])?,
-        lr: 3,
-        miu: 2175,
-        rw: 15,
-        limit: 65536,
-    };
-    let line = "place peer 080102fF 3 2175 15 65536";
-    assert!(rt; spells(alloc, line, peer, "place peer 080102FF 3 2175 15 65536")?);
-    let offer = Command::Offer {
-        id: DeviceId::A(Ident::new(&[8, 1, 2, 0xFF])?),
-        key: Items::from_bytes(alloc, &[0x6B, 0x31])?,
-        value: Items::new(Vec::new(alloc)),
-    };
-    assert!(rt;
-        spells(
-            alloc,
+    let rows = [
+        (
+            "place peer 080102fF 3 2175 15 65536",
+            "place peer 080102FF 3 2175 15 65536",
+            "PlacePeer { id: Ident { bytes: [8, 1, 2, 255] }, lr: 3, miu: 2175, rw: 15, limit: 65536 }",
+        ),
+        (
             "offer 080102fF 6b31 -",
-            offer,
-            "offer 080102FF 6B31 -"
-        )?
-    );
-    let id = DeviceId::A(Ident::new(&[8, 1, 2, 0xFF])?);
-    assert!(rt;
-        spells(
-            alloc,
+            "offer 080102FF 6B31 -",
+            "Offer { id: A(Ident { bytes: [8, 1, 2, 255] }), key: Items { owned: [107, 49] }, value: Items { owned: [] } }",
+        ),
+        (
             "inbox 080102fF",
-            Command::Inbox { id },
-            "inbox 080102FF"
-        )?
-    );
-    Ok(())
+            "inbox 080102FF",
+            "Inbox { id: A(Ident { bytes: [8, 1, 2, 255] }) }",
+        ),
+    ];
+    spell(&rt, rt.alloc(), &rows)
 }

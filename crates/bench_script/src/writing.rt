@@ -224,18 +224,34 @@ fn letter_of(fate: Fate) -> u8
 
 #[cfg(test)]
 mod tests {
-    use super::*;
+    use crate::rows::rewritten;
     use crate::script::parse_line;
     use std::alloc::Global;
+    use std::process::Abort;
     use std::test::Fail;
 
-    /// What is written of a line's command behind a front, and that front with a text.
-    fn written(alloc: Global, line: &str, text: &str) -> Result<(Vec<u8>, Vec<u8>), Fail> {
-        let mut target = vec![in alloc; b'>']?;
-        parse_line(alloc, line.as_bytes())?.write_to(&mut target)?;
-        let mut wanted = vec![in alloc; b'>']?;
-        wanted.extend_from_slice(text.as_bytes())?;
-        Ok((target, wanted))
+    /// Whether two lines spell the same command.
+    fn spell_the_same(alloc: Global, one: &str, other: &str) -> Result<bool, Fail> {
+        let command = parse_line(alloc, one.as_bytes())?;
+        Ok(parse_line(alloc, other.as_bytes())? == command)
+    }
+
+    /// Both lines spell the same command, which is written as the upper one.
+    fn is_read_and_written(
+        rt: &impl Abort,
+        alloc: Global,
+        lower: &str,
+        upper: &str,
+    ) -> Result<(), Fail> {
+        for line in [lower, upper] {
+            assert_eq!(rt;
+                rewritten(alloc, line)?,
+                format!(in alloc; ">{upper}")?,
+                "{line}"
+            );
+        }
+        assert!(rt; spell_the_same(alloc, lower, upper)?, "{lower}");
+        Ok(())
     }
 
     #[test]
@@ -275,14 +291,8 @@ mod tests {
                 "write E00401020304050F gen:65536:255",
             ),
         ];
-        let alloc = rt.alloc();
         for (lower, upper) in rows {
-            for line in [lower, upper] {
-                let (target, wanted) = written(alloc, line, upper)?;
-                assert_eq!(rt; target.as_slice(), wanted.as_slice(), "{line}");
-            }
-            let command = parse_line(alloc, lower.as_bytes())?;
-            assert!(rt; parse_line(alloc, upper.as_bytes())? == command, "{lower}");
+            is_read_and_written(&rt, rt.alloc(), lower, upper)?;
         }
         Ok(())
     }

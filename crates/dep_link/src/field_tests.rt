@@ -218,42 +218,50 @@ fn met(alloc: Global, fates: &[Fate]) -> Result<Field<Phone>, Fail>
     phone_field(alloc, ID, general, &all)
 }
 
+/// An event's frame.
+fn bytes_of(event: &Event) -> &[u8] {
+    match event {
+        Event::Request { frame, .. } => frame.view(),
+        Event::Answer { frame, .. } => frame.view(),
+        _ => &[],
+    }
+}
+
 /// These bytes went over the air, behind a reset, as requests and answers.
-fn went(rt: &impl Abort, field: &Field<Phone>, frames: &[&[u8]]) {
-    let events = field.trace();
+fn went(rt: &impl Abort, events: &[Event], frames: &[&[u8]]) {
     assert_eq!(rt; events.len(), frames.len() + 1);
     for (event, expected) in events.iter().skip(1).zip(frames) {
-        match event {
-            Event::Request { frame, .. } => assert_eq!(rt; frame.view(), *expected),
-            Event::Answer { frame, .. } => assert_eq!(rt; frame.view(), *expected),
-            _ => assert!(rt; false, "another event"),
-        }
+        assert_eq!(rt; bytes_of(event), *expected);
     }
+}
+
+/// A link is made, two payloads are swapped, and it is released.
+fn talk(
+    rt: &impl Abort,
+    alloc: Global,
+    field: &mut Field<Phone>,
+    far: &mut Desk,
+) -> Result<(), Fail>
+    requires { (bytes : List ℕ) → HasTarget ⟦<Phone as Listener>⟧ (λ l. l.target) field.old bytes }
+{
+    let (mut initiator, general) = activate(field, OWN, far)?;
+    assert_eq!(rt; general.as_slice(), PHONES);
+    let mut pair = DepPair::on(field, &mut initiator);
+    let connected = pair.swap(alloc, &CONNECT, far)?;
+    assert_eq!(rt; connected.as_slice(), CC.as_slice());
+    let put = pair.swap(alloc, &PUT, far)?;
+    assert_eq!(rt; put.as_slice(), DONE.as_slice());
+    release(pair, far)?;
+    assert_eq!(rt; (far.links, far.swaps), (1, 2));
+    Ok(())
 }
 
 #[test]
 fn payloads_come_through_noise(rt: HostRuntime) -> Result<(), Fail> {
+    use Fate::{Damage, Lose, Pass};
     let alloc = rt.alloc();
-    let mut far = new_desk();
-    let fates = [
-        Fate::Lose,
-        Fate::Pass,
-        Fate::Pass,
-        Fate::Pass,
-        Fate::Pass,
-        Fate::Pass,
-        Fate::Damage,
-    ];
-    let mut field = met(alloc, &fates)?;
-    let (mut initiator, general) = activate(&mut field, OWN, &mut far)?;
-    assert_eq!(rt; general.as_slice(), PHONES);
-    let mut pair = DepPair::on(&mut field, &mut initiator);
-    let connected = pair.swap(alloc, &CONNECT, &mut far)?;
-    assert_eq!(rt; connected.as_slice(), CC.as_slice());
-    let put = pair.swap(alloc, &PUT, &mut far)?;
-    assert_eq!(rt; put.as_slice(), DONE.as_slice());
-    release(pair, &mut far)?;
-    assert_eq!(rt; (far.links, far.swaps), (1, 2));
+    let mut field = met(alloc, &[Lose, Pass, Pass, Pass, Pass, Pass, Damage])?;
+    talk(&rt, alloc, &mut field, &mut new_desk())?;
     let frames: [&[u8]; 13] = [
         ATR_REQ,
         ATR_RES,
@@ -269,7 +277,7 @@ fn payloads_come_through_noise(rt: HostRuntime) -> Result<(), Fail> {
         &[0xF0, 0x03, 0xD4, 0x0A],
         &[0xF0, 0x03, 0xD5, 0x0B],
     ];
-    went(&rt, &field, &frames);
+    went(&rt, field.trace(), &frames);
     Ok(())
 }
 
@@ -291,7 +299,7 @@ fn a_lost_request_is_asked_after(rt: HostRuntime) -> Result<(), Fail> {
         &[0xF0, 0x06, 0xD4, 0x06, 0x00, 0x00, 0x00],
         &[0xF0, 0x06, 0xD5, 0x07, 0x00, 0x00, 0x00],
     ];
-    went(&rt, &field, &frames);
+    went(&rt, field.trace(), &frames);
     Ok(())
 }
 
@@ -312,71 +320,74 @@ fn ends(
     Ok((first, again, far.swaps))
 }
 
+/// A swap ends so, the next one tells the cause again, and the far end was handed so many payloads.
+fn ends_so(
+    rt: &impl Abort,
+    alloc: Global,
+    swap: (&[Fate], &[u8]),
+    first: Result<usize, LinkEnd>,
+    cause: EndCause,
+    swaps: u32,
+) -> Result<(), Fail> {
+    let (fates, payload) = swap;
+    assert!(rt; payload.len() <= 2178);
+    let answered = false;
+    let told = ends(alloc, fates, payload)?;
+    assert_eq!(rt;
+        told,
+        (first, Err(LinkEnd { cause, answered }), swaps),
+        "at {fates:?}"
+    );
+    Ok(())
+}
+
 #[test]
 fn a_link_that_is_over_tells_why(rt: HostRuntime) -> Result<(), Fail> {
-    let alloc = rt.alloc();
-    let lost = [Fate::Lose; 6];
+    use Fate::{Break, Damage, Lose, Pass};
     let damaged = [
-        Fate::Pass,
-        Fate::Damage,
-        Fate::Pass,
-        Fate::Damage,
-        Fate::Pass,
-        Fate::Damage,
-        Fate::Pass,
-        Fate::Damage,
-        Fate::Pass,
-        Fate::Damage,
-        Fate::Pass,
-        Fate::Damage,
+        Pass, Damage, Pass, Damage, Pass, Damage, Pass, Damage, Pass, Damage, Pass, Damage,
     ];
     let rows: [(&[Fate], &[u8], EndCause, bool, u32); 5] = [
-        (&[Fate::Break], &CONNECT, EndCause::FieldLost, false, 0),
-        (
-            &[Fate::Pass, Fate::Break],
-            &CONNECT,
-            EndCause::FieldLost,
-            true,
-            1,
-        ),
-        (&lost, &CONNECT, EndCause::SixBad, false, 0),
+        (&[Break], &CONNECT, EndCause::FieldLost, false, 0),
+        (&[Pass, Break], &CONNECT, EndCause::FieldLost, true, 1),
+        (&[Lose; 6], &CONNECT, EndCause::SixBad, false, 0),
         (&damaged, &CONNECT, EndCause::SixBad, true, 1),
         (&[], &[0xFF], EndCause::Memory, false, 0),
     ];
     for (fates, payload, cause, answered, swaps) in rows {
-        let (first, again, stepped) = ends(alloc, fates, payload)?;
-        assert_eq!(rt; first, Err(LinkEnd { cause, answered }), "at {fates:?}");
-        let answered = false;
-        assert_eq!(rt; again, Err(LinkEnd { cause, answered }), "at {fates:?}");
-        assert_eq!(rt; stepped, swaps, "at {fates:?}");
+        let first = Err(LinkEnd { cause, answered });
+        ends_so(&rt, rt.alloc(), (fates, payload), first, cause, swaps)?;
     }
     Ok(())
+}
+
+/// How a swap of 300 bytes ends where the field is lost at this transmission, and the next one.
+fn lost_at(rt: &impl Abort, alloc: Global, at: usize) -> Result<(), Fail> {
+    let mut fates = [Fate::Pass; 7];
+    assert!(rt; at < 7);
+    fates[at] = Fate::Break;
+    let cause = EndCause::FieldLost;
+    let answered = at > 2;
+    let first = if at == 6 {
+        Ok(300)
+    } else {
+        Err(LinkEnd { cause, answered })
+    };
+    ends_so(
+        rt,
+        alloc,
+        (&fates, &[0; 300]),
+        first,
+        cause,
+        answered as u32,
+    )
 }
 
 /// Two pieces go out and two come back: six transmissions. The payload is handed over as its second piece arrives, which is the third.
 #[test]
 fn the_field_lost_at_each_transmission(rt: HostRuntime) -> Result<(), Fail> {
-    let alloc = rt.alloc();
-    let payload = [0; 300];
-    let mut fates = [Fate::Pass; 7];
     for at in 0..7usize {
-        fates[at] = Fate::Break;
-        let (first, again, swaps) = ends(alloc, &fates, &payload)?;
-        let answered = at > 2;
-        let lost = LinkEnd {
-            cause: EndCause::FieldLost,
-            answered,
-        };
-        let expected = if at == 6 { Ok(300) } else { Err(lost) };
-        assert_eq!(rt; first, expected, "at {at}");
-        let answered = false;
-        let over = LinkEnd {
-            cause: EndCause::FieldLost,
-            answered,
-        };
-        assert_eq!(rt; again, Err(over), "at {at}");
-        assert_eq!(rt; swaps, if at > 2 { 1 } else { 0 }, "at {at}");
-        fates[at] = Fate::Pass;
+        lost_at(&rt, rt.alloc(), at)?;
     }
     Ok(())
 }

@@ -31,34 +31,75 @@ fn initiator_does(step: &InitStep, kind: u8, bytes: &[u8]) -> bool {
     }
 }
 
-/// A frame, and the kind and bytes of what an end does at it.
+/// A frame, and the kind and bytes of what an end does at it. At the kind `=` the end is given a payload to send, and
+/// sends those bytes; at `!` a target gets dark.
 type Row<'a> = (&'a [u8], u8, &'a [u8]);
 
-fn walk_target<R: Abort>(rt: &R, target: &mut Target, rows: &[Row]) -> Result<(), Fail> {
-    for (frame, kind, bytes) in rows {
-        let step = target.hear(&Frame::whole(Tech::A, frame)?);
-        assert!(rt; target_does(&step, *kind, bytes), "at {frame:?}");
+/// Whether a target does what the row says.
+fn target_follows(rt: &impl Abort, target: &mut Target, row: &Row<'_>) -> Result<bool, Fail> {
+    let (frame, kind, bytes) = *row;
+    match kind {
+        b'=' => Ok(replies_with(rt, target, frame, bytes)),
+        b'!' => {
+            target.dark();
+            Ok(true)
+        }
+        _ => {
+            let step = target.hear(&Frame::whole(Tech::A, frame)?);
+            Ok(target_does(&step, kind, bytes))
+        }
+    }
+}
+
+fn replies_with(rt: &impl Abort, target: &mut Target, payload: &[u8], bytes: &[u8]) -> bool {
+    assert!(rt; payload.len() <= 2178);
+    target.reply(payload).view() == bytes
+}
+
+fn walk_target(rt: &impl Abort, target: &mut Target, rows: &[Row<'_>]) -> Result<(), Fail> {
+    for row in rows {
+        assert!(rt; target_follows(rt, target, row)?, "at {row:?}");
     }
     Ok(())
 }
 
 /// A frame of no bytes stands for a silent reception, one of one byte for a damaged one.
-fn walk_initiator<R: Abort>(rt: &R, initiator: &mut Initiator, rows: &[Row]) -> Result<(), Fail> {
-    for (frame, kind, bytes) in rows {
-        let heard = match frame.len() {
-            0 => Heard::Silent,
-            1 => Heard::Damaged,
-            _ => Heard::Whole(Frame::whole(Tech::A, frame)?),
-        };
-        let step = initiator.next(&heard);
-        assert!(rt; initiator_does(&step, *kind, bytes), "at {frame:?}");
+fn heard_of(frame: &[u8]) -> Result<Heard, Fail> {
+    Ok(match frame.len() {
+        0 => Heard::Silent,
+        1 => Heard::Damaged,
+        _ => Heard::Whole(Frame::whole(Tech::A, frame)?),
+    })
+}
+
+/// Whether an initiator does what the row says.
+fn initiator_follows(
+    rt: &impl Abort,
+    initiator: &mut Initiator,
+    row: &Row<'_>,
+) -> Result<bool, Fail> {
+    let (frame, kind, bytes) = *row;
+    if kind == b'=' {
+        assert!(rt; frame.len() <= 2178);
+        return Ok(initiator.begin(frame).view() == bytes);
+    }
+    let step = initiator.next(&heard_of(frame)?);
+    Ok(initiator_does(&step, kind, bytes))
+}
+
+fn walk_initiator(
+    rt: &impl Abort,
+    initiator: &mut Initiator,
+    rows: &[Row<'_>],
+) -> Result<(), Fail> {
+    for row in rows {
+        assert!(rt; initiator_follows(rt, initiator, row)?, "at {row:?}");
     }
     Ok(())
 }
 
 #[test]
 fn target_rows(rt: HostRuntime) -> Result<(), Fail> {
-    let mut target = Target::new(ID, 3, ArrayVec::new());
     let atr_res = [
         0xF0, 0x12, 0xD5, 1, 8, 1, 2, 3, 0, 0, 0, 0, 0, 0, 0, 0, 0, 8, 0x30,
     ];
@@ -66,7 +107,7 @@ fn target_rows(rt: HostRuntime) -> Result<(), Fail> {
         0xF0, 0x22, 0xD4, 0, 1, 2, 3, 4, 5, 6, 7, 8, 9, 10, 0, 0, 0, 0x32, 0x46, 0x66, 0x6D, 1, 1,
         0x11, 4, 1, 0x96, 3, 2, 0, 1, 2, 2, 7, 0xFF,
     ];
-    let rows: [Row; 14] = [
+    let rows: [Row<'_>; 21] = [
         (&linux, b'n', &atr_res),
         (&[0xF0, 6, 0xD4, 4, 0, 0x12, 3], b'q', &[]),
         (&[0xF0, 4, 0xD4, 6, 0x53], b'q', &[]),
@@ -89,92 +130,83 @@ fn target_rows(rt: HostRuntime) -> Result<(), Fail> {
         (&[0xF0, 3, 0xD4, 8], b's', &[0xF0, 3, 0xD5, 9]),
         (&[0xF0, 3, 0xD4, 0x0A], b'f', &[0xF0, 3, 0xD5, 0x0B]),
         (&[0xF0, 4, 0xD4, 6, 0xE0], b'q', &[]),
+        (&[7], b'=', &[0xF0, 5, 0xD5, 7, 1, 7]),
+        (
+            &[0xF0, 5, 0xD4, 6, 1, 0xA2],
+            b'r',
+            &[0xF0, 5, 0xD5, 7, 1, 7],
+        ),
+        (&[0xF0, 4, 0xD4, 6, 0x80], b'r', &[0xF0, 4, 0xD5, 7, 0x80]),
+        (&[0xF0, 4, 0xD4, 6, 0x51], b'r', &[0xF0, 5, 0xD5, 7, 1, 7]),
+        (&[0xF0, 4, 0xD4, 6, 0x42], b'q', &[]),
+        (&[], b'!', &[]),
+        (&[0xF0, 5, 0xD4, 6, 0, 9], b'd', &[9]),
     ];
-    walk_target(&rt, &mut target, &rows)?;
-    assert!(rt; target.reply(&[7]).view() == [0xF0, 5, 0xD5, 7, 1, 7].as_slice());
-    walk_target(
-        &rt,
-        &mut target,
-        &[
-            (
-                &[0xF0, 5, 0xD4, 6, 1, 0xA2],
-                b'r',
-                &[0xF0, 5, 0xD5, 7, 1, 7],
-            ),
-            (&[0xF0, 4, 0xD4, 6, 0x80], b'r', &[0xF0, 4, 0xD5, 7, 0x80]),
-            (&[0xF0, 4, 0xD4, 6, 0x51], b'r', &[0xF0, 5, 0xD5, 7, 1, 7]),
-            (&[0xF0, 4, 0xD4, 6, 0x42], b'q', &[]),
-        ],
-    )?;
-    target.dark();
-    walk_target(&rt, &mut target, &[(&[0xF0, 5, 0xD4, 6, 0, 9], b'd', &[9])])
+    walk_target(&rt, &mut Target::new(ID, 3, ArrayVec::new()), &rows)
 }
 
 #[test]
 fn a_busy_target_asks_for_more_time(rt: HostRuntime) -> Result<(), Fail> {
-    let mut target = Target::new(ID, 3, ArrayVec::new());
-    target.set_busy(2, 5);
     let more: [u8; 6] = [0xF0, 5, 0xD5, 7, 0x90, 5];
     let granted: [u8; 6] = [0xF0, 5, 0xD4, 6, 0x90, 5];
     let reply: [u8; 7] = [0xF0, 6, 0xD5, 7, 0, 0x81, 0x84];
-    walk_target(
-        &rt,
-        &mut target,
-        &[(&[0xF0, 6, 0xD4, 6, 0, 0x11, 0x20], b'd', &[0x11, 0x20])],
-    )?;
-    assert!(rt; target.reply(&[0x81, 0x84]).view() == more.as_slice());
-    walk_target(
-        &rt,
-        &mut target,
-        &[
-            (&[0xF0, 4, 0xD4, 6, 0x50], b'r', &more),
-            (&[0xF0, 5, 0xD4, 6, 0x90, 4], b'q', &[]),
-            (&granted, b'r', &more),
-            (&[0xF0, 4, 0xD4, 6, 0x41], b'q', &[]),
-            (&granted, b'r', &reply),
-            (&granted, b'r', &reply),
-            (&[0xF0, 4, 0xD4, 6, 0x50], b'r', &reply),
-        ],
-    )?;
-    target.dark();
-    walk_target(&rt, &mut target, &[(&[0xF0, 4, 0xD4, 6, 0], b'd', &[])])?;
-    assert!(rt; target.reply(&[]).view() == more.as_slice());
+    let rows: [Row<'_>; 12] = [
+        (&[0xF0, 6, 0xD4, 6, 0, 0x11, 0x20], b'd', &[0x11, 0x20]),
+        (&[0x81, 0x84], b'=', &more),
+        (&[0xF0, 4, 0xD4, 6, 0x50], b'r', &more),
+        (&[0xF0, 5, 0xD4, 6, 0x90, 4], b'q', &[]),
+        (&granted, b'r', &more),
+        (&[0xF0, 4, 0xD4, 6, 0x41], b'q', &[]),
+        (&granted, b'r', &reply),
+        (&granted, b'r', &reply),
+        (&[0xF0, 4, 0xD4, 6, 0x50], b'r', &reply),
+        (&[], b'!', &[]),
+        (&[0xF0, 4, 0xD4, 6, 0], b'd', &[]),
+        (&[], b'=', &more),
+    ];
+    let mut target = Target::new(ID, 3, ArrayVec::new());
+    target.set_busy(2, 5);
+    walk_target(&rt, &mut target, &rows)
+}
+
+/// Sixteen times it grants more time.
+fn grants_sixteen_times(rt: &impl Abort, initiator: &mut Initiator) -> Result<(), Fail> {
+    for _ in 0..16u8 {
+        walk_initiator(rt, initiator, &[(&MORE, b's', &GRANTED)])?;
+    }
     Ok(())
 }
+
+const MORE: [u8; 6] = [0xF0, 5, 0xD5, 7, 0x90, 5];
+
+const GRANTED: [u8; 6] = [0xF0, 5, 0xD4, 6, 0x90, 5];
 
 #[test]
 fn initiator_rows(rt: HostRuntime) -> Result<(), Fail> {
     let mut initiator = Initiator::new(3);
-    let request = [0xF0, 6, 0xD4, 6, 0, 0x11, 0x20];
     let attention = [0xF0, 4, 0xD4, 6, 0x80];
     let up = [0xF0, 4, 0xD5, 7, 0x80];
-    let more = [0xF0, 5, 0xD5, 7, 0x90, 5];
-    let granted = [0xF0, 5, 0xD4, 6, 0x90, 5];
-    let rows: [Row; 8] = [
-        (&more, b's', &granted),
-        (&more, b's', &granted),
+    let rows: [Row<'_>; 13] = [
+        (&[0x11, 0x20], b'=', &[0xF0, 6, 0xD4, 6, 0, 0x11, 0x20]),
+        (&MORE, b's', &GRANTED),
+        (&MORE, b's', &GRANTED),
         (&[], b's', &attention),
         (&[0], b's', &attention),
-        (&up, b's', &granted),
+        (&up, b's', &GRANTED),
         (&[0], b's', &[0xF0, 4, 0xD4, 6, 0x50]),
-        (&more, b's', &granted),
+        (&MORE, b's', &GRANTED),
         (&[0xF0, 6, 0xD5, 7, 0, 0x81, 0x84], b'f', &[0x81, 0x84]),
+        (&[], b's', &attention),
+        (&up, b'p', &[]),
+        (&[], b'p', &[]),
+        (&[9], b'=', &[0xF0, 5, 0xD4, 6, 1, 9]),
     ];
-    assert!(rt; initiator.begin(&[0x11, 0x20]).view() == request.as_slice());
     walk_initiator(&rt, &mut initiator, &rows)?;
+    grants_sixteen_times(&rt, &mut initiator)?;
     walk_initiator(
         &rt,
         &mut initiator,
-        &[(&[], b's', &attention), (&up, b'p', &[]), (&[], b'p', &[])],
-    )?;
-    assert!(rt; initiator.begin(&[9]).view() == [0xF0, 5, 0xD4, 6, 1, 9].as_slice());
-    for _ in 0..16u8 {
-        walk_initiator(&rt, &mut initiator, &[(&more, b's', &granted)])?;
-    }
-    walk_initiator(
-        &rt,
-        &mut initiator,
-        &[(&more, b'p', &[]), (&[0], b'p', &[])],
+        &[(&MORE, b'p', &[]), (&[0], b'p', &[])],
     )
 }
 
@@ -187,13 +219,19 @@ fn refused<R: Abort>(rt: &R, frame: &[u8]) -> Result<(), Fail> {
 
 #[test]
 fn whole_frames_that_are_not_allowed(rt: HostRuntime) -> Result<(), Fail> {
-    refused(&rt, &[0xF0, 4, 0xD5, 7, 0x40])?;
-    refused(&rt, &[0xF0, 4, 0xD5, 7, 1])?;
-    refused(&rt, &[0xF0, 4, 0xD5, 7, 0x10])?;
-    refused(&rt, &[0xF0, 4, 0xD5, 7, 0x80])?;
-    refused(&rt, &[0xF0, 4, 0xD4, 6, 0])?;
-    refused(&rt, &[0xF0, 5, 0xD5, 7, 0x90, 60])?;
-    refused(&rt, &[0xAA, 0xBB])
+    let rows: [&[u8]; 7] = [
+        &[0xF0, 4, 0xD5, 7, 0x40],
+        &[0xF0, 4, 0xD5, 7, 1],
+        &[0xF0, 4, 0xD5, 7, 0x10],
+        &[0xF0, 4, 0xD5, 7, 0x80],
+        &[0xF0, 4, 0xD4, 6, 0],
+        &[0xF0, 5, 0xD5, 7, 0x90, 60],
+        &[0xAA, 0xBB],
+    ];
+    for frame in rows {
+        refused(&rt, frame)?;
+    }
+    Ok(())
 }
 
 /// How an exchange ended.
@@ -463,53 +501,73 @@ fn followed(alloc: Global, head: &[u8], count: usize) -> Result<Vec<u8>, Fail> {
     Ok(bytes)
 }
 
+/// A payload of 100 bytes goes out in two pieces, and as the reply in one.
+fn pieces_go_over(
+    rt: &impl Abort,
+    initiator: &mut Initiator,
+    target: &mut Target,
+    payload: &[u8],
+    pieces: (&[u8], &[u8], &[u8]),
+) -> Result<(), Fail> {
+    let (first, second, reply) = pieces;
+    let ack = [0xF0, 4, 0xD5, 7, 0x40];
+    walk_initiator(rt, initiator, &[(payload, b'=', first)])?;
+    walk_target(rt, target, &[(first, b'r', &ack)])?;
+    walk_initiator(rt, initiator, &[(&ack, b's', second)])?;
+    walk_target(
+        rt,
+        target,
+        &[(second, b'd', payload), (payload, b'=', reply)],
+    )?;
+    walk_initiator(rt, initiator, &[(reply, b'f', payload)])
+}
+
 #[test]
 fn pieces_go_out_by_the_size_of_the_other_end(rt: HostRuntime) -> Result<(), Fail> {
     let alloc = rt.alloc();
-    let mut initiator = Initiator::new(0);
-    let mut target = Target::new(ID, 0, ArrayVec::new());
     let payload = followed(alloc, &[], 100)?;
     let first = followed(alloc, &[0xF0, 0x41, 0xD4, 6, 0x10], 61)?;
-    let ack = [0xF0, 4, 0xD5, 7, 0x40];
     let second = followed(alloc, &[0xF0, 0x2B, 0xD4, 6, 1], 39)?;
     let reply = followed(alloc, &[0xF0, 0x68, 0xD5, 7, 1], 100)?;
-    assert!(rt; payload.len() <= 2178);
-    assert!(rt; initiator.begin(&payload).view() == first.as_slice());
-    walk_target(&rt, &mut target, &[(&first, b'r', &ack)])?;
-    walk_initiator(&rt, &mut initiator, &[(&ack, b's', &second)])?;
-    walk_target(&rt, &mut target, &[(&second, b'd', &payload)])?;
-    assert!(rt; target.reply(&payload).view() == reply.as_slice());
-    walk_initiator(&rt, &mut initiator, &[(&reply, b'f', &payload)])
+    let mut target = Target::new(ID, 0, ArrayVec::new());
+    pieces_go_over(
+        &rt,
+        &mut Initiator::new(0),
+        &mut target,
+        &payload,
+        (&first, &second, &reply),
+    )
+}
+
+/// Eight pieces of 250 bytes are acknowledged; it leaves the frame of a ninth.
+fn eight_pieces(rt: &impl Abort, target: &mut Target, frame: &mut [u8; 255]) -> Result<(), Fail> {
+    for round in 0..8u8 {
+        frame[4] = 0x10 + round % 4;
+        let ack = [0xF0, 4, 0xD5, 7, 0x40 + round % 4];
+        walk_target(rt, target, &[(&*frame, b'r', &ack)])?;
+    }
+    frame[4] = 0x10;
+    Ok(())
 }
 
 #[test]
 fn a_chain_above_2178_bytes_makes_the_target_silent(rt: HostRuntime) -> Result<(), Fail> {
     let mut target = Target::new(ID, 3, ArrayVec::new());
     let mut frame = [0; 255];
-    for (at, byte) in [0xF0, 0xFE, 0xD4, 6].iter().enumerate() {
-        frame[at] = *byte;
-    }
-    for round in 0..8u8 {
-        frame[4] = 0x10 + round % 4;
-        let ack = [0xF0, 4, 0xD5, 7, 0x40 + round % 4];
-        walk_target(&rt, &mut target, &[(&frame, b'r', &ack)])?;
-    }
-    frame[4] = 0x10;
+    [frame[0], frame[1], frame[2], frame[3]] = [0xF0, 0xFE, 0xD4, 6];
+    eight_pieces(&rt, &mut target, &mut frame)?;
     let request: [u8; 18] = [
         0xF0, 0x11, 0xD4, 0, 1, 2, 3, 4, 5, 6, 7, 8, 9, 10, 0, 0, 0, 0x30,
     ];
     let atr_res = [
         0xF0, 0x12, 0xD5, 1, 8, 1, 2, 3, 0, 0, 0, 0, 0, 0, 0, 0, 0, 8, 0x30,
     ];
-    walk_target(
-        &rt,
-        &mut target,
-        &[
-            (&frame, b'q', &[]),
-            (&[0xF0, 4, 0xD4, 6, 0x80], b'q', &[]),
-            (&[0xF0, 3, 0xD4, 0x0A], b'q', &[]),
-            (&request, b'n', &atr_res),
-            (&[0xF0, 4, 0xD4, 6, 0x80], b'r', &[0xF0, 4, 0xD5, 7, 0x80]),
-        ],
-    )
+    let rows: [Row<'_>; 5] = [
+        (&frame, b'q', &[]),
+        (&[0xF0, 4, 0xD4, 6, 0x80], b'q', &[]),
+        (&[0xF0, 3, 0xD4, 0x0A], b'q', &[]),
+        (&request, b'n', &atr_res),
+        (&[0xF0, 4, 0xD4, 6, 0x80], b'r', &[0xF0, 4, 0xD5, 7, 0x80]),
+    ];
+    walk_target(&rt, &mut target, &rows)
 }

@@ -1,6 +1,6 @@
 //! Calls over a link to a phone.
 
-ghost use Rattle.std.specs.Prelude.{◌≡◌, ◌≤◌, ℕ, List, length, true, false, IfOk};
+ghost use Rattle.std.specs.Prelude.{◌≡◌, ◌≤◌, ℕ, List, length, true, false, IfOk, OnOk};
 ghost use Rattle.dep_link.specs.Activating.{HasTarget};
 ghost use Rattle.link_calls.specs.Calls.{IsOpen};
 
@@ -182,6 +182,87 @@ fn linked(
     Ok((initiator, Client::new(alloc, llc)))
 }
 
+// The calls, with what a test needs to know of them: the link is open again.
+
+fn looks_up(
+    alloc: Global,
+    field: &mut Field<Phone>,
+    initiator: &mut Initiator,
+    client: &mut Client,
+    far: &mut Counted<Server>,
+) -> Result<u8, SnepFault>
+    requires open_ { IsOpen ⟦<Phone as Listener>⟧ (λ l. l.target) field.old initiator.old }
+    requires going { client.old.spent ≡ false }
+    ensures open_ { OnOk result (IsOpen ⟦<Phone as Listener>⟧ (λ l. l.target) field.new initiator.new) }
+    ensures going { OnOk result (client.new.spent ≡ false) }
+{
+    let sap = lookup_on(
+        field,
+        initiator,
+        client,
+        far,
+        Counts::most(alloc),
+        "urn:nfc:sn:snep",
+    )?;
+    Ok(sap)
+}
+
+fn puts(
+    field: &mut Field<Phone>,
+    initiator: &mut Initiator,
+    client: &mut Client,
+    far: &mut Counted<Server>,
+    counts: Counts,
+    message: &[u8],
+) -> Result<(), SnepFault>
+    requires open_ { IsOpen ⟦<Phone as Listener>⟧ (λ l. l.target) field.old initiator.old }
+    requires going { client.old.spent ≡ false }
+    requires message { length message.now ≤ 65536 }
+    ensures open_ { OnOk result (IsOpen ⟦<Phone as Listener>⟧ (λ l. l.target) field.new initiator.new) }
+    ensures going { OnOk result (client.new.spent ≡ false) }
+{
+    put_on(field, initiator, client, far, counts, message)?;
+    Ok(())
+}
+
+fn gets(
+    alloc: Global,
+    field: &mut Field<Phone>,
+    initiator: &mut Initiator,
+    client: &mut Client,
+    far: &mut Counted<Server>,
+    acceptable: u32,
+) -> Result<Vec<u8>, SnepFault>
+    requires open_ { IsOpen ⟦<Phone as Listener>⟧ (λ l. l.target) field.old initiator.old }
+    requires going { client.old.spent ≡ false }
+    ensures open_ { OnOk result (IsOpen ⟦<Phone as Listener>⟧ (λ l. l.target) field.new initiator.new) }
+    ensures going { OnOk result (client.new.spent ≡ false) }
+{
+    let value = get_on(
+        field,
+        initiator,
+        client,
+        far,
+        Counts::most(alloc),
+        acceptable,
+        b"k1",
+    )?;
+    Ok(value)
+}
+
+fn closes(
+    alloc: Global,
+    field: &mut Field<Phone>,
+    initiator: &mut Initiator,
+    client: &mut Client,
+    far: &mut Counted<Server>,
+) -> Result<(), SnepFault>
+    requires open_ { IsOpen ⟦<Phone as Listener>⟧ (λ l. l.target) field.old initiator.old }
+    requires going { client.old.spent ≡ false }
+{
+    close_and_release(field, initiator, client, far, Counts::most(alloc))
+}
+
 /// An event's frame.
 fn bytes_of(event: &Event) -> &[u8] {
     match event {
@@ -191,147 +272,172 @@ fn bytes_of(event: &Event) -> &[u8] {
     }
 }
 
+/// A lookup, a put and a close, one after the other.
+fn three_calls(
+    rt: &impl Abort,
+    alloc: Global,
+    field: &mut Field<Phone>,
+    initiator: &mut Initiator,
+    client: &mut Client,
+    far: &mut Counted<Server>,
+) -> Result<(), SnepFault>
+    requires open_ { IsOpen ⟦<Phone as Listener>⟧ (λ l. l.target) field.old initiator.old }
+    requires going { client.old.spent ≡ false }
+{
+    assert_eq!(rt; looks_up(alloc, field, initiator, client, far)?, 4);
+    puts(
+        field,
+        initiator,
+        client,
+        far,
+        Counts::most(alloc),
+        &[0xD0, 0, 0],
+    )?;
+    closes(alloc, field, initiator, client, far)
+}
+
+/// What went over behind the activation's frames and before those of the close.
+const CALLS: [&[u8]; 6] = [
+    b"\xF0\x18\xD4\x06\x00\x06\x41\x08\x10\x00urn:nfc:sn:snep",
+    &[
+        0xF0, 0x0A, 0xD5, 0x07, 0x00, 0x06, 0x41, 0x09, 0x02, 0x00, 0x04,
+    ],
+    &[0xF0, 0x06, 0xD4, 0x06, 0x01, 0x11, 0x20],
+    &[0xF0, 0x06, 0xD5, 0x07, 0x01, 0x81, 0x84],
+    b"\xF0\x10\xD4\x06\x02\x13\x20\x00\x10\x02\x00\x00\x00\x03\xD0\x00\x00",
+    b"\xF0\x0D\xD5\x07\x02\x83\x04\x01\x10\x81\x00\x00\x00\x00",
+];
+
+/// The last two frames, the last one first.
+const RELEASE: [&[u8]; 2] = [&[0xF0, 0x03, 0xD5, 0x0B], &[0xF0, 0x03, 0xD4, 0x0A]];
+
+fn calls_went_over(rt: &impl Abort, events: &[Event]) {
+    for (event, expected) in events.iter().skip(3).zip(&CALLS) {
+        assert_eq!(rt; bytes_of(event), *expected);
+    }
+}
+
+fn release_went_over(rt: &impl Abort, events: &[Event]) {
+    for (event, expected) in events.iter().rev().take(2).zip(&RELEASE) {
+        assert_eq!(rt; bytes_of(event), *expected);
+    }
+}
+
+/// A message goes over to this far end.
+fn message_over(rt: &impl Abort, alloc: Global, far: &mut Counted<Server>) -> Result<(), Fail> {
+    let mut field = met(alloc, PHONES, &[])?;
+    let (mut initiator, mut client) = linked(alloc, &mut field, far)?;
+    three_calls(rt, alloc, &mut field, &mut initiator, &mut client, far)?;
+    calls_went_over(rt, field.trace());
+    release_went_over(rt, field.trace());
+    assert_eq!(rt; field.trace().len(), 13);
+    Ok(())
+}
+
 #[test]
 fn a_message_goes_over(rt: HostRuntime) -> Result<(), Fail> {
     let alloc = rt.alloc();
     let mut far = Counted::new(server(&rt, alloc), Counts::most(alloc));
+    message_over(&rt, alloc, &mut far)
+}
+
+/// The phone's end, with a server that has the value `A1A2A3` under the key `k1`.
+fn offering(rt: &impl Abort, alloc: Global) -> Result<Counted<Server>, Fail> {
+    let mut end = server(rt, alloc);
+    end.service().offer(b"k1", &[0xA1, 0xA2, 0xA3])?;
+    Ok(Counted::new(end, Counts::most(alloc)))
+}
+
+/// A value, and one that is too long.
+fn two_values(
+    rt: &impl Abort,
+    alloc: Global,
+    field: &mut Field<Phone>,
+    initiator: &mut Initiator,
+    client: &mut Client,
+    far: &mut Counted<Server>,
+) -> Result<(), SnepFault>
+    requires open_ { IsOpen ⟦<Phone as Listener>⟧ (λ l. l.target) field.old initiator.old }
+    requires going { client.old.spent ≡ false }
+{
+    let value = gets(alloc, field, initiator, client, far, 16)?;
+    assert_eq!(rt; value.as_slice(), [0xA1u8, 0xA2, 0xA3].as_slice());
+    let long = gets(alloc, field, initiator, client, far, 2);
+    assert_eq!(rt; long.map(|value| value.len()), Err(SnepFault::Excess));
+    Ok(())
+}
+
+/// Values are got from this far end.
+fn values_from(rt: &impl Abort, alloc: Global, far: &mut Counted<Server>) -> Result<(), Fail> {
     let mut field = met(alloc, PHONES, &[])?;
-    let (mut initiator, mut client) = linked(alloc, &mut field, &mut far)?;
-    let name = "urn:nfc:sn:snep";
-    let sap = lookup_on(
-        &mut field,
-        &mut initiator,
-        &mut client,
-        &mut far,
-        Counts::most(alloc),
-        name,
-    )?;
-    assert_eq!(rt; sap, 4);
-    let message = [0xD0, 0, 0];
-    put_on(
-        &mut field,
-        &mut initiator,
-        &mut client,
-        &mut far,
-        Counts::most(alloc),
-        &message,
-    )?;
-    close_and_release(
-        &mut field,
-        &mut initiator,
-        &mut client,
-        &mut far,
-        Counts::most(alloc),
-    )?;
-    let frames: [&[u8]; 6] = [
-        b"\xF0\x18\xD4\x06\x00\x06\x41\x08\x10\x00urn:nfc:sn:snep",
-        &[
-            0xF0, 0x0A, 0xD5, 0x07, 0x00, 0x06, 0x41, 0x09, 0x02, 0x00, 0x04,
-        ],
-        &[0xF0, 0x06, 0xD4, 0x06, 0x01, 0x11, 0x20],
-        &[0xF0, 0x06, 0xD5, 0x07, 0x01, 0x81, 0x84],
-        b"\xF0\x10\xD4\x06\x02\x13\x20\x00\x10\x02\x00\x00\x00\x03\xD0\x00\x00",
-        b"\xF0\x0D\xD5\x07\x02\x83\x04\x01\x10\x81\x00\x00\x00\x00",
-    ];
-    let events = field.trace();
-    for (event, expected) in events.iter().skip(3).zip(&frames) {
-        assert_eq!(rt; bytes_of(event), *expected);
-    }
-    let last = events.iter().rev().take(2);
-    let ends: [&[u8]; 2] = [&[0xF0, 0x03, 0xD5, 0x0B], &[0xF0, 0x03, 0xD4, 0x0A]];
-    for (event, expected) in last.zip(&ends) {
-        assert_eq!(rt; bytes_of(event), *expected);
-    }
-    assert_eq!(rt; events.len(), 13);
+    let (mut initiator, mut client) = linked(alloc, &mut field, far)?;
+    two_values(rt, alloc, &mut field, &mut initiator, &mut client, far)?;
     Ok(())
 }
 
 #[test]
 fn values_are_got(rt: HostRuntime) -> Result<(), Fail> {
     let alloc = rt.alloc();
-    let mut end = server(&rt, alloc);
-    end.service().offer(b"k1", &[0xA1, 0xA2, 0xA3])?;
-    let mut far = Counted::new(end, Counts::most(alloc));
-    let mut field = met(alloc, PHONES, &[])?;
-    let (mut initiator, mut client) = linked(alloc, &mut field, &mut far)?;
-    let value = get_on(
-        &mut field,
-        &mut initiator,
-        &mut client,
-        &mut far,
-        Counts::most(alloc),
-        16,
-        b"k1",
-    )?;
-    assert_eq!(rt; value.as_slice(), [0xA1u8, 0xA2, 0xA3].as_slice());
-    let long = get_on(
-        &mut field,
-        &mut initiator,
-        &mut client,
-        &mut far,
-        Counts::most(alloc),
-        2,
-        b"k1",
-    );
-    assert_eq!(rt; long.map(|value| value.len()), Err(SnepFault::Excess));
-    Ok(())
+    values_from(&rt, alloc, &mut offering(&rt, alloc)?)
 }
 
-/// How a put ends over these fates, and how many messages the phone has then.
+/// How many messages a phone has.
+fn messages_of(far: Counted<Server>) -> usize {
+    far.into_end().as_service().accepted().len()
+}
+
+/// How a put ends over these fates.
 fn put_ends(
-    rt: &impl Abort,
     alloc: Global,
+    far: &mut Counted<Server>,
     fates: &[Fate],
-) -> Result<(Result<(), SnepFault>, usize), Fail> {
-    let mut far = Counted::new(server(rt, alloc), Counts::most(alloc));
+) -> Result<Result<(), SnepFault>, Fail> {
     let mut field = met(alloc, PHONES, fates)?;
-    let (mut initiator, mut client) = linked(alloc, &mut field, &mut far)?;
-    let put = put_on(
+    let (mut initiator, mut client) = linked(alloc, &mut field, far)?;
+    Ok(puts(
         &mut field,
         &mut initiator,
         &mut client,
-        &mut far,
+        far,
         Counts::most(alloc),
         &[0xD0, 0, 0],
+    ))
+}
+
+/// How it ends, and how many messages a new phone has then.
+fn ends_so(
+    rt: &impl Abort,
+    alloc: Global,
+    row: (&[Fate], Result<(), SnepFault>, usize),
+) -> Result<(), Fail> {
+    let (fates, put, accepted) = row;
+    let mut far = Counted::new(server(rt, alloc), Counts::most(alloc));
+    assert_eq!(rt; put_ends(alloc, &mut far, fates)?, put, "at {fates:?}");
+    assert_eq!(rt;
+        far.into_end().as_service().accepted().len(),
+        accepted,
+        "at {fates:?}"
     );
-    let mut end = far.into_end();
-    Ok((put, end.service().accepted().len()))
+    Ok(())
 }
 
 #[test]
 fn a_link_that_ends_is_told(rt: HostRuntime) -> Result<(), Fail> {
-    let alloc = rt.alloc();
-    let lost = [Fate::Lose; 6];
+    use Fate::{Break, Damage, Lose, Pass};
     let late = [
-        Fate::Pass,
-        Fate::Pass,
-        Fate::Pass,
-        Fate::Damage,
-        Fate::Pass,
-        Fate::Damage,
-        Fate::Pass,
-        Fate::Damage,
-        Fate::Pass,
-        Fate::Damage,
-        Fate::Pass,
-        Fate::Damage,
-        Fate::Pass,
-        Fate::Damage,
+        Pass, Pass, Pass, Damage, Pass, Damage, Pass, Damage, Pass, Damage, Pass, Damage, Pass,
+        Damage,
     ];
     let lost_field = Err(SnepFault::LinkEnded(EndCause::FieldLost));
     let six_bad = Err(SnepFault::LinkEnded(EndCause::SixBad));
     let rows: [(&[Fate], Result<(), SnepFault>, usize); 4] = [
         (&[], Ok(()), 1),
-        (&[Fate::Break], lost_field, 0),
-        (&lost, six_bad, 0),
+        (&[Break], lost_field, 0),
+        (&[Lose; 6], six_bad, 0),
         (&late, six_bad, 1),
     ];
-    for (fates, put, accepted) in rows {
-        assert_eq!(rt;
-            put_ends(&rt, alloc, fates)?,
-            (put, accepted),
-            "at {fates:?}"
-        );
+    for row in rows {
+        ends_so(&rt, rt.alloc(), row)?;
     }
     Ok(())
 }
@@ -341,30 +447,50 @@ fn begins_agf(frame: &[u8]) -> bool {
     frame.len() > 6 && frame[5] == 0x00 && frame[6] == 0x80
 }
 
-/// Whether an AGF went over in a put of 500 bytes, to a phone that takes payloads of 2,047 bytes and units of 128, four
-/// at a time, where both ends have these numbers; and how many messages the phone has then.
-fn joined_by(rt: &impl Abort, alloc: Global, numbers: &[u32]) -> Result<(bool, usize), Fail> {
+/// Whether an AGF went over.
+fn has_agf(events: &[Event]) -> bool {
+    for event in events {
+        if begins_agf(bytes_of(event)) {
+            return true;
+        }
+    }
+    false
+}
+
+fn numbered(alloc: Global, numbers: &[u32]) -> Result<Counts, AllocError> {
+    Ok(Counts::new(Vec::from_slice(alloc, numbers)?))
+}
+
+/// A far end that takes units of 128 bytes, four at a time, and gives as many PDUs as these numbers say.
+fn roomy(rt: &impl Abort, alloc: Global, numbers: &[u32]) -> Result<Counted<Server>, Fail> {
+    let counts = numbered(alloc, numbers)?;
     let mut end = Llc::new(alloc, PARAMS, 4, Server::new(alloc, 1024));
     assert_eq!(rt; end.listen("urn:nfc:sn:snep", 4), Ok(()));
-    let mut far = Counted::new(end, Counts::new(Vec::from_slice(alloc, numbers)?));
+    Ok(Counted::new(end, counts))
+}
+
+/// Whether an AGF went over in a put of 500 bytes, to a phone that takes payloads of 2,047 bytes, where the near end
+/// gives as many PDUs as these numbers say.
+fn joined(alloc: Global, far: &mut Counted<Server>, numbers: &[u32]) -> Result<bool, Fail> {
+    let counts = numbered(alloc, numbers)?;
     let mut field = met(alloc, WIDE, &[])?;
-    let (mut initiator, mut client) = linked(alloc, &mut field, &mut far)?;
-    put_on(
+    let (mut initiator, mut client) = linked(alloc, &mut field, far)?;
+    puts(
         &mut field,
         &mut initiator,
         &mut client,
-        &mut far,
-        Counts::new(Vec::from_slice(alloc, numbers)?),
+        far,
+        counts,
         &[7; 500],
     )?;
-    let mut joined = false;
-    for event in field.trace() {
-        if begins_agf(bytes_of(event)) {
-            joined = true;
-        }
-    }
-    let mut left = far.into_end();
-    Ok((joined, left.service().accepted().len()))
+    Ok(has_agf(field.trace()))
+}
+
+/// The same where both ends have these numbers, and how many messages the phone has then.
+fn joined_by(rt: &impl Abort, alloc: Global, numbers: &[u32]) -> Result<(bool, usize), Fail> {
+    let mut far = roomy(rt, alloc, numbers)?;
+    let joined = joined(alloc, &mut far, numbers)?;
+    Ok((joined, messages_of(far)))
 }
 
 #[test]
