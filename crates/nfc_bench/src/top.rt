@@ -12,6 +12,8 @@ mod card_tests;
 mod counting;
 #[cfg(test)]
 mod crowd_tests;
+#[cfg(test)]
+mod inbox_tests;
 mod lines;
 #[cfg(test)]
 mod make_tests;
