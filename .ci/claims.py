@@ -7,7 +7,9 @@ section `## NAME` stands for each crate of crates.txt, and its tables have to na
 clauses. A name `CLAUSE.FIELD` is a field of a record that the clause says, or that a definition it says is made of.
 Then each clause is changed by a letter in turn, which has to be refused: so the check itself is checked.
 
-Lines of code in README.md that stand behind a line `From FILE:` have to stand in that file, in this order and without a gap.
+Lines of code in README.md that stand behind a line `From FILE:` have to stand in that file, in this order and without a gap. Where a part
+of it names a script of examples/, the numbered lines that it shows are lines of that script, and `N ..` in the first cell of a row one
+of its report.
 """
 
 import re
@@ -276,13 +278,32 @@ def check_quotes():
     return wrong, quotes
 
 
+def check_examples():
+    """That README.md shows scripts of examples/ and their reports as they are."""
+    wrong, shown = [], 0
+    for part in re.split(r"^## ", (ROOT / "README.md").read_text(), flags=re.M):
+        name = re.search(r"^`(examples/[\w-]+\.script)`", part, re.M)
+        if not name:
+            continue
+        script = (ROOT / name.group(1)).read_text().split("\n")
+        report = (ROOT / (name.group(1) + ".stdout")).read_text().split("\n")
+        lines = re.findall(r"^    (\d+)  (.*)$", part, re.M)
+        told = [line for cell in re.findall(r"^\| (.*?) \|", part, re.M) for line in NAMES.findall(cell)]
+        wrong += [f"README.md: line {number} of {name.group(1)} isn't `{line}`" for number, line in lines
+                  if script[int(number) - 1:int(number)] != [line]]
+        wrong += [f"README.md: `{line}` is no line of the report of {name.group(1)}" for line in told if line not in report]
+        shown += len(lines) + len(told)
+    return wrong, shown
+
+
 def main():
     code = Code()
     wrong, rows = check_tables(code)
     wrong += check_proved(code)
     quoted, quotes = check_quotes()
-    wrong += quoted
-    print("\n".join(wrong + [f"claims: {rows} rows, {quotes} quotes, {len(wrong)} wrong"]))
+    shown_wrong, shown = check_examples()
+    wrong += quoted + shown_wrong
+    print("\n".join(wrong + [f"claims: {rows} rows, {quotes} quotes, {shown} lines of examples, {len(wrong)} wrong"]))
     sys.exit(1 if wrong else 0)
 
 

@@ -141,7 +141,7 @@ def check_source(program):
 
 
 def check_sink(program):
-    """In front of a sink that failed there is a front of the report, and no fault line."""
+    """In front of a sink that failed there is a prefix of the report, and no fault line."""
     status, report = by_pieces(program, ["run"], SCRIPT, 4096)
     all_pieces = with_sink_failing(program, len(report) + 1)[1]
     if status != 0 or b"".join(all_pieces) != report:

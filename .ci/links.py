@@ -75,16 +75,16 @@ def links_of(script, answers):
     return links
 
 
-def is_first(front, whole):
+def is_prefix(prefix, whole):
     """Whether the whole list begins so."""
-    return whole[: len(front)] == front
+    return whole[: len(prefix)] == prefix
 
 
 def breaks_law(link):
     """Whether the peer accepted on a link what it must not, or not what was told."""
     fitting = [message for message, _ in link.puts if len(message) <= LIMIT]
     told = [message for message, answer in link.puts if answer == "success"]
-    if not (is_first(link.accepted, fitting) and is_first(told, link.accepted)):
+    if not (is_prefix(link.accepted, fitting) and is_prefix(told, link.accepted)):
         return True
     if len(link.accepted) == len(told):
         return False
@@ -142,7 +142,7 @@ def main(program):
     for fault in faults[:10]:
         print(f"links: {fault}")
     if not faults:
-        print("links: what a peer accepts is a front of what was put, and covers what was told")
+        print("links: what a peer accepts is a prefix of what was put, and covers what was told")
     return bool(faults)
 
 

@@ -4,10 +4,12 @@
     tools/annotate.py [REPORT]
 
 The report, a file or else standard input, is written again to standard output. Behind each line that shows a frame
-stands what the frame is, and behind each reset what that is; all other lines are as they were. A frame that fits
-nothing gets `?`. What a report is: docs/report.md. A line of it with what is told:
+stands what the frame is, and behind each reset what that is. Behind an answer that tells messages stands what records
+they hold; all other lines are as they were. A frame that fits nothing gets `?`. What a report is: docs/report.md. Two
+lines of one with what is told:
 
     2 > 93700102030404 pass                         SEL_REQ of level 1: identifier part 01020304, BCC 04h right
+    2 message D1010D55046578616D706C652E636F6D2F writable  URI https://example.com/
 
 What an answer is depends on its request, and how a request is read on the link that is under way, so a report is
 read from its start. Where a transmission had another fate than `pass`, the annotation tells what was sent, and in
@@ -23,6 +25,7 @@ from typing import BinaryIO, Iterable
 
 from frames.line import frame_line, is_reset
 from frames.session import Session
+from ndef.answers import messages_text
 
 WIDTH = 46
 
@@ -43,8 +46,8 @@ def annotated_line(session: Session, line: str) -> str:
     elif is_reset(line):
         told = session.reset()
     else:
-        return line
-    return f"{line:<{WIDTH}}  {told}"
+        told = messages_text(line)
+    return line if told is None else f"{line:<{WIDTH}}  {told}"
 
 
 def annotate(report: BinaryIO, output: BinaryIO) -> None:

@@ -13,7 +13,7 @@ BLOCK_SIZES = (16, 24, 32, 40, 48, 64, 96, 128, 256)
 
 
 class IsoDep:
-    """Reader and card between RATS and S(DESELECT)."""
+    """Reader and card between RATS and S(DESELECT). `whole` is the command or answer that the last frame completed."""
 
     def __init__(self) -> None:
         self.begin(False)
@@ -24,9 +24,11 @@ class IsoDep:
         self.asked_rats = asked_rats
         self.command = b""
         self.reply = b""
+        self.whole = b""
 
     def request(self, frame: Frame) -> str | None:
         data = frame.data
+        self.whole = b""
         if not frame.is_whole or not data:
             return None
         if data[0] == RATS and len(data) == 2:
@@ -42,6 +44,7 @@ class IsoDep:
 
     def answer(self, frame: Frame) -> str | None:
         data = frame.data
+        self.whole = b""
         if not frame.is_whole or not data:
             return None
         if self.asked_rats:
@@ -67,6 +70,7 @@ class IsoDep:
         if data[0] & CHAINING:
             self.command = whole
             return f"{begin(data)}, chained: {counted(len(data) - 1, 'byte')} of a command"
+        self.whole = whole
         return f"{begin(data)}: {completed(whole, data)}{type4.command_text(whole)}"
 
     def answer_block(self, data: bytes) -> str:
@@ -75,6 +79,7 @@ class IsoDep:
         if data[0] & CHAINING:
             self.reply = whole
             return f"{begin(data)}, chained: {counted(len(data) - 1, 'byte')} of an answer"
+        self.whole = whole
         return f"{begin(data)}: {completed(whole, data)}{type4.answer_text(whole)}"
 
     def answer_name(self) -> str:

@@ -27,13 +27,14 @@ class End:
 
 
 class NfcDep:
-    """An initiator, which asks, and a target, which answers."""
+    """An initiator, which asks, and a target, which answers. `whole` is the payload that the last frame completed."""
 
     def __init__(self) -> None:
         self.begin()
 
     def begin(self) -> None:
         """Nothing was sent on a link yet."""
+        self.whole = b""
         self.ends = {False: End(), True: End()}
         self.llcp = Llcp()
 
@@ -49,6 +50,7 @@ class NfcDep:
     def frame_text(self, frame: Frame, up: bool) -> str | None:
         """A frame is F0h, its length, its direction, its command, and the rest."""
         data = frame.data
+        self.whole = b""
         if not frame.is_whole or len(data) < 4 or data[0] != START or data[1] != len(data) - 1:
             return None
         kind, is_answer = data[3] & 0xFE, bool(data[3] & 1)
@@ -103,6 +105,7 @@ class NfcDep:
         else:
             chained = f", completes {counted(len(whole), 'byte')}" if len(whole) > len(content) else ""
             end.told = f"{chained}: {self.llcp.text(whole, up)}"
+            self.whole = whole
         return begin + end.told
 
 

@@ -67,10 +67,14 @@ class Protocols:
 
 
 class Session:
-    """The frames of a report, one after the other. Those that didn't arrive change nothing."""
+    """The frames of a report, one after the other. Those that didn't arrive change nothing.
+
+    `told_by` is the protocol that read the last one, as it stands behind it; nothing where none knows it.
+    """
 
     def __init__(self) -> None:
         self.protocols = Protocols()
+        self.told_by: Protocol | None = None
 
     def reset(self) -> str:
         self.protocols = Protocols()
@@ -81,6 +85,7 @@ class Session:
         protocols = self.protocols if line.fate == "pass" else deepcopy(self.protocols)
         meanings = {">": protocols.request, "<": protocols.answer, "*": protocols.clash}
         told = meanings[line.mark](line.frame) if line.frame.is_well_formed else None
+        self.told_by = None if told is None else protocols.current
         if line.fate == "break":
             self.protocols = Protocols()
         elif line.mark == ">" and (line.fate != "pass" or told is None):

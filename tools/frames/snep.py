@@ -3,12 +3,15 @@
 from __future__ import annotations
 
 from frames.words import code, counted
+from ndef.records import NoMessage
+from ndef.telling import message_line
 
+PUT = 0x02
 CONTINUING = (0x00, 0x80)
 CODES = {
     0x00: "CONTINUE",
     0x01: "GET",
-    0x02: "PUT",
+    PUT: "PUT",
     0x7F: "REJECT",
     0x80: "CONTINUE",
     0x81: "SUCCESS",
@@ -43,7 +46,8 @@ class Snep:
         surplus = f", {counted(here - length, 'byte')} too many" if here > length else ""
         kind = "response" if unit[1] & 0x80 else "request"
         name = CODES.get(unit[1], f"{kind} {code(unit[1])}")
-        return f"SNEP {unit[0] >> 4}.{unit[0] & 15} {name}, {counted(length, 'byte')}{partly}{surplus}"
+        held = records_text(unit[HEADER_LENGTH:]) if unit[1] == PUT and here == length else ""
+        return f"SNEP {unit[0] >> 4}.{unit[0] & 15} {name}, {counted(length, 'byte')}{partly}{surplus}{held}"
 
     def more(self, unit: bytes, up: bool) -> str:
         """The next bytes of a message that began in an earlier unit."""
@@ -52,3 +56,11 @@ class Snep:
         told = f"{counted(left, 'byte')} to come" if left > 0 else "the message is whole"
         surplus = f", {counted(-left, 'byte')} too many" if left < 0 else ""
         return f"SNEP, {counted(len(unit), 'byte')} more, {told}{surplus}"
+
+
+def records_text(message: bytes) -> str:
+    """The records of a message that came as a whole; nothing where it is none."""
+    try:
+        return f": {message_line(message)}"
+    except NoMessage:
+        return ""

@@ -48,7 +48,7 @@ class Reports(unittest.TestCase):
     def test_lines_that_show_no_frame_pass_unchanged(self) -> None:
         lines = (
             "1 ok",
-            "2 message D00000 writable",
+            "2 message D00000 written",
             "3 found 1 01020304:t2",
             "fault 2 line 7",
             "",

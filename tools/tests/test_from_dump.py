@@ -66,6 +66,19 @@ def proxmark(file_type, memory, size, card=None):
     return record if card is None else {**record, "Card": card}
 
 
+def taginfo(memory, ident):
+    """A full scan of NXP TagInfo: what stands around the pages, and a line for each page of four bytes."""
+    shown = [f"ID: {ident}"] if ident else []
+    title = "** TagInfo scan (version 4.24.5) 2021-03-04 10:11:12 **"
+    head = [title, "Report Type: External", "", "# IC type:", "NTAG213"]
+    pages = [
+        f"[{n // 4:02X}] {'*x.+'[n % 4]}{' P'[n == 172]} {memory[n : n + 4].hex(':').upper()} |...,| (UID0-UID2, BCC0)"
+        for n in range(0, len(memory), 4)
+    ]
+    foot = ["", "  *:locked & blocked, x:locked,", "  +:blocked, .:un(b)locked, ?:unknown", "-" * 38]
+    return "\n".join(head + ["# Detailed protocol information:"] + shown + ["# Memory content:"] + pages + foot) + "\n"
+
+
 def run(given, *words, name=None):
     """Exit status, standard output and standard error; the dump is given, or stands in a file of this name."""
     content = given if isinstance(given, bytes) else given.encode()
@@ -174,6 +187,14 @@ class Type2(DumpCase):
         self.places(NTAG213_LINE, NTAG213, "--type", "t2", name="tag.bin")
         self.places(NTAG213_LINE, NTAG213, "--type", "t2")
 
+    def test_raw_bytes_behind_a_header_of_proxmark(self):
+        header = bytes.fromhex("0004040201000F03 0000 00 2C") + bytes(44)
+        for given in (header + NTAG213, (header + NTAG213).hex()):
+            self.places(NTAG213_LINE, given, "--type", "t2")
+            self.places(NTAG213_LINE, given)
+        words = ("--type", "t5", "--id", "E004010203040506")
+        self.places(f"place t5 E004010203040506 3 4 {header[:12].hex().upper()}", header[:12], *words)
+
     def test_raw_bytes_that_look_like_text_need_the_name(self):
         memory = b"0123456789ABCDEF"
         line = "place t2 01020304 4 30313233343536373839414243444546"
@@ -271,9 +292,10 @@ class Type5(DumpCase):
 
     def test_a_proxmark_file_of_either_order_of_the_identifier(self):
         for file_type in ("15693", "15693 v3"):
-            for uid in ("E004010203040506", "06050403020104E0"):
-                with self.subTest(file_type=file_type, uid=uid):
-                    self.places(ICODE_LINE, json.dumps(proxmark(file_type, ICODE, 4, {"UID": uid})))
+            for uid in ("E004010203040506", "06050403020104e0"):
+                for key in ("UID", "uid"):
+                    with self.subTest(file_type=file_type, uid=uid, key=key):
+                        self.places(ICODE_LINE, json.dumps(proxmark(file_type, ICODE, 4, {key: uid})))
 
     def test_a_given_identifier_is_taken_as_it_stands(self):
         line = ICODE_LINE.replace("E004010203040506", "06050403020104E0")
@@ -283,6 +305,36 @@ class Type5(DumpCase):
         memory = (b"\xe1\x40\xff\x00" + b"\xaa" * 2026).ljust(8192, b"\0")
         line = "place t5 E004010203040506 256 32 E140FF00" + "AA" * 2026
         self.places(line, memory, "--type", "t5", "--id", "E004010203040506", "--block-size", "32")
+
+
+class TagInfo(DumpCase):
+    """Texts of NXP TagInfo."""
+
+    def test_a_type_2_tag(self):
+        self.places(NTAG213_LINE, taginfo(NTAG213, "04:11:22:33:44:55:66"), name="scan.txt")
+        self.places(NTAG213_LINE, taginfo(NTAG213, "04:11:22:33:44:55:66").replace("\n", "\r\n"), "--type", "t2")
+        self.places(NTAG213_LINE, taginfo(NTAG213, None))
+        self.places(NTAG213_LINE, re.sub(r"(?m)(?<=]) \S+", "", taginfo(NTAG213, None)))
+
+    def test_pages_from_the_first_that_was_not_read_are_left_out(self):
+        text = taginfo(NTAG213, None)
+        for shown in ("FF:FF:FF:FF", "00:05 -- --"):
+            self.assertIn(shown.replace(" -- --", ":00:00"), text)
+            self.places(NTAG213_LINE, text.replace(shown.replace(" -- --", ":00:00"), shown.replace("FF", "XX")))
+
+    def test_a_type_5_tag(self):
+        for ident in ("E0:04:01:02:03:04:05:06", "06:05:04:03:02:01:04:E0"):
+            self.places(ICODE_LINE, taginfo(ICODE, ident))
+        self.places(ICODE_LINE, taginfo(ICODE, None), "--type", "t5", "--id", "E004010203040506")
+
+    def test_texts_that_are_not_whole(self):
+        text = taginfo(NTAG213, "04:11:22:33:44:55:66")
+        self.refuses("page 7 is missing", "\n".join(line for line in text.splitlines() if "[07]" not in line))
+        self.refuses("blocks are missing: the dump has 7, and the tag needs 40", text[: text.index("[07]")])
+        self.refuses("the dump has no pages", text.replace("04:11:22", "XX:XX:XX", 2))
+        self.refuses("page 1 has 3 bytes, not 4", text.replace("33:44:55:66", "33:44:55"))
+        self.refuses("the dump doesn't say what it is of: give --type", taginfo(ICODE, None))
+        self.refuses("unknown format", text[: text.index("[00]")])
 
 
 class Programs(unittest.TestCase):
@@ -386,7 +438,7 @@ class UnplaceableTags(DumpCase):
     def test_check_bytes_that_do_not_fit(self):
         error = "bytes 3 and 8 aren't the check bytes of an identifier: give --id"
         self.refuses(error, b"\x04" + bytes(15), "--type", "t2")
-        self.refuses(error, bytes(56) + NTAG213, "--type", "t2")
+        self.refuses(error, bytes(52) + NTAG213, "--type", "t2")
 
     def test_an_identifier_of_a_wrong_length(self):
         self.refuses("an identifier of NFC-A has 4, 7 or 10 bytes, not 8", NTAG213, "--type", "t2", "--id", "00" * 8)

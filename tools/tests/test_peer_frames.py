@@ -220,7 +220,8 @@ class SnepMessages(unittest.TestCase):
 
     def test_requests_and_responses(self) -> None:
         for unit, text in {
-            "100200000003D00000": "SNEP 1.0 PUT, 3 bytes",
+            "100200000003D00000": "SNEP 1.0 PUT, 3 bytes: empty record",
+            "100200000003D00001": "SNEP 1.0 PUT, 3 bytes",
             "100100000006000000106B31": "SNEP 1.0 GET, 6 bytes",
             "100000000000": "SNEP 1.0 CONTINUE, 0 bytes",
             "107F00000000": "SNEP 1.0 REJECT, 0 bytes",

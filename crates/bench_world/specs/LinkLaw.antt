@@ -1,5 +1,5 @@
--- The law of links: what a peer accepts on a link is the first of what was put there and fits, and covers all that was
--- told to be taken, by at most one more; and it's what the payloads put that arrived there (NFC Forum SNEP 1.0; the law
+-- The law of links: what a peer accepts on a link is a prefix of what was put there and fits, which covers all that was
+-- told to be taken, and at most one more; and it's what the payloads put that arrived there (NFC Forum SNEP 1.0; the law
 -- is this project's own).
 use Rattle.std.specs.Prelude.{◌≡◌, ℕ, ◌+◌, ◌==◌, nat_eq, List, [], ◌∷◌, ◌++◌, map, if◌then◌else◌, Option, Some}
 use Rattle.std.specs.List.{AllByRecursion}
@@ -25,8 +25,8 @@ abbrev pub puts_from : ℕ → List LinkPut → List Put
 puts_from client [] = []
 puts_from client (p ∷ ps) = if p.source == client then p.put ∷ puts_from client ps else puts_from client ps
 
--- On a link that `link` opened: of each client's SAP, what was accepted from it is the first of the messages that were
--- put from it and are within the limit, and covers all of them that were told to be taken, by at most one more, which
+-- On a link that `link` opened: of each client's SAP, what was accepted from it is a prefix of the messages that were put
+-- from it and are within the limit. The prefix covers all of them that were told to be taken, and at most one more, which
 -- then is the last put, and wasn't answered.
 abbrev pub AcceptsPuts : Opener → Story → Type 0
 AcceptsPuts ByLink y = (client : ℕ) → LinkAccepts y.begun.service.limit (puts_from client y.puts) (accepted_from client y.gained)

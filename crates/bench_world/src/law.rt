@@ -76,11 +76,11 @@ pub fn quiet_air()
     ensures script { QuietScript }
 {}
 
-/// Of each link in a legal journal, and of each client's SAP: what the peer accepted on it is the first of the messages
-/// that were put and are within its limit, and covers all that were told to be taken, by at most one more: the last
-/// put, which then wasn't answered. It's just what the payloads put that arrived there while the link was open, counted
-/// from PNI 0, whatever was offered between them. And an inbox tells what its peer accepted on each link, each message
-/// once, and nothing else.
+/// Of each link in a legal journal, and of each client's SAP: what the peer accepted on it are the messages that were put
+/// and are within its limit, in order, each whole and once, none left out, up to some point. That point covers all that
+/// were told to be taken, and at most one more: the last put, which then wasn't answered. It's just what the payloads put
+/// that arrived there while the link was open, counted from PNI 0, whatever was offered between them. And an inbox tells
+/// what its peer accepted on each link, each message once, and nothing else.
 pub fn links_accept()
     ensures { LinkLaw }
 {}

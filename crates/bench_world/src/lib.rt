@@ -31,6 +31,7 @@ pub use bench::{Bench, ObeyFault};
 pub use bench_devices::{Device, SeenKind};
 pub use entry::{Answer, Entry, Loss, Received, Seen};
 pub use event_lines::event_line;
+pub use inbox::{LinkRange, inbox_of};
 pub use law::{
     finds_complete, lines_decide, lines_tell_events, links_accept, links_complete, quiet_air,
     reads_behind, reads_complete, writes_complete,

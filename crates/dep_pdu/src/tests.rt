@@ -2,14 +2,9 @@
 
 use crate::frame::DepFrame;
 use crate::refusal::{DepKind, DepRefusal};
-use arrayvec::ArrayVec;
+use std::alloc::Global;
+use std::process::Abort;
 use std::test::Fail;
-
-/// General bytes of a Linux device.
-const GENERAL: [u8; 17] = [
-    0x46, 0x66, 0x6D, 0x01, 0x01, 0x11, 0x04, 0x01, 0x96, 0x03, 0x02, 0x00, 0x01, 0x02, 0x02, 0x07,
-    0xFF,
-];
 
 /// ATR_REQ of a Linux initiator, and ATR_RES of a Linux target.
 const LINUX_ATR_REQ: [u8; 35] = [
@@ -22,73 +17,48 @@ const LINUX_ATR_RES: [u8; 36] = [
     0x01, 0x01, 0x11, 0x04, 0x01, 0x96, 0x03, 0x02, 0x00, 0x01, 0x02, 0x02, 0x07, 0xFF,
 ];
 
+/// These bytes are read as the frame of this text, and written of it.
+fn comes_back(rt: &impl Abort, alloc: Global, bytes: &[u8], wanted: &str) -> Result<(), Fail> {
+    let frame = DepFrame::read_from(bytes)?;
+    let text = format!(in alloc; "{frame:?}")?;
+    assert_eq!(rt; text.as_str(), wanted, "at {bytes:?}");
+    assert_eq!(rt; frame.to_bytes().as_slice(), bytes);
+    Ok(())
+}
+
 #[test]
 fn frames(rt: HostRuntime) -> Result<(), Fail> {
-    let id = [1, 2, 3, 4, 5, 6, 7, 8, 9, 10];
-    let mut req_general = ArrayVec::new();
-    req_general.try_extend_from_slice(&GENERAL).unwrap();
-    let mut res_general = ArrayVec::new();
-    res_general.try_extend_from_slice(&GENERAL).unwrap();
-    let mut content = ArrayVec::new();
-    content.try_extend_from_slice(&[0, 0]).unwrap();
-    let rows: [(&[u8], DepFrame); 10] = [
+    let rows: [(&[u8], &str); 10] = [
         (
             &LINUX_ATR_REQ,
-            DepFrame::AtrReq {
-                id,
-                lr: 3,
-                general: req_general,
-            },
+            "AtrReq { id: [1, 2, 3, 4, 5, 6, 7, 8, 9, 10], lr: 3, general: \
+             [70, 102, 109, 1, 1, 17, 4, 1, 150, 3, 2, 0, 1, 2, 2, 7, 255] }",
         ),
         (
             &LINUX_ATR_RES,
-            DepFrame::AtrRes {
-                id,
-                timeout: 0x0E,
-                lr: 3,
-                general: res_general,
-            },
+            "AtrRes { id: [1, 2, 3, 4, 5, 6, 7, 8, 9, 10], timeout: 14, lr: 3, general: \
+             [70, 102, 109, 1, 1, 17, 4, 1, 150, 3, 2, 0, 1, 2, 2, 7, 255] }",
         ),
         (
             &[0xF0, 0x06, 0xD4, 0x06, 0x12, 0, 0],
-            DepFrame::Info {
-                up: false,
-                more: true,
-                pni: 2,
-                content,
-            },
+            "Info { up: false, more: true, pni: 2, content: [0, 0] }",
         ),
         (
             &[0xF0, 0x04, 0xD5, 0x07, 0x00],
-            DepFrame::Info {
-                up: true,
-                more: false,
-                pni: 0,
-                content: ArrayVec::new(),
-            },
+            "Info { up: true, more: false, pni: 0, content: [] }",
         ),
-        (
-            &[0xF0, 0x04, 0xD5, 0x07, 0x40],
-            DepFrame::Ack { up: true, pni: 0 },
-        ),
-        (&[0xF0, 0x04, 0xD4, 0x06, 0x53], DepFrame::Nack { pni: 3 }),
-        (
-            &[0xF0, 0x04, 0xD4, 0x06, 0x80],
-            DepFrame::Attention { up: false },
-        ),
+        (&[0xF0, 0x04, 0xD5, 0x07, 0x40], "Ack { up: true, pni: 0 }"),
+        (&[0xF0, 0x04, 0xD4, 0x06, 0x53], "Nack { pni: 3 }"),
+        (&[0xF0, 0x04, 0xD4, 0x06, 0x80], "Attention { up: false }"),
         (
             &[0xF0, 0x05, 0xD5, 0x07, 0x90, 59],
-            DepFrame::Extend {
-                up: true,
-                times: 59,
-            },
+            "Extend { up: true, times: 59 }",
         ),
-        (&[0xF0, 0x03, 0xD4, 0x08], DepFrame::DslReq),
-        (&[0xF0, 0x03, 0xD5, 0x0B], DepFrame::RlsRes),
+        (&[0xF0, 0x03, 0xD4, 0x08], "DslReq"),
+        (&[0xF0, 0x03, 0xD5, 0x0B], "RlsRes"),
     ];
-    for (bytes, frame) in rows {
-        assert_eq!(rt; frame.to_bytes().as_slice(), bytes);
-        assert_eq!(rt; DepFrame::read_from(bytes), Ok(frame), "at {bytes:?}");
+    for (bytes, wanted) in rows {
+        comes_back(&rt, rt.alloc(), bytes, wanted)?;
     }
     Ok(())
 }
@@ -125,41 +95,28 @@ fn refusals(rt: HostRuntime) -> Result<(), Fail> {
     Ok(())
 }
 
-/// One byte of the ATR_REQ changed, and what that is read as.
+/// The ATR_REQ with one byte changed is refused at this place, unless it is read.
+fn changed(rt: &impl Abort, place: usize, byte: u8, refused: Option<u16>) {
+    let mut bytes = LINUX_ATR_REQ;
+    assert!(rt; place < bytes.len());
+    bytes[place] = byte;
+    let kind = DepKind::Field;
+    let refusal = refused.map(|place| DepRefusal { place, kind });
+    assert_eq!(rt; DepFrame::read_from(&bytes).err(), refusal, "at {place}");
+}
+
+/// One byte of the ATR_REQ changed, and where that is refused.
 #[test]
 fn changed_bytes(rt: HostRuntime) -> Result<(), Fail> {
-    let rows: [(usize, u8, Option<DepRefusal>); 5] = [
-        (
-            14,
-            1,
-            Some(DepRefusal {
-                place: 14,
-                kind: DepKind::Field,
-            }),
-        ),
+    let rows = [
+        (14, 1, Some(14)),
         (15, 0x0F, None),
         (16, 0xFF, None),
-        (
-            17,
-            0x33,
-            Some(DepRefusal {
-                place: 17,
-                kind: DepKind::Field,
-            }),
-        ),
-        (
-            17,
-            0x30,
-            Some(DepRefusal {
-                place: 17,
-                kind: DepKind::Field,
-            }),
-        ),
+        (17, 0x33, Some(17)),
+        (17, 0x30, Some(17)),
     ];
-    for (place, byte, refusal) in rows {
-        let mut bytes = LINUX_ATR_REQ;
-        bytes[place] = byte;
-        assert_eq!(rt; DepFrame::read_from(&bytes).err(), refusal, "at {place}");
+    for (place, byte, refused) in rows {
+        changed(&rt, place, byte, refused);
     }
     Ok(())
 }

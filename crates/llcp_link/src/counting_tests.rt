@@ -1,6 +1,6 @@
 //! How many PDUs stand in a payload.
 
-use crate::tests::{Notes, answers, server};
+use crate::tests::{Notes, replies_by, server};
 use crate::{Counted, Counts, Llc};
 use std::alloc::Global;
 use std::process::Abort;
@@ -19,7 +19,7 @@ const FIVE: [u8; 22] = [
 
 const SYMM: [u8; 2] = [0x00, 0x00];
 
-/// The payload of so many PDUs.
+/// It gives a payload of so many PDUs.
 fn gives(
     rt: &impl Abort,
     alloc: Global,
@@ -29,55 +29,81 @@ fn gives(
 ) -> Result<(), Fail> {
     let mut got = Vec::new(alloc);
     assert_eq!(rt; llc.give(count, &mut got), Ok(()));
-    assert_eq!(rt; got.as_slice(), payload);
+    assert_eq!(rt; got.as_slice(), payload, "by {count}");
     Ok(())
+}
+
+/// It gives these payloads, one after the other, each by the number before it.
+fn gives_all(
+    rt: &impl Abort,
+    alloc: Global,
+    llc: &mut Llc<Notes>,
+    rows: &[(u32, &[u8])],
+) -> Result<(), Fail> {
+    for (count, payload) in rows {
+        gives(rt, alloc, llc, *count, payload)?;
+    }
+    Ok(())
+}
+
+/// A server that three clients ask does so.
+fn gives_three(rt: &impl Abort, alloc: Global, rows: &[(u32, &[u8])]) -> Result<(), Fail> {
+    let mut llc = server(rt, alloc)?;
+    assert_eq!(rt; llc.take(&THREE), Ok(()));
+    gives_all(rt, alloc, &mut llc, rows)
 }
 
 #[test]
 fn a_payload_has_as_many_pdus_as_asked(rt: HostRuntime) -> Result<(), Fail> {
-    let alloc = rt.alloc();
-    let mut llc = server(&rt, alloc)?;
-    assert_eq!(rt; llc.take(&THREE), Ok(()));
     let two = [0x00, 0x80, 0x00, 0x02, 0x81, 0x84, 0x00, 0x02, 0x85, 0x84];
-    gives(&rt, alloc, &mut llc, 2, &two)?;
-    gives(&rt, alloc, &mut llc, 0, &[0x89, 0x84])?;
-    gives(&rt, alloc, &mut llc, 2, &SYMM)
+    gives_three(
+        &rt,
+        rt.alloc(),
+        &[(2, &two), (0, &[0x89, 0x84]), (2, &SYMM)],
+    )
 }
 
 #[test]
 fn one_pdu_alone_leaves_the_others(rt: HostRuntime) -> Result<(), Fail> {
-    let alloc = rt.alloc();
-    let mut llc = server(&rt, alloc)?;
-    assert_eq!(rt; llc.take(&THREE), Ok(()));
-    gives(&rt, alloc, &mut llc, 1, &[0x81, 0x84])?;
     let others = [0x00, 0x80, 0x00, 0x02, 0x85, 0x84, 0x00, 0x02, 0x89, 0x84];
-    gives(&rt, alloc, &mut llc, 0, &others)
+    gives_three(&rt, rt.alloc(), &[(1, &[0x81, 0x84]), (0, &others)])
 }
 
 #[test]
 fn of_more_than_are_due_a_payload_has_all(rt: HostRuntime) -> Result<(), Fail> {
-    let alloc = rt.alloc();
-    let mut llc = server(&rt, alloc)?;
-    assert_eq!(rt; llc.take(&THREE), Ok(()));
     let all = [
         0x00, 0x80, 0x00, 0x02, 0x81, 0x84, 0x00, 0x02, 0x85, 0x84, 0x00, 0x02, 0x89, 0x84,
     ];
-    gives(&rt, alloc, &mut llc, 7, &all)?;
-    gives(&rt, alloc, &mut llc, 7, &SYMM)
+    gives_three(&rt, rt.alloc(), &[(7, &all), (7, &SYMM)])
+}
+
+/// A server that gives as many PDUs as these numbers say.
+fn counted(rt: &impl Abort, alloc: Global, numbers: &[u32]) -> Result<Counted<Notes>, Fail> {
+    let numbers = Vec::from_slice(alloc, numbers)?;
+    Ok(Counted::new(server(rt, alloc)?, Counts::new(numbers)))
+}
+
+fn gives_nothing(rt: &impl Abort, alloc: Global, end: Counted<Notes>) -> Result<(), Fail> {
+    gives(rt, alloc, &mut end.into_end(), 0, &SYMM)
 }
 
 #[test]
 fn payloads_have_the_given_numbers_and_then_as_many_as_fit(rt: HostRuntime) -> Result<(), Fail> {
     let alloc = rt.alloc();
-    let numbers = Vec::from_slice(alloc, &[1, 2])?;
-    let mut end = Counted::new(server(&rt, alloc)?, Counts::new(numbers));
-    answers(&rt, alloc, &mut end, &FIVE, &[0x81, 0x84])?;
-    let two = [0x00, 0x80, 0x00, 0x02, 0x85, 0x84, 0x00, 0x02, 0x89, 0x84];
-    answers(&rt, alloc, &mut end, &SYMM, &two)?;
-    let left = [0x00, 0x80, 0x00, 0x02, 0x8D, 0x84, 0x00, 0x02, 0x91, 0x84];
-    answers(&rt, alloc, &mut end, &SYMM, &left)?;
-    let mut llc = end.into_end();
-    gives(&rt, alloc, &mut llc, 0, &SYMM)
+    let mut end = counted(&rt, alloc, &[1, 2])?;
+    let rows: [(&[u8], &[u8]); 3] = [
+        (&FIVE, &[0x81, 0x84]),
+        (
+            &SYMM,
+            &[0x00, 0x80, 0x00, 0x02, 0x85, 0x84, 0x00, 0x02, 0x89, 0x84],
+        ),
+        (
+            &SYMM,
+            &[0x00, 0x80, 0x00, 0x02, 0x8D, 0x84, 0x00, 0x02, 0x91, 0x84],
+        ),
+    ];
+    replies_by(&rt, alloc, &mut end, &rows)?;
+    gives_nothing(&rt, alloc, end)
 }
 
 #[test]
@@ -86,5 +112,5 @@ fn with_no_numbers_payloads_have_as_many_as_fit(rt: HostRuntime) -> Result<(), F
     let mut end = Counted::new(server(&rt, alloc)?, Counts::most(alloc));
     let two = [0x00, 0x80, 0x00, 0x02, 0x11, 0x20, 0x00, 0x02, 0x11, 0x21];
     let joined = [0x00, 0x80, 0x00, 0x02, 0x81, 0x84, 0x00, 0x02, 0x85, 0x84];
-    answers(&rt, alloc, &mut end, &two, &joined)
+    replies_by(&rt, alloc, &mut end, &[(&two, &joined)])
 }

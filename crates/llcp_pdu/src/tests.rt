@@ -163,6 +163,10 @@ fn bytes_come_back_without_what_is_ignored(rt: HostRuntime) -> Result<(), Fail> 
     Ok(())
 }
 
+fn fault_of(alloc: Global, bytes: &[u8]) -> Option<PduFault> {
+    Pdu::read_from(alloc, bytes).err()
+}
+
 #[test]
 fn faults_have_their_places(rt: HostRuntime) -> Result<(), Fail> {
     let rows: [(&[u8], u16, PduKind); 12] = [
@@ -184,12 +188,8 @@ fn faults_have_their_places(rt: HostRuntime) -> Result<(), Fail> {
         (&[0x81, 0xC4], 2, PduKind::Short),
     ];
     for (bytes, place, kind) in rows {
-        let read = Pdu::read_from(rt.alloc(), bytes);
-        assert_eq!(rt;
-            read,
-            Err(PduFault::Refused { place, kind }),
-            "at {bytes:?}"
-        );
+        let wanted = PduFault::Refused { place, kind };
+        assert_eq!(rt; fault_of(rt.alloc(), bytes), Some(wanted), "at {bytes:?}");
     }
     Ok(())
 }
@@ -222,24 +222,25 @@ fn general_bytes_are_read(rt: HostRuntime) {
     }
 }
 
+/// The general bytes of an end of version 1.3 with this MIU and these well-known services.
+fn are_written(rt: &impl Abort, miu: u16, wks: u16, bytes: &[u8]) {
+    assert!(rt; 128 <= miu && miu <= 2175);
+    let version = 0x13;
+    let params = LinkParams { version, miu, wks };
+    assert_eq!(rt; general_write(&params).as_slice(), bytes);
+}
+
 #[test]
 fn general_bytes_are_written(rt: HostRuntime) {
-    let initiator = LinkParams {
-        version: 0x13,
-        miu: 128,
-        wks: 0x0003,
-    };
-    assert_eq!(rt;
-        general_write(&initiator).as_slice(),
-        b"Ffm\x01\x01\x13\x03\x02\x00\x03".as_slice()
-    );
-    let wide = LinkParams {
-        version: 0x13,
-        miu: 2175,
-        wks: 0x0013,
-    };
-    assert_eq!(rt;
-        general_write(&wide).as_slice(),
-        b"Ffm\x01\x01\x13\x02\x02\x07\xFF\x03\x02\x00\x13".as_slice()
-    );
+    let rows: [(u16, u16, &[u8]); 2] = [
+        (128, 0x0003, b"Ffm\x01\x01\x13\x03\x02\x00\x03"),
+        (
+            2175,
+            0x0013,
+            b"Ffm\x01\x01\x13\x02\x02\x07\xFF\x03\x02\x00\x13",
+        ),
+    ];
+    for (miu, wks, bytes) in rows {
+        are_written(&rt, miu, wks, bytes);
+    }
 }

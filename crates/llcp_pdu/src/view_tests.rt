@@ -1,157 +1,104 @@
 use crate::{
-    ConnectParams, FrmrReport, InnerWalk, ParamView, ParamWalk, Pdu, PduFault, PduKind, PduRefusal,
-    PduView, view,
+    ConnectParams, InnerWalk, ParamWalk, Pdu, PduFault, PduKind, PduRefusal, PduView, view,
 };
-use std::alloc::Global;
+use std::alloc::{AllocError, Global};
+use std::fmt::Write;
 use std::process::Abort;
 use std::test::Fail;
 
 const LINUX_CONNECT: &[u8] = b"\x05\x20\x06\x0Furn:nfc:sn:snep\x02\x02\x07\xFF\x05\x01\x0F";
 
+/// Each payload is seen as this text says.
+fn seen_so(rt: &impl Abort, alloc: Global, rows: &[(&[u8], &str)]) -> Result<(), Fail> {
+    for (bytes, wanted) in rows {
+        let text = format!(in alloc; "{:?}", view(bytes))?;
+        assert_eq!(rt; text.as_str(), *wanted, "at {bytes:?}");
+    }
+    Ok(())
+}
+
 #[test]
-fn payloads_are_seen_in_place(rt: HostRuntime) {
-    let (dsap, ssap) = (4, 32);
-    let rows: [(&[u8], PduView<'_>); 14] = [
-        (&[0x00, 0x00], PduView::Symm),
+fn payloads_are_seen_in_place(rt: HostRuntime) -> Result<(), Fail> {
+    let rows: [(&[u8], &str); 13] = [
+        (&[0x00, 0x00], "Ok(Symm)"),
         (
             &[0x11, 0x20],
-            PduView::Connect {
-                dsap,
-                ssap,
-                params: &[],
-            },
-        ),
-        (
-            LINUX_CONNECT,
-            PduView::Connect {
-                dsap: 1,
-                ssap,
-                params: b"\x06\x0Furn:nfc:sn:snep\x02\x02\x07\xFF\x05\x01\x0F",
-            },
+            "Ok(Connect { dsap: 4, ssap: 32, params: [] })",
         ),
         (
             &[0x81, 0x84, 0x02, 0x02, 0x07, 0xFF, 0x05, 0x01, 0x0F],
-            PduView::Cc {
-                dsap: 32,
-                ssap: 4,
-                params: &[0x02, 0x02, 0x07, 0xFF, 0x05, 0x01, 0x0F],
-            },
+            "Ok(Cc { dsap: 32, ssap: 4, params: [2, 2, 7, 255, 5, 1, 15] })",
         ),
-        (&[0x11, 0x60], PduView::Disc { dsap, ssap }),
+        (&[0x11, 0x60], "Ok(Disc { dsap: 4, ssap: 32 })"),
         (
             &[0x81, 0xC4, 0x02],
-            PduView::Dm {
-                dsap: 32,
-                ssap: 4,
-                reason: 2,
-            },
+            "Ok(Dm { dsap: 32, ssap: 4, reason: 2 })",
         ),
-        (&[0x13, 0x60, 0x05], PduView::Rr { dsap, ssap, nr: 5 }),
-        (&[0x13, 0xA0, 0xF5], PduView::Rnr { dsap, ssap, nr: 5 }),
+        (&[0x13, 0x60, 0x05], "Ok(Rr { dsap: 4, ssap: 32, nr: 5 })"),
+        (&[0x13, 0xA0, 0xF5], "Ok(Rnr { dsap: 4, ssap: 32, nr: 5 })"),
         (
             &[0x10, 0xE0, 0xAA],
-            PduView::Ui {
-                dsap,
-                ssap,
-                info: &[0xAA],
-            },
+            "Ok(Ui { dsap: 4, ssap: 32, info: [170] })",
         ),
         (
             &[0x13, 0x20, 0x50, 0xBB],
-            PduView::Info {
-                dsap,
-                ssap,
-                ns: 5,
-                nr: 0,
-                info: &[0xBB],
-            },
+            "Ok(Info { dsap: 4, ssap: 32, ns: 5, nr: 0, info: [187] })",
         ),
         (
             &[0x13, 0x20, 0x10],
-            PduView::Info {
-                dsap,
-                ssap,
-                ns: 1,
-                nr: 0,
-                info: &[],
-            },
+            "Ok(Info { dsap: 4, ssap: 32, ns: 1, nr: 0, info: [] })",
         ),
         (
             &[0x06, 0x41, 0x09, 0x02, 0x00, 0x04],
-            PduView::Snl(&[0x09, 0x02, 0x00, 0x04]),
+            "Ok(Snl([9, 2, 0, 4]))",
         ),
-        (&[0x00, 0x80], PduView::Agf(&[])),
+        (&[0x00, 0x80], "Ok(Agf([]))"),
         (
             &[0x00, 0x80, 0, 2, 0x11, 0x20, 0, 4, 0x13, 0x20, 0x00, 0x01],
-            PduView::Agf(&[0, 2, 0x11, 0x20, 0, 4, 0x13, 0x20, 0x00, 0x01]),
+            "Ok(Agf([0, 2, 17, 32, 0, 4, 19, 32, 0, 1]))",
         ),
     ];
-    for (bytes, expected) in rows {
-        assert_eq!(rt; view(bytes), Ok(expected), "at {bytes:?}");
-    }
+    seen_so(&rt, rt.alloc(), &rows)?;
+    let linux = PduView::Connect {
+        dsap: 1,
+        ssap: 32,
+        params: b"\x06\x0Furn:nfc:sn:snep\x02\x02\x07\xFF\x05\x01\x0F",
+    };
+    assert_eq!(rt; view(LINUX_CONNECT), Ok(linux));
+    Ok(())
 }
 
 /// What a Linux device and its tools send and show.
 #[test]
-fn payloads_of_another_stack_are_seen(rt: HostRuntime) {
-    let report = FrmrReport {
-        flags: 0x10,
-        ptype: 12,
-        sequence: 0x10,
-        vs: 0,
-        vr: 0,
-        vsa: 0,
-        vra: 0,
-    };
-    let (dsap, ssap) = (32, 4);
-    let rows: [(&[u8], PduView<'_>); 7] = [
+fn payloads_of_another_stack_are_seen(rt: HostRuntime) -> Result<(), Fail> {
+    let rows: [(&[u8], &str); 6] = [
         (
             &[0x11, 0x20, 0x02, 0x02, 0x07, 0xFF, 0x05, 0x01, 0x0F],
-            PduView::Connect {
-                dsap: 4,
-                ssap: 32,
-                params: &[0x02, 0x02, 0x07, 0xFF, 0x05, 0x01, 0x0F],
-            },
+            "Ok(Connect { dsap: 4, ssap: 32, params: [2, 2, 7, 255, 5, 1, 15] })",
         ),
         (
             &[0x81, 0x84, 0x02, 0x02, 0x00, 0x78, 0x05, 0x01, 0x04],
-            PduView::Cc {
-                dsap,
-                ssap,
-                params: &[0x02, 0x02, 0x00, 0x78, 0x05, 0x01, 0x04],
-            },
+            "Ok(Cc { dsap: 32, ssap: 4, params: [2, 2, 0, 120, 5, 1, 4] })",
         ),
         (
             &[0x81, 0xC4, 0x00],
-            PduView::Dm {
-                dsap,
-                ssap,
-                reason: 0,
-            },
+            "Ok(Dm { dsap: 32, ssap: 4, reason: 0 })",
         ),
         (
             &[0x82, 0x04, 0x1C, 0x10, 0x00, 0x00],
-            PduView::Frmr { dsap, ssap, report },
+            "Ok(Frmr { dsap: 32, ssap: 4, report: FrmrReport { flags: 16, ptype: 12, sequence: 16, \
+             vs: 0, vr: 0, vsa: 0, vra: 0 } })",
         ),
-        (
-            b"\x06\x41\x08\x10\x00urn:nfc:sn:snep",
-            PduView::Snl(b"\x08\x10\x00urn:nfc:sn:snep"),
-        ),
-        (&[0x83, 0x44, 0x01], PduView::Rr { dsap, ssap, nr: 1 }),
+        (&[0x83, 0x44, 0x01], "Ok(Rr { dsap: 32, ssap: 4, nr: 1 })"),
         (
             &[0x13, 0x20, 0x00, 0xAA],
-            PduView::Info {
-                dsap: 4,
-                ssap: 32,
-                ns: 0,
-                nr: 0,
-                info: &[0xAA],
-            },
+            "Ok(Info { dsap: 4, ssap: 32, ns: 0, nr: 0, info: [170] })",
         ),
     ];
-    for (bytes, expected) in rows {
-        assert_eq!(rt; view(bytes), Ok(expected), "at {bytes:?}");
-    }
+    seen_so(&rt, rt.alloc(), &rows)?;
+    let request = PduView::Snl(b"\x08\x10\x00urn:nfc:sn:snep");
+    assert_eq!(rt; view(b"\x06\x41\x08\x10\x00urn:nfc:sn:snep"), Ok(request));
+    Ok(())
 }
 
 #[test]
@@ -190,40 +137,54 @@ fn a_view_tells_the_first_fault(rt: HostRuntime) {
     }
 }
 
+/// The parameters that a walk gives.
+fn walked(alloc: Global, params: ParamWalk<'_>) -> Result<String, Fail> {
+    let mut text = String::new(alloc);
+    for param in params {
+        write!(text, "{param:?} ")?;
+    }
+    Ok(text)
+}
+
+/// The PDUs that a walk gives.
+fn walked_inside(alloc: Global, inner: InnerWalk<'_>) -> Result<String, Fail> {
+    let mut text = String::new(alloc);
+    for pdu in inner {
+        write!(text, "{pdu:?} ")?;
+    }
+    Ok(text)
+}
+
+/// What a walk of a payload's parameters or PDUs gives.
+fn walks(alloc: Global, bytes: &[u8]) -> Result<String, Fail> {
+    match view(bytes) {
+        Ok(PduView::Connect { params, .. }) => walked(alloc, ParamWalk::new(params)),
+        Ok(PduView::Agf(inner)) => walked_inside(alloc, InnerWalk::new(inner)),
+        _ => Err(Fail::new("another PDU")),
+    }
+}
+
+/// A parameter of an unknown type is skipped.
 #[test]
 fn walks_give_all_that_was_checked(rt: HostRuntime) -> Result<(), Fail> {
-    let Ok(PduView::Connect { params, .. }) = view(LINUX_CONNECT) else {
-        return Err(Fail::new("another PDU"));
-    };
-    let expected = [
-        ParamView::Sn(b"urn:nfc:sn:snep"),
-        ParamView::Miux(0x7FF),
-        ParamView::Rw(15),
+    let rows: [(&[u8], &str); 3] = [
+        // of the name "urn:nfc:sn:snep"
+        (
+            LINUX_CONNECT,
+            "Sn([117, 114, 110, 58, 110, 102, 99, 58, 115, 110, 58, 115, 110, 101, 112]) Miux(2047) Rw(15) ",
+        ),
+        (
+            &[
+                0x00, 0x80, 0, 5, 0x11, 0x20, 0x63, 1, 7, 0, 3, 0x13, 0x60, 0x02,
+            ],
+            "Connect { dsap: 4, ssap: 32, params: [99, 1, 7] } Rr { dsap: 4, ssap: 32, nr: 2 } ",
+        ),
+        (&[0x11, 0x20, 0x63, 1, 7], ""),
     ];
-    let mut walk = ParamWalk::new(params);
-    for param in expected {
-        assert_eq!(rt; walk.next(), Some(param));
+    for (bytes, wanted) in rows {
+        let text = walks(rt.alloc(), bytes)?;
+        assert_eq!(rt; text.as_str(), wanted, "at {bytes:?}");
     }
-    assert_eq!(rt; walk.next(), None);
-    // One of an unknown type is skipped.
-    let Ok(PduView::Agf(inner)) = view(&[
-        0x00, 0x80, 0, 5, 0x11, 0x20, 0x63, 1, 7, 0, 3, 0x13, 0x60, 0x02,
-    ]) else {
-        return Err(Fail::new("another PDU"));
-    };
-    let mut walk = InnerWalk::new(inner);
-    let (dsap, ssap) = (4, 32);
-    assert_eq!(rt;
-        walk.next(),
-        Some(PduView::Connect {
-            dsap,
-            ssap,
-            params: &[0x63, 1, 7]
-        })
-    );
-    assert_eq!(rt; walk.next(), Some(PduView::Rr { dsap, ssap, nr: 2 }));
-    assert_eq!(rt; walk.next(), None);
-    assert_eq!(rt; ParamWalk::new(&[0x63, 1, 7]).next(), None);
     Ok(())
 }
 
@@ -265,19 +226,18 @@ fn a_connect_is_heard_whole(rt: HostRuntime) -> Result<(), Fail> {
     Ok(())
 }
 
+/// What a view tells of a payload, with ample memory.
+fn told_in_place(alloc: Global, bytes: &[u8]) -> Result<Result<Pdu, PduFault>, AllocError> {
+    match view(bytes) {
+        Ok(seen) => Ok(Ok(Pdu::from_view(alloc, seen)?)),
+        Err(PduRefusal { place, kind }) => Ok(Err(PduFault::Refused { place, kind })),
+    }
+}
+
 /// The same answer in place and, with ample memory, copied.
 fn reads_alike(rt: &impl Abort, alloc: Global, bytes: &[u8]) -> Result<(), Fail> {
-    let read = Pdu::read_from(alloc, bytes);
-    match view(bytes) {
-        Ok(seen) => assert_eq!(rt; read, Ok(Pdu::from_view(alloc, seen)?), "at {bytes:?}"),
-        Err(PduRefusal { place, kind }) => {
-            assert_eq!(rt;
-                read,
-                Err(PduFault::Refused { place, kind }),
-                "at {bytes:?}"
-            );
-        }
-    }
+    let told = told_in_place(alloc, bytes)?;
+    assert_eq!(rt; Pdu::read_from(alloc, bytes), told, "at {bytes:?}");
     Ok(())
 }
 

@@ -12,6 +12,8 @@ mod card_tests;
 mod counting;
 #[cfg(test)]
 mod crowd_tests;
+#[cfg(test)]
+mod inbox_tests;
 mod lines;
 #[cfg(test)]
 mod make_tests;
@@ -22,6 +24,8 @@ mod peer_tests;
 pub mod program;
 #[cfg(test)]
 mod report_tests;
+#[cfg(test)]
+mod runs;
 #[cfg(test)]
 mod store_tests;
 #[cfg(test)]

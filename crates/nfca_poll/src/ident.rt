@@ -89,25 +89,28 @@ impl Ident {
 #[cfg(test)]
 mod tests {
     use super::*;
+    use std::process::Abort;
+
+    const BYTES: [u8; 11] = [4, 2, 3, 0x88, 5, 6, 0x88, 8, 9, 10, 11];
+
+    /// 0 where these bytes are an identifier, which has them then, as its copy does; or the number of their fault.
+    fn told(rt: &impl Abort, bytes: &[u8]) -> u8 {
+        match Ident::new(bytes) {
+            Ok(id) => {
+                assert_eq!(rt; id.copy().view(), bytes);
+                0
+            }
+            Err(fault) => fault.number(),
+        }
+    }
 
     #[test]
     fn identifiers(rt: HostRuntime) {
-        let bytes = [4, 2, 3, 0x88, 5, 6, 0x88, 8, 9, 10, 11];
-        for size in 0..12usize {
-            let fault = match Ident::new(&bytes[..size.min(11)]) {
-                Ok(id) => {
-                    assert_eq!(rt; id.copy().view(), &bytes[..size]);
-                    0
-                }
-                Err(fault) => fault.number(),
-            };
-            let wanted = match size {
-                4 | 10 => 0,
-                7 => 2,
-                _ => 1,
-            };
-            assert_eq!(rt; fault, wanted, "of {size} bytes");
+        let faults = [1, 1, 1, 1, 0, 1, 1, 2, 1, 1, 0, 1];
+        for (size, wanted) in faults.iter().enumerate() {
+            let fault = told(&rt, &BYTES[..size.min(11)]);
+            assert_eq!(rt; fault, *wanted, "of {size} bytes");
         }
-        assert_eq!(rt; Ident::new(&bytes[3..7]), Err(IdentFault::BadCascade));
+        assert_eq!(rt; Ident::new(&BYTES[3..7]), Err(IdentFault::BadCascade));
     }
 }

@@ -111,68 +111,75 @@ fn front_of(id: &[u8]) -> Result<Front<Card>, Fail> {
 /// A frame and its tail, and the answer and its tail; no answer where it has no bytes.
 type Row<'a> = (&'a [u8], u8, &'a [u8], u8);
 
-fn walk<R: Abort>(
-    rt: &R,
-    alloc: Global,
-    front: &mut Front<Card>,
-    rows: &[Row],
-) -> Result<(), Fail> {
+/// Whether a frame of NFC-A has these bytes and this tail.
+fn is_frame(frame: &Frame, bytes: &[u8], tail: u8) -> bool {
+    frame.tech() == Tech::A && frame.view() == bytes && frame.tail() == tail
+}
+
+/// Whether an answer has these bytes and this tail; where it has no bytes, whether there is none.
+fn is_answer(told: &Option<Frame>, bytes: &[u8], tail: u8) -> bool {
+    match told {
+        Some(frame) => !bytes.is_empty() && is_frame(frame, bytes, tail),
+        None => bytes.is_empty(),
+    }
+}
+
+fn walk(rt: &impl Abort, alloc: Global, front: &mut Front<Card>, rows: &[Row]) -> Result<(), Fail> {
     for (request, tail, answer, answer_tail) in rows {
-        let wanted = if answer.is_empty() {
-            None
-        } else {
-            Some(Frame::part(Tech::A, answer, *answer_tail)?)
-        };
         let frame = Frame::part(Tech::A, request, *tail)?;
-        assert_eq!(rt;
-            front.hear(alloc, &frame, &mut Mute),
-            Ok(wanted),
-            "at {request:?}"
+        let told = front.hear(alloc, &frame, &mut Mute)?;
+        assert!(rt;
+            is_answer(&told, answer, *answer_tail),
+            "at {request:?}: {told:?}"
         );
     }
     Ok(())
 }
 
-#[test]
-fn activation_of_seven_bytes(rt: HostRuntime) -> Result<(), Fail> {
-    let id = [0x04, 0x62, 0x26, 0x11, 0x80, 0x1D, 0x80];
-    let mut front = front_of(&id)?;
-    assert!(rt; front.tech() == Tech::A);
-    assert!(rt; front.id().view() == id.as_slice());
-    front.light();
-    let first = [0x93, 0x70, 0x88, 0x04, 0x62, 0x26, 0xC8];
-    let second = [0x95, 0x70, 0x11, 0x80, 0x1D, 0x80, 0x0C];
-    walk(
-        &rt,
-        rt.alloc(),
-        &mut front,
-        &[
-            (&[0x26], 7, &[0x44, 0x00], 0),
-            (&[0x93, 0x20], 0, &[0x88, 0x04, 0x62, 0x26, 0xC8], 0),
-            (&first, 0, &[0x04], 0),
-            (&[0x95, 0x20], 0, &[0x11, 0x80, 0x1D, 0x80, 0x0C], 0),
-            (&[0x95, 0x31, 0x11, 0x00], 1, &[0xC0, 0x0E, 0x40, 0x06], 7),
-            (&second, 0, &[0x20], 0),
-            (&[0xE0, 0x80], 0, &[0xAA], 0),
-            (&[0x50, 0x00], 0, &[], 0),
-            (&[0x26], 7, &[], 0),
-            (&[0x30, 0x00], 0, &[0xAA], 0),
-            (&[0x26], 7, &[], 0),
-            (&[0x52], 7, &[0x44, 0x00], 0),
-            (&first, 0, &[0x04], 0),
-            (&[0x93, 0x20], 0, &[], 0),
-            (&[0x26], 7, &[], 0),
-            (&[0x52], 7, &[0x44, 0x00], 0),
-            (&first, 0, &[0x04], 0),
-            (&second, 0, &[0x20], 0),
-            (&[0x50, 0x00], 0, &[], 0),
-            (&[0x26], 7, &[], 0),
-        ],
-    )?;
+const SEVEN: [u8; 7] = [0x04, 0x62, 0x26, 0x11, 0x80, 0x1D, 0x80];
+
+/// What a front of these seven bytes answers, and that its card falls asleep.
+const ACTIVATION: [Row; 20] = [
+    (&[0x26], 7, &[0x44, 0x00], 0),
+    (&[0x93, 0x20], 0, &[0x88, 0x04, 0x62, 0x26, 0xC8], 0),
+    (&[0x93, 0x70, 0x88, 0x04, 0x62, 0x26, 0xC8], 0, &[0x04], 0),
+    (&[0x95, 0x20], 0, &[0x11, 0x80, 0x1D, 0x80, 0x0C], 0),
+    (&[0x95, 0x31, 0x11, 0x00], 1, &[0xC0, 0x0E, 0x40, 0x06], 7),
+    (&[0x95, 0x70, 0x11, 0x80, 0x1D, 0x80, 0x0C], 0, &[0x20], 0),
+    (&[0xE0, 0x80], 0, &[0xAA], 0),
+    (&[0x50, 0x00], 0, &[], 0),
+    (&[0x26], 7, &[], 0),
+    (&[0x30, 0x00], 0, &[0xAA], 0),
+    (&[0x26], 7, &[], 0),
+    (&[0x52], 7, &[0x44, 0x00], 0),
+    (&[0x93, 0x70, 0x88, 0x04, 0x62, 0x26, 0xC8], 0, &[0x04], 0),
+    (&[0x93, 0x20], 0, &[], 0),
+    (&[0x26], 7, &[], 0),
+    (&[0x52], 7, &[0x44, 0x00], 0),
+    (&[0x93, 0x70, 0x88, 0x04, 0x62, 0x26, 0xC8], 0, &[0x04], 0),
+    (&[0x95, 0x70, 0x11, 0x80, 0x1D, 0x80, 0x0C], 0, &[0x20], 0),
+    (&[0x50, 0x00], 0, &[], 0),
+    (&[0x26], 7, &[], 0),
+];
+
+/// A front in the dark answers nothing, though its card's link took frames.
+fn is_dark(rt: &impl Abort, alloc: Global, front: &mut Front<Card>) -> Result<(), Fail> {
     assert!(rt; !front.as_upper().linked);
     front.upper().linked = true;
     front.dark();
-    walk(&rt, rt.alloc(), &mut front, &[(&[0x52], 7, &[], 0)])
+    walk(rt, alloc, front, &[(&[0x52], 7, &[], 0)])
+}
+
+#[test]
+fn activation_of_seven_bytes(rt: HostRuntime) -> Result<(), Fail> {
+    let mut front = front_of(&SEVEN)?;
+    assert_eq!(rt;
+        (front.tech(), front.id().view()),
+        (Tech::A, SEVEN.as_slice())
+    );
+    front.light();
+    walk(&rt, rt.alloc(), &mut front, &ACTIVATION)?;
+    is_dark(&rt, rt.alloc(), &mut front)
 }
 
 /// What an event is: a reset, a request, an answer or a clash, with its bytes and its tail.
@@ -194,42 +201,68 @@ fn is_line(event: &Event, line: &Line) -> bool {
     }
 }
 
-fn are_lines<R: Abort>(rt: &R, events: &[Event], lines: &[Line]) {
+fn are_lines(rt: &impl Abort, events: &[Event], lines: &[Line]) {
     assert_eq!(rt; events.len(), lines.len());
     begin_with(rt, events, lines);
 }
 
-fn begin_with<R: Abort>(rt: &R, events: &[Event], lines: &[Line]) {
-    assert!(rt; lines.len() <= events.len());
-    for (event, line) in events.iter().zip(lines) {
-        assert!(rt; is_line(event, line), "at {event:?}");
+fn is_line_at(events: &[Event], at: usize, line: &Line) -> bool {
+    match events.get(at) {
+        Some(event) => is_line(event, line),
+        None => false,
     }
+}
+
+/// Each of these lines is the event at its place; where there is no event, it isn't.
+fn begin_with(rt: &impl Abort, events: &[Event], lines: &[Line]) {
+    for (at, line) in lines.iter().enumerate() {
+        assert!(rt;
+            is_line_at(events, at, line),
+            "at {at}: {:?}",
+            events.get(at)
+        );
+    }
+}
+
+/// Fronts with these identifiers come into a field, and these fates.
+fn fill(field: &mut Field<Front<Card>>, ids: &[&[u8]], fates: &[Fate]) -> Result<(), Fail> {
+    for id in ids {
+        field.put_in(front_of(id)?)?;
+    }
+    Ok(field.add_fates(fates)?)
 }
 
 /// A lit field of fronts with these identifiers, and these fates to come.
 fn field_of(alloc: Global, ids: &[&[u8]], fates: &[Fate]) -> Result<Field<Front<Card>>, Fail> {
     let mut field = Field::new(alloc);
-    for id in ids {
-        field.put_in(front_of(id)?)?;
-    }
-    field.add_fates(fates)?;
+    fill(&mut field, ids, fates)?;
     field.reset()?;
     Ok(field)
 }
 
-#[test]
-fn bit_by_bit(rt: HostRuntime) -> Result<(), Fail> {
-    let ids: [&[u8]; 3] = [
-        &[1, 2, 3, 4],
-        &[3, 2, 3, 4],
-        &[0x04, 0x11, 0x22, 0x33, 0x44, 0x55, 0x66],
-    ];
-    let mut field = field_of(rt.alloc(), &ids, &[])?;
+/// A resolution selects the device with this identifier.
+fn resolves(rt: &impl Abort, field: &mut Field<Front<Card>>, id: &[u8]) -> Result<(), Fail> {
     let picked = Picked {
-        id: Ident::new(ids[1])?,
+        id: Ident::new(id)?,
         kind: Kind::T4,
     };
-    assert_eq!(rt; resolve(&mut field), Ok(picked));
+    assert_eq!(rt; resolve(field), Ok(picked));
+    Ok(())
+}
+
+/// Two of four bytes, that differ in their second bit, and one of seven.
+const THREE: [&[u8]; 3] = [
+    &[1, 2, 3, 4],
+    &[3, 2, 3, 4],
+    &[0x04, 0x11, 0x22, 0x33, 0x44, 0x55, 0x66],
+];
+
+const TWO: [&[u8]; 2] = [&[1, 2, 3, 4], &[3, 2, 3, 4]];
+
+#[test]
+fn bit_by_bit(rt: HostRuntime) -> Result<(), Fail> {
+    let mut field = field_of(rt.alloc(), &THREE, &[])?;
+    resolves(&rt, &mut field, THREE[1])?;
     are_lines(
         &rt,
         field.trace(),
@@ -252,57 +285,66 @@ fn bit_by_bit(rt: HostRuntime) -> Result<(), Fail> {
 
 #[test]
 fn picked_in_turn_where_no_reset_is_between(rt: HostRuntime) -> Result<(), Fail> {
-    let ids: [&[u8]; 2] = [&[1, 2, 3, 4], &[3, 2, 3, 4]];
-    let mut field = field_of(rt.alloc(), &ids, &[])?;
-    for id in [ids[1], ids[0], ids[1]] {
-        let picked = Picked {
-            id: Ident::new(id)?,
-            kind: Kind::T4,
-        };
-        assert_eq!(rt; resolve(&mut field), Ok(picked));
+    let mut field = field_of(rt.alloc(), &TWO, &[])?;
+    for at in [1, 0, 1] {
+        resolves(&rt, &mut field, TWO[at])?;
     }
     Ok(())
 }
 
+const TEN: [u8; 10] = [0x04, 0x62, 0x26, 0x11, 0x80, 0x1D, 0x80, 1, 2, 3];
+
+/// A resolution of its three levels.
+const THREE_LEVELS: [Line; 15] = [
+    ('!', &[], 0),
+    ('>', &[0x26], 7),
+    ('<', &[0x84, 0x00], 0),
+    ('>', &[0x93, 0x20], 0),
+    ('<', &[0x88, 0x04, 0x62, 0x26, 0xC8], 0),
+    ('>', &[0x93, 0x70, 0x88, 0x04, 0x62, 0x26, 0xC8], 0),
+    ('<', &[0x04], 0),
+    ('>', &[0x95, 0x20], 0),
+    ('<', &[0x88, 0x11, 0x80, 0x1D, 0x04], 0),
+    ('>', &[0x95, 0x70, 0x88, 0x11, 0x80, 0x1D, 0x04], 0),
+    ('<', &[0x04], 0),
+    ('>', &[0x97, 0x20], 0),
+    ('<', &[0x80, 0x01, 0x02, 0x03, 0x80], 0),
+    ('>', &[0x97, 0x70, 0x80, 0x01, 0x02, 0x03, 0x80], 0),
+    ('<', &[0x20], 0),
+];
+
 #[test]
 fn equal_levels_are_heard_as_one(rt: HostRuntime) -> Result<(), Fail> {
-    let id: &[u8] = &[0x04, 0x62, 0x26, 0x11, 0x80, 0x1D, 0x80, 1, 2, 3];
-    let mut field = field_of(rt.alloc(), &[id, id], &[])?;
-    let picked = Picked {
-        id: Ident::new(id)?,
-        kind: Kind::T4,
-    };
-    assert_eq!(rt; resolve(&mut field), Ok(picked));
-    are_lines(
-        &rt,
-        field.trace(),
-        &[
-            ('!', &[], 0),
-            ('>', &[0x26], 7),
-            ('<', &[0x84, 0x00], 0),
-            ('>', &[0x93, 0x20], 0),
-            ('<', &[0x88, 0x04, 0x62, 0x26, 0xC8], 0),
-            ('>', &[0x93, 0x70, 0x88, 0x04, 0x62, 0x26, 0xC8], 0),
-            ('<', &[0x04], 0),
-            ('>', &[0x95, 0x20], 0),
-            ('<', &[0x88, 0x11, 0x80, 0x1D, 0x04], 0),
-            ('>', &[0x95, 0x70, 0x88, 0x11, 0x80, 0x1D, 0x04], 0),
-            ('<', &[0x04], 0),
-            ('>', &[0x97, 0x20], 0),
-            ('<', &[0x80, 0x01, 0x02, 0x03, 0x80], 0),
-            ('>', &[0x97, 0x70, 0x80, 0x01, 0x02, 0x03, 0x80], 0),
-            ('<', &[0x20], 0),
-        ],
-    );
+    let mut field = field_of(rt.alloc(), &[&TEN, &TEN], &[])?;
+    resolves(&rt, &mut field, &TEN)?;
+    are_lines(&rt, field.trace(), &THREE_LEVELS);
     Ok(())
+}
+
+const P: Fate = Fate::Pass;
+
+const D: Fate = Fate::Damage;
+
+const L: Fate = Fate::Lose;
+
+const B: Fate = Fate::Break;
+
+/// What a resolution comes to by these fates.
+fn resolved(alloc: Global, fates: &[Fate]) -> Result<Result<Picked, PollFault>, Fail> {
+    let mut field = field_of(alloc, &[&[1, 2, 3, 4]], fates)?;
+    Ok(resolve(&mut field))
+}
+
+/// Each call tells that a field is dark.
+fn calls_tell_dark(rt: &impl Abort, field: &mut Field<Front<Card>>) {
+    assert_eq!(rt; resolve(field), Err(PollFault::FieldLost));
+    let told = (inventory_one(field), pick_v(field, [0; 8]));
+    let dark = (Err(PollFault::FieldLost), Err(PollFault::FieldLost));
+    assert_eq!(rt; told, dark);
 }
 
 #[test]
 fn faults(rt: HostRuntime) -> Result<(), Fail> {
-    const P: Fate = Fate::Pass;
-    const D: Fate = Fate::Damage;
-    const L: Fate = Fate::Lose;
-    const B: Fate = Fate::Break;
     let rows: [(&[Fate], PollFault); 6] = [
         (&[L, L, D, L], PollFault::Nobody),
         (&[P, L, L, L, L], PollFault::Nobody),
@@ -312,13 +354,10 @@ fn faults(rt: HostRuntime) -> Result<(), Fail> {
         (&[P, P, P, B], PollFault::FieldLost),
     ];
     for (fates, fault) in rows {
-        let mut field = field_of(rt.alloc(), &[&[1, 2, 3, 4]], fates)?;
-        assert_eq!(rt; resolve(&mut field), Err(fault), "at {fates:?}");
+        let told = resolved(rt.alloc(), fates)?;
+        assert_eq!(rt; told.err(), Some(fault), "at {fates:?}");
     }
-    let mut dark: Field<Front<Card>> = Field::new(rt.alloc());
-    assert_eq!(rt; resolve(&mut dark), Err(PollFault::FieldLost));
-    assert_eq!(rt; inventory_one(&mut dark), Err(PollFault::FieldLost));
-    assert_eq!(rt; pick_v(&mut dark, [0; 8]), Err(PollFault::FieldLost));
+    calls_tell_dark(&rt, &mut Field::new(rt.alloc()));
     assert_eq!(rt; PollFault::BadAnswer.number(), 6);
     Ok(())
 }
@@ -334,62 +373,111 @@ fn count_of(events: &[Event], line: &Line) -> usize {
     count
 }
 
-#[test]
-fn crowd_in_order(rt: HostRuntime) -> Result<(), Fail> {
-    let ids: [&[u8]; 4] = [
-        &[3, 2, 3, 4],
-        &[1, 2, 3, 4],
-        &[0x05, 1, 2, 3, 4, 5, 6, 7, 8, 9],
-        &[0x04, 0x11, 0x22, 0x33, 0x44, 0x55, 0x66],
-    ];
-    let placed = [ids[1], ids[3], ids[0], ids[2]];
-    let mut field = field_of(rt.alloc(), &placed, &[])?;
-    let found = find_all(rt.alloc(), &mut field)?;
-    assert_eq!(rt; found.len(), ids.len());
-    for (device, id) in found.iter().zip(ids) {
-        assert!(rt; device.id.view() == id, "at {device:?}");
-        assert!(rt; device.kind == Kind::T4, "at {device:?}");
+/// Four devices in the order in which they are found.
+const CROWD: [&[u8]; 4] = [
+    &[3, 2, 3, 4],
+    &[1, 2, 3, 4],
+    &[0x05, 1, 2, 3, 4, 5, 6, 7, 8, 9],
+    &[0x04, 0x11, 0x22, 0x33, 0x44, 0x55, 0x66],
+];
+
+/// The same in the order in which they come into the field.
+const PLACED: [&[u8]; 4] = [
+    &[1, 2, 3, 4],
+    &[0x04, 0x11, 0x22, 0x33, 0x44, 0x55, 0x66],
+    &[3, 2, 3, 4],
+    &[0x05, 1, 2, 3, 4, 5, 6, 7, 8, 9],
+];
+
+fn is_found(found: &[Picked], at: usize, id: &[u8]) -> bool {
+    match found.get(at) {
+        Some(device) => device.id.view() == id && device.kind == Kind::T4,
+        None => false,
     }
-    // after each call the device is active alone, so it alone answers RATS, and the frame by which it falls asleep
-    let rats = Frame::whole(Tech::A, &[0xE0, 0x80])?;
-    let last = Frame::whole(Tech::A, &[0x30, 0x00])?;
-    let answer = Frame::whole(Tech::A, &[0xAA])?;
-    for id in ids {
-        let id = Ident::new(id)?;
-        assert_eq!(rt;
-            pick(rt.alloc(), &mut field, &id),
-            Ok(Kind::T4),
-            "at {id:?}"
-        );
-        for request in [&rats, &last] {
-            assert_eq!(rt;
-                field.transmit(request, &mut Mute),
-                Ok(Heard::Whole(answer.copy()))
-            );
-        }
+}
+
+fn are_crowd(rt: &impl Abort, found: &[Picked]) {
+    assert_eq!(rt; found.len(), CROWD.len());
+    for (at, id) in CROWD.iter().enumerate() {
+        assert!(rt; is_found(found, at, id), "at {at}: {found:?}");
+    }
+}
+
+fn finds_crowd(rt: &impl Abort, alloc: Global, field: &mut Field<Front<Card>>) -> Result<(), Fail> {
+    are_crowd(rt, &find_all(alloc, field)?);
+    Ok(())
+}
+
+/// What is heard behind this frame.
+fn heard(field: &mut Field<Front<Card>>, bytes: &[u8], tail: u8) -> Result<Heard, Fail> {
+    let frame = Frame::part(Tech::A, bytes, tail)?;
+    Ok(field.transmit(&frame, &mut Mute)?)
+}
+
+/// One card alone answers this frame.
+fn one_answers(rt: &impl Abort, field: &mut Field<Front<Card>>, bytes: &[u8]) -> Result<(), Fail> {
+    match heard(field, bytes, 0)? {
+        Heard::Whole(frame) => assert!(rt; is_frame(&frame, &[0xAA], 0), "{frame:?}"),
+        _ => return Err(Fail::new("not one answer")),
+    }
+    Ok(())
+}
+
+/// What comes of it where the device with this identifier is picked.
+fn picks(
+    alloc: Global,
+    field: &mut Field<Front<Card>>,
+    id: &[u8],
+) -> Result<Result<Kind, PollFault>, Fail> {
+    let id = Ident::new(id)?;
+    Ok(pick(alloc, field, &id))
+}
+
+/// After the call the device is active alone, so it alone answers RATS, and the frame by which it falls asleep.
+fn is_active_alone(
+    rt: &impl Abort,
+    alloc: Global,
+    field: &mut Field<Front<Card>>,
+    id: &[u8],
+) -> Result<(), Fail> {
+    assert_eq!(rt; picks(alloc, field, id)?, Ok(Kind::T4), "at {id:?}");
+    one_answers(rt, field, &[0xE0, 0x80])?;
+    one_answers(rt, field, &[0x30, 0x00])
+}
+
+/// Each device of the crowd is picked in turn, and then nobody is awake.
+fn picks_crowd(rt: &impl Abort, alloc: Global, field: &mut Field<Front<Card>>) -> Result<(), Fail> {
+    for id in CROWD.iter() {
+        is_active_alone(rt, alloc, field, id)?;
     }
     // the last one of the crowd was found behind all others, which sleep
-    let sens_req = Frame::part(Tech::A, &[0x26], 7)?;
-    assert_eq!(rt; field.transmit(&sens_req, &mut Mute), Ok(Heard::Silent));
-    let absent = Ident::new(&[9, 9, 9, 9])?;
-    assert_eq!(rt;
-        pick(rt.alloc(), &mut field, &absent),
-        Err(PollFault::NotFound)
-    );
+    assert_eq!(rt; heard(field, &[0x26], 7)?, Heard::Silent);
+    Ok(())
+}
+
+fn finds_no_other(
+    rt: &impl Abort,
+    alloc: Global,
+    field: &mut Field<Front<Card>>,
+) -> Result<(), Fail> {
+    let absent = picks(alloc, field, &[9, 9, 9, 9])?;
+    assert_eq!(rt; absent, Err(PollFault::NotFound));
     Ok(())
 }
 
 #[test]
+fn crowd_in_order(rt: HostRuntime) -> Result<(), Fail> {
+    let alloc = rt.alloc();
+    let mut field = field_of(alloc, &PLACED, &[])?;
+    finds_crowd(&rt, alloc, &mut field)?;
+    picks_crowd(&rt, alloc, &mut field)?;
+    finds_no_other(&rt, alloc, &mut field)
+}
+
+#[test]
 fn first_round_of_three(rt: HostRuntime) -> Result<(), Fail> {
-    let ids: [&[u8]; 3] = [
-        &[1, 2, 3, 4],
-        &[3, 2, 3, 4],
-        &[0x04, 0x11, 0x22, 0x33, 0x44, 0x55, 0x66],
-    ];
     let mut field = Field::new(rt.alloc());
-    for id in ids {
-        field.put_in(front_of(id)?)?;
-    }
+    fill(&mut field, &THREE, &[])?;
     let found = find_all(rt.alloc(), &mut field)?;
     assert_eq!(rt; found.len(), 3);
     begin_with(
@@ -413,85 +501,63 @@ fn first_round_of_three(rt: HostRuntime) -> Result<(), Fail> {
     Ok(())
 }
 
+/// What is found of two devices by these fates: how many, in how many rounds, with how many SLP_REQ.
+type Rounds = (Result<usize, PollFault>, usize, usize);
+
+/// How many devices are found.
+fn count_found(alloc: Global, field: &mut Field<Front<Card>>) -> Result<usize, PollFault> {
+    let devices = find_all(alloc, field)?;
+    Ok(devices.len())
+}
+
+fn rounds(alloc: Global, fates: &[Fate]) -> Result<Rounds, Fail> {
+    let mut field = field_of(alloc, &TWO, fates)?;
+    let _ = field.take_trace();
+    let found = count_found(alloc, &mut field);
+    let trace = field.trace();
+    let resets = count_of(trace, &('!', &[], 0));
+    Ok((found, resets, count_of(trace, &('>', &[0x50, 0x00], 0))))
+}
+
+/// What comes of the first of two devices by these fates, where it is picked.
+fn first_picked(alloc: Global, fates: &[Fate]) -> Result<Result<Kind, PollFault>, Fail> {
+    picks(alloc, &mut field_of(alloc, &TWO, fates)?, TWO[0])
+}
+
+/// What two devices come to by these fates: what is found of them, and what comes of the first one.
+type Noisy = (Rounds, Result<Kind, PollFault>);
+
+fn noisy(alloc: Global, fates: &[Fate]) -> Result<Noisy, Fail> {
+    Ok((rounds(alloc, fates)?, first_picked(alloc, fates)?))
+}
+
+const LOST: PollFault = PollFault::FieldLost;
+
+const NOISE: PollFault = PollFault::Disturbed;
+
 #[test]
 fn rounds_under_noise(rt: HostRuntime) -> Result<(), Fail> {
-    const P: Fate = Fate::Pass;
-    const D: Fate = Fate::Damage;
-    const L: Fate = Fate::Lose;
-    const B: Fate = Fate::Break;
-    let ids: [&[u8]; 2] = [&[1, 2, 3, 4], &[3, 2, 3, 4]];
-    let wanted = Ident::new(ids[0])?;
-    // the fates; how many devices are found, in how many rounds, with how many SLP_REQ; and what comes of the second device
-    let rows: [(
-        &[Fate],
-        Result<usize, PollFault>,
-        usize,
-        usize,
-        Result<Kind, PollFault>,
-    ); 9] = [
-        (&[], Ok(2), 1, 2, Ok(Kind::T4)),
-        (&[P, P, P, P, P, P, P, P, L], Ok(2), 2, 4, Ok(Kind::T4)),
-        (&[P, P, P, P, P, D], Ok(2), 2, 2, Ok(Kind::T4)),
+    let rows: [(&[Fate], Rounds, Result<Kind, PollFault>); 9] = [
+        (&[], (Ok(2), 1, 2), Ok(Kind::T4)),
+        (&[P, P, P, P, P, P, P, P, L], (Ok(2), 2, 4), Ok(Kind::T4)),
+        (&[P, P, P, P, P, D], (Ok(2), 2, 2), Ok(Kind::T4)),
         (
             &[P, P, P, D, P, P, P, D, P, P, P, D, P, P, P, D],
-            Err(PollFault::Disturbed),
-            4,
-            0,
-            Err(PollFault::Disturbed),
+            (Err(NOISE), 4, 0),
+            Err(NOISE),
         ),
         (
             &[P, P, P, D, P, P, P, D, P, P, P, D],
-            Ok(2),
-            4,
-            2,
+            (Ok(2), 4, 2),
             Ok(Kind::T4),
         ),
-        (&[L, L, L, L], Ok(0), 1, 0, Err(PollFault::NotFound)),
-        (
-            &[P, P, P, B],
-            Err(PollFault::FieldLost),
-            1,
-            0,
-            Err(PollFault::FieldLost),
-        ),
-        (
-            &[P, P, P, P, P, P, P, P, B],
-            Err(PollFault::FieldLost),
-            1,
-            1,
-            Err(PollFault::FieldLost),
-        ),
-        (
-            &[P, P, P, D, L, B],
-            Err(PollFault::FieldLost),
-            2,
-            0,
-            Err(PollFault::FieldLost),
-        ),
+        (&[L, L, L, L], (Ok(0), 1, 0), Err(PollFault::NotFound)),
+        (&[P, P, P, B], (Err(LOST), 1, 0), Err(LOST)),
+        (&[P, P, P, P, P, P, P, P, B], (Err(LOST), 1, 1), Err(LOST)),
+        (&[P, P, P, D, L, B], (Err(LOST), 2, 0), Err(LOST)),
     ];
-    for (fates, found, rounds, sleeps, picked) in rows {
-        let mut field = field_of(rt.alloc(), &ids, fates)?;
-        let _ = field.take_trace();
-        match find_all(rt.alloc(), &mut field) {
-            Ok(devices) => assert_eq!(rt; Ok(devices.len()), found, "at {fates:?}"),
-            Err(fault) => assert_eq!(rt; Err(fault), found, "at {fates:?}"),
-        }
-        assert_eq!(rt;
-            count_of(field.trace(), &('!', &[], 0)),
-            rounds,
-            "at {fates:?}"
-        );
-        assert_eq!(rt;
-            count_of(field.trace(), &('>', &[0x50, 0x00], 0)),
-            sleeps,
-            "at {fates:?}"
-        );
-        let mut field = field_of(rt.alloc(), &ids, fates)?;
-        assert_eq!(rt;
-            pick(rt.alloc(), &mut field, &wanted),
-            picked,
-            "at {fates:?}"
-        );
+    for (fates, found, picked) in rows {
+        assert_eq!(rt; noisy(rt.alloc(), fates)?, (found, picked), "at {fates:?}");
     }
     Ok(())
 }
@@ -564,18 +630,22 @@ fn pad_field(alloc: Global) -> Result<Option<Field<Front<Pad>>>, Fail>
     Ok(Some(field))
 }
 
-#[test]
-fn plain_link_to_a_front(rt: HostRuntime) -> Result<(), Fail> {
+/// The tag is asked over a link, and answers.
+fn answers_read(rt: &impl Abort, alloc: Global, field: &mut Field<Front<Pad>>) -> Result<(), Fail>
+    requires { HasPlainTag ⟦<Front<Pad> as Listener>⟧ field.old 0 }
+{
     let read = Frame::whole(Tech::A, &[0x30, 0])?;
     let answer = Frame::whole(Tech::A, &[0xAA])?;
-    match pad_field(rt.alloc())? {
-        Some(mut field) => {
-            let mut link = PlainLink::on(&mut field, 0);
-            assert_eq!(rt; link.ask(rt.alloc(), &read), Ok(answer));
-        }
-        None => assert!(rt; false),
-    }
+    assert_eq!(rt; PlainLink::on(field, 0).ask(alloc, &read), Ok(answer));
     Ok(())
+}
+
+#[test]
+fn plain_link_to_a_front(rt: HostRuntime) -> Result<(), Fail> {
+    match pad_field(rt.alloc())? {
+        Some(mut field) => answers_read(&rt, rt.alloc(), &mut field),
+        None => Err(Fail::new("not selected")),
+    }
 }
 
 /// An NFC-V device that answers each inventory, maybe too short.
@@ -682,42 +752,33 @@ fn vicinities(alloc: Global, lows: &[u8], fates: &[Fate]) -> Result<Field<Vicini
     Ok(field)
 }
 
+const PRESENT: [u8; 8] = [0xE0, 4, 1, 2, 3, 4, 5, 6];
+
+/// What an inventory finds, and what comes of it where the first identifier is picked.
+type Inventory = (Result<Vcrowd, PollFault>, Result<(), PollFault>);
+
+fn inventory(alloc: Global, lows: &[u8], fates: &[Fate]) -> Result<Inventory, Fail> {
+    let found = inventory_one(&mut vicinities(alloc, lows, fates)?);
+    Ok((found, pick_v(&mut vicinities(alloc, lows, fates)?, PRESENT)))
+}
+
 #[test]
 fn inventories(rt: HostRuntime) -> Result<(), Fail> {
-    const P: Fate = Fate::Pass;
-    const D: Fate = Fate::Damage;
-    const L: Fate = Fate::Lose;
-    let id = [0xE0, 4, 1, 2, 3, 4, 5, 6];
-    // the devices, the fates; what an inventory finds, and whether the first identifier is picked
-    let rows: [(
-        &[u8],
-        &[Fate],
-        Result<Vcrowd, PollFault>,
-        Result<(), PollFault>,
-    ); 7] = [
-        (&[6], &[], Ok(Vcrowd::One(id)), Ok(())),
-        (&[6, 7], &[], Ok(Vcrowd::Crowd), Ok(())),
-        (&[], &[], Ok(Vcrowd::Nobody), Err(PollFault::NotFound)),
-        (
-            &[0],
-            &[],
-            Err(PollFault::BadAnswer),
-            Err(PollFault::BadAnswer),
-        ),
-        (&[6], &[L, L, P, L], Ok(Vcrowd::One(id)), Ok(())),
-        (&[6], &[L, L, L, P, D], Err(PollFault::Disturbed), Ok(())),
-        (
-            &[6],
-            &[L, L, L, L],
-            Ok(Vcrowd::Nobody),
-            Err(PollFault::NotFound),
-        ),
+    const BAD: PollFault = PollFault::BadAnswer;
+    const NOT_FOUND: PollFault = PollFault::NotFound;
+    // the devices, the fates, and the inventory
+    let rows: [(&[u8], &[Fate], Inventory); 7] = [
+        (&[6], &[], (Ok(Vcrowd::One(PRESENT)), Ok(()))),
+        (&[6, 7], &[], (Ok(Vcrowd::Crowd), Ok(()))),
+        (&[], &[], (Ok(Vcrowd::Nobody), Err(NOT_FOUND))),
+        (&[0], &[], (Err(BAD), Err(BAD))),
+        (&[6], &[L, L, P, L], (Ok(Vcrowd::One(PRESENT)), Ok(()))),
+        (&[6], &[L, L, L, P, D], (Err(NOISE), Ok(()))),
+        (&[6], &[L, L, L, L], (Ok(Vcrowd::Nobody), Err(NOT_FOUND))),
     ];
-    for (lows, fates, found, picked) in rows {
-        let mut field = vicinities(rt.alloc(), lows, fates)?;
-        assert_eq!(rt; inventory_one(&mut field), found, "at {fates:?}");
-        let mut field = vicinities(rt.alloc(), lows, fates)?;
-        assert_eq!(rt; pick_v(&mut field, id), picked, "at {fates:?}");
+    for (lows, fates, wanted) in rows {
+        let told = inventory(rt.alloc(), lows, fates)?;
+        assert_eq!(rt; told, wanted, "at {lows:?}, {fates:?}");
     }
     Ok(())
 }

@@ -8,7 +8,8 @@ use arrayvec::ArrayVec;
 use llcp_link::{Counts, Llc};
 use llcp_pdu::LinkParams;
 use nfc_base::{Answerer, Carrier, EndCause, Items, LinkEnd, Mute};
-use std::alloc::Global;
+use std::alloc::{AllocError, Global};
+use std::fmt::Write;
 use std::process::Abort;
 use std::test::Fail;
 
@@ -179,89 +180,235 @@ pub(crate) fn client(alloc: Global) -> Client {
     Client::new(alloc, llc)
 }
 
+/// One call of a client, or a look at what was handed over or accepted.
+#[derive(Clone, Copy)]
+pub(crate) enum Step {
+    Lookup(&'static str),
+    Connect,
+    Put(&'static [u8]),
+    /// A value of at most so many bytes is asked for by its key.
+    Get(u32, &'static [u8]),
+    Close,
+    /// The server gets a value under this key.
+    Offer(&'static [u8], &'static [u8]),
+    /// How many payloads were handed over.
+    Handed,
+    /// The payload that was handed over at this place.
+    Payload(usize),
+    /// How many messages the server accepted.
+    Accepted,
+    /// The message that it accepted at this place.
+    Message(usize),
+}
+
+fn is_all(bytes: &[u8], one: u8) -> bool {
+    for byte in bytes {
+        if *byte != one {
+            return false;
+        }
+    }
+    true
+}
+
+fn in_hex(alloc: Global, bytes: &[u8]) -> Result<String, Fail> {
+    let mut text = String::new(alloc);
+    for byte in bytes {
+        write!(text, "{byte:02X}")?;
+    }
+    Ok(text)
+}
+
+/// Bytes in hexadecimal, many equal ones as "300 of 09".
+fn written(alloc: Global, bytes: &[u8]) -> Result<String, Fail> {
+    match bytes {
+        [first, _, ..] if is_all(bytes, *first) => Ok(format!(in alloc;
+            "{} of {first:02X}",
+            bytes.len()
+        )?),
+        _ => in_hex(alloc, bytes),
+    }
+}
+
+fn written_at(alloc: Global, all: &[Items<u8>], place: usize) -> Result<String, Fail> {
+    match all.get(place) {
+        Some(one) => written(alloc, one.as_slice()),
+        None => Ok(format!(in alloc; "none")?),
+    }
+}
+
+fn looked_up(
+    rt: &impl Abort,
+    alloc: Global,
+    client: &mut Client,
+    link: &mut Straight,
+    far: &mut Llc<Server>,
+    name: &str,
+) -> Result<u8, SnepFault> {
+    assert!(rt; name.len() <= 64);
+    client.lookup(link, far, Counts::most(alloc), name)
+}
+
+fn put(
+    rt: &impl Abort,
+    alloc: Global,
+    client: &mut Client,
+    link: &mut Straight,
+    far: &mut Llc<Server>,
+    message: &[u8],
+) -> Result<(), SnepFault> {
+    assert!(rt; message.len() <= 65536);
+    client.put(link, far, Counts::most(alloc), message)
+}
+
+fn got(
+    rt: &impl Abort,
+    alloc: Global,
+    client: &mut Client,
+    link: &mut Straight,
+    far: &mut Llc<Server>,
+    most: u32,
+    key: &[u8],
+) -> Result<Vec<u8>, SnepFault> {
+    assert!(rt; key.len() <= 65536);
+    client.get(link, far, Counts::most(alloc), most, key)
+}
+
+/// A value, or why there is none.
+fn written_value(alloc: Global, got: Result<Vec<u8>, SnepFault>) -> Result<String, Fail> {
+    match got {
+        Ok(value) => written(alloc, &value),
+        Err(fault) => Ok(format!(in alloc; "{fault:?}")?),
+    }
+}
+
+fn offered(
+    rt: &impl Abort,
+    far: &mut Llc<Server>,
+    key: &[u8],
+    value: &[u8],
+) -> Result<(), AllocError> {
+    assert!(rt; value.len() <= 65536);
+    far.service().offer(key, value)
+}
+
+fn done(alloc: Global, told: Result<(), SnepFault>) -> Result<String, Fail> {
+    Ok(format!(in alloc; "{told:?}")?)
+}
+
+/// What the step comes to.
+fn told(
+    rt: &impl Abort,
+    alloc: Global,
+    client: &mut Client,
+    link: &mut Straight,
+    far: &mut Llc<Server>,
+    step: Step,
+) -> Result<String, Fail> {
+    match step {
+        Step::Lookup(name) => {
+            let sap = looked_up(rt, alloc, client, link, far, name);
+            Ok(format!(in alloc; "{sap:?}")?)
+        }
+        Step::Connect => Ok(format!(in alloc; "{:?}", client.llc.connect(4))?),
+        Step::Put(message) => done(alloc, put(rt, alloc, client, link, far, message)),
+        Step::Get(most, key) => written_value(alloc, got(rt, alloc, client, link, far, most, key)),
+        Step::Close => done(alloc, client.close(link, far, Counts::most(alloc))),
+        Step::Offer(key, value) => Ok(format!(in alloc; "{:?}", offered(rt, far, key, value))?),
+        Step::Handed => Ok(format!(in alloc; "{}", link.handed.len())?),
+        Step::Payload(place) => written_at(alloc, link.handed.as_slice(), place),
+        Step::Accepted => Ok(format!(in alloc; "{}", far.as_service().accepted().len())?),
+        Step::Message(place) => written_at(alloc, far.as_service().accepted(), place),
+    }
+}
+
+/// The steps come to these texts, one after the other.
+pub(crate) fn follows(
+    rt: &impl Abort,
+    alloc: Global,
+    client: &mut Client,
+    far: &mut Llc<Server>,
+    rows: &[(Step, &str)],
+) -> Result<(), Fail> {
+    let mut link = Straight::new(alloc, None);
+    for (at, (step, wanted)) in rows.iter().enumerate() {
+        let text = told(rt, alloc, client, &mut link, far, *step)?;
+        assert_eq!(rt; text.as_str(), *wanted, "at row {at}");
+    }
+    Ok(())
+}
+
+/// The same of a new client and a new server.
+pub(crate) fn new_ends(rt: &impl Abort, alloc: Global, rows: &[(Step, &str)]) -> Result<(), Fail> {
+    follows(rt, alloc, &mut client(alloc), &mut peer(rt, alloc)?, rows)
+}
+
 #[test]
 fn names_are_looked_up(rt: HostRuntime) -> Result<(), Fail> {
-    let alloc = rt.alloc();
-    let mut link = Straight::new(alloc, None);
-    let mut far = peer(&rt, alloc)?;
-    let mut client = client(alloc);
-    assert_eq!(rt;
-        client.lookup(&mut link, &mut far, Counts::most(alloc), "urn:nfc:sn:snep"),
-        Ok(4)
-    );
-    assert_eq!(rt;
-        client.lookup(&mut link, &mut far, Counts::most(alloc), "urn:nfc:sn:none"),
-        Ok(0)
-    );
-    assert_eq!(rt;
-        client.lookup(&mut link, &mut far, Counts::most(alloc), "urn:nfc:sn:sdp"),
-        Ok(1)
-    );
-    assert_eq!(rt;
-        client.close(&mut link, &mut far, Counts::most(alloc)),
-        Ok(())
-    );
-    assert_eq!(rt; link.handed.len(), 3);
-    let first = link.handed.first().map(|p| p.as_slice());
-    assert_eq!(rt;
-        first,
-        Some(b"\x06\x41\x08\x10\x00urn:nfc:sn:snep".as_slice())
-    );
-    Ok(())
+    let rows = [
+        (Step::Lookup("urn:nfc:sn:snep"), "Ok(4)"),
+        (Step::Lookup("urn:nfc:sn:none"), "Ok(0)"),
+        (Step::Lookup("urn:nfc:sn:sdp"), "Ok(1)"),
+        (Step::Close, "Ok(())"),
+        (Step::Handed, "3"),
+        // an SNL with the number 0 and "urn:nfc:sn:snep"
+        (Step::Payload(0), "064108100075726E3A6E66633A736E3A736E6570"),
+    ];
+    new_ends(&rt, rt.alloc(), &rows)
 }
 
 #[test]
 fn an_open_connection_is_closed(rt: HostRuntime) -> Result<(), Fail> {
-    let alloc = rt.alloc();
-    let mut link = Straight::new(alloc, None);
-    let mut far = peer(&rt, alloc)?;
-    let mut client = client(alloc);
-    assert_eq!(rt; client.llc.connect(4), Ok(()));
-    assert_eq!(rt;
-        client.lookup(&mut link, &mut far, Counts::most(alloc), "urn:nfc:sn:snep"),
-        Ok(4)
-    );
-    assert_eq!(rt;
-        client.close(&mut link, &mut far, Counts::most(alloc)),
-        Ok(())
-    );
-    assert_eq!(rt;
-        client.close(&mut link, &mut far, Counts::most(alloc)),
-        Ok(())
-    );
-    let last = link.handed.last().map(|p| p.as_slice());
-    assert_eq!(rt; last, Some([0x11u8, 0x60].as_slice()));
-    assert_eq!(rt; link.handed.len(), 2);
-    Ok(())
+    let rows = [
+        (Step::Connect, "Ok(())"),
+        (Step::Lookup("urn:nfc:sn:snep"), "Ok(4)"),
+        (Step::Close, "Ok(())"),
+        (Step::Close, "Ok(())"),
+        (Step::Payload(1), "1160"),
+        (Step::Handed, "2"),
+    ];
+    new_ends(&rt, rt.alloc(), &rows)
 }
 
 #[test]
 fn sixteen_replies_that_give_nothing_are_enough(rt: HostRuntime) -> Result<(), Fail> {
     let alloc = rt.alloc();
     let mut link = Straight::new(alloc, None);
-    let mut client = client(alloc);
-    let told = client.lookup(&mut link, &mut Mute, Counts::most(alloc), "urn:nfc:sn:snep");
+    let told = client(alloc).lookup(&mut link, &mut Mute, Counts::most(alloc), "urn:nfc:sn:snep");
     assert_eq!(rt; told, Err(SnepFault::BadPeer));
     assert_eq!(rt; link.handed.len(), 16);
     Ok(())
 }
 
+/// What a lookup comes to over a link that is over by this cause.
+fn lookup_over(
+    alloc: Global,
+    client: &mut Client,
+    far: &mut Llc<Server>,
+    cause: EndCause,
+) -> Result<u8, SnepFault> {
+    let mut link = Straight::new(alloc, Some(cause));
+    client.lookup(&mut link, far, Counts::most(alloc), "urn:nfc:sn:snep")
+}
+
+/// The causes are told, and behind want of memory the client is spent.
+fn causes(
+    rt: &impl Abort,
+    alloc: Global,
+    client: &mut Client,
+    far: &mut Llc<Server>,
+) -> Result<(), Fail> {
+    let six_bad = Err(SnepFault::LinkEnded(EndCause::SixBad));
+    assert_eq!(rt; lookup_over(alloc, client, far, EndCause::SixBad), six_bad);
+    assert_eq!(rt;
+        lookup_over(alloc, client, far, EndCause::Memory),
+        Err(SnepFault::Memory)
+    );
+    follows(rt, alloc, client, far, &[(Step::Close, "Err(Memory)")])
+}
+
 #[test]
 fn a_link_that_is_over_is_told_by_its_cause(rt: HostRuntime) -> Result<(), Fail> {
     let alloc = rt.alloc();
-    let mut far = peer(&rt, alloc)?;
-    let mut client = client(alloc);
-    let mut lost = Straight::new(alloc, Some(EndCause::SixBad));
-    let told = client.lookup(&mut lost, &mut far, Counts::most(alloc), "urn:nfc:sn:snep");
-    assert_eq!(rt; told, Err(SnepFault::LinkEnded(EndCause::SixBad)));
-    let mut full = Straight::new(alloc, Some(EndCause::Memory));
-    let told = client.lookup(&mut full, &mut far, Counts::most(alloc), "urn:nfc:sn:snep");
-    assert_eq!(rt; told, Err(SnepFault::Memory));
-    let mut link = Straight::new(alloc, None);
-    assert_eq!(rt;
-        client.close(&mut link, &mut far, Counts::most(alloc)),
-        Err(SnepFault::Memory)
-    );
     assert_eq!(rt; SnepFault::BadPeer.number(), 7);
-    Ok(())
+    causes(&rt, alloc, &mut client(alloc), &mut peer(&rt, alloc)?)
 }

@@ -79,6 +79,11 @@ mod tests {
         Ok(())
     }
 
+    /// Neither an answer nor a command.
+    fn spells_nothing(frame: &Frame) -> bool {
+        T2Answer::read_from(frame).is_none() && T2Command::read_from(frame).is_none()
+    }
+
     #[test]
     fn other_frames_spell_nothing(rt: HostRuntime) -> Result<(), Fail> {
         let frames: [(Tech, &[u8], u8); 6] = [
@@ -91,8 +96,7 @@ mod tests {
         ];
         for (tech, bytes, tail) in frames {
             let frame = Frame::part(tech, bytes, tail)?;
-            assert_eq!(rt; T2Answer::read_from(&frame), None, "at {bytes:?} {tail}");
-            assert_eq!(rt; T2Command::read_from(&frame), None, "at {bytes:?} {tail}");
+            assert!(rt; spells_nothing(&frame), "at {bytes:?} {tail}");
         }
         Ok(())
     }

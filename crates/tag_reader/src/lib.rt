@@ -34,8 +34,3 @@ pub use how::How;
 pub use law::one_asked;
 pub use reader::read;
 pub use surveying::survey;
-
-#[cfg(test)]
-mod survey_tests;
-#[cfg(test)]
-mod tests;

@@ -24,12 +24,3 @@ pub use law::{one_outcome, one_place, one_write_asked};
 pub use phase::{Emptied, Filled, Opened, Phase, Prepared, Stopped};
 pub use preparing::prepare;
 pub use writer::write;
-
-#[cfg(test)]
-mod area_tests;
-#[cfg(test)]
-mod file_tests;
-#[cfg(test)]
-mod phase_tests;
-#[cfg(test)]
-mod tests;

@@ -6,33 +6,39 @@ ghost use Rattle.tlv_area.specs.Writing.{HasBlocks};
 
 use crate::tests::store;
 use crate::{Plan, Space, Step, Walk, capacity, find_message, plan};
+use std::process::Abort;
 use std::test::Fail;
 
-/// What a plan comes to: its steps, each the number of a block and what is written there; or the number of its fault and
-/// the capacity; or that the area holds no message.
-#[derive(Debug, Drop, PartialEq, Eq)]
+/// What planning comes to: a plan; or the number of its fault and the capacity; or that the area holds no message.
+#[derive(Drop)]
 enum Outcome {
-    Steps(Vec<(u16, Vec<u8>)>),
+    Made(Plan),
     Fault(u8, u32),
     NoMessage,
 }
 
-fn written(rt: &HostRuntime, step: &Step) -> Result<(u16, Vec<u8>), Fail> {
-    Ok((step.block, step.content.to_vec(rt.alloc())?))
+/// How many steps a plan has.
+fn count_steps(plan: &Plan) -> usize {
+    let ends = usize::from(plan.close.is_some()) + usize::from(plan.last.is_some());
+    plan.fill.as_slice().len().saturating_add(ends)
 }
 
-fn steps(rt: &HostRuntime, plan: &Plan) -> Result<Vec<(u16, Vec<u8>)>, Fail> {
-    let mut steps = Vec::new(rt.alloc());
-    if let Some(step) = &plan.close {
-        steps.push(written(rt, step)?)?;
+/// The step at a place among those behind the one that closes.
+fn later_step(plan: &Plan, at: usize) -> Option<&Step> {
+    let fill = plan.fill.as_slice();
+    if at == fill.len() {
+        return plan.last.as_ref();
     }
-    for step in plan.fill.as_slice() {
-        steps.push(written(rt, step)?)?;
+    fill.get(at)
+}
+
+/// The step at a place among all of them.
+fn step_at(plan: &Plan, index: usize) -> Option<&Step> {
+    match (&plan.close, index.checked_sub(1)) {
+        (Some(step), None) => Some(step),
+        (Some(_), Some(at)) => later_step(plan, at),
+        (None, _) => later_step(plan, index),
     }
-    if let Some(step) = &plan.last {
-        steps.push(written(rt, step)?)?;
-    }
-    Ok(steps)
 }
 
 /// The plan of a message of so many bytes, counting up from the first.
@@ -60,24 +66,37 @@ fn planned(
         return Ok(Outcome::NoMessage);
     };
     match plan(rt.alloc(), &map, store, block, &message) {
-        Ok(plan) => Ok(Outcome::Steps(steps(rt, &plan)?)),
+        Ok(plan) => Ok(Outcome::Made(plan)),
         Err(fault) => Ok(Outcome::Fault(fault.number(), capacity(&map))),
     }
 }
 
-/// The steps that write these blocks.
-fn blocks(rt: &HostRuntime, rows: &[(u16, &[u8])]) -> Result<Outcome, Fail> {
-    let mut steps = Vec::new(rt.alloc());
-    for (block, content) in rows {
-        steps.push((*block, Vec::from_slice(rt.alloc(), content)?))?;
+fn is_step(plan: &Plan, index: usize, block: u16, content: &[u8]) -> bool {
+    match step_at(plan, index) {
+        Some(step) => step.block == block && step.content.as_slice() == content,
+        None => false,
     }
-    Ok(Outcome::Steps(steps))
 }
 
-fn is_step(steps: &[(u16, Vec<u8>)], index: usize, block: u16, content: &[u8]) -> bool {
-    match steps.get(index) {
-        Some(step) => step.0 == block && step.1.as_slice() == content,
-        None => false,
+/// A step of a plan: its place among all of them, its block, and what is written there.
+type Row<'a> = (usize, u16, &'a [u8]);
+
+/// A plan has so many steps, these among them.
+fn has_steps(rt: &impl Abort, outcome: &Outcome, count: usize, rows: &[Row]) {
+    let Outcome::Made(plan) = outcome else {
+        panic!(rt; "no plan");
+    };
+    assert_eq!(rt; count_steps(plan), count);
+    for (index, block, content) in rows {
+        assert!(rt; is_step(plan, *index, *block, content), "at {index}");
+    }
+}
+
+/// A message that is too long has a plan in no area of this capacity.
+fn is_too_long(rt: &impl Abort, outcome: &Outcome, most: u32) {
+    match outcome {
+        Outcome::Fault(number, told) => assert_eq!(rt; (*number, *told), (1, most)),
+        _ => panic!(rt; "no fault"),
     }
 }
 
@@ -92,51 +111,52 @@ fn t2_space(end: u32) -> Space
     }
 }
 
+/// The plan of so many bytes, counting up from the first, for a Type 2 tag of 64 bytes.
+fn planned_64(rt: &HostRuntime, head: &[u8], count: usize, first: u8) -> Result<Outcome, Fail> {
+    let store = store(rt, 64, 12, head)?;
+    if store.len() != 64 {
+        return Err(Fail::new("another size"));
+    }
+    planned(rt, &t2_space(64), &store, 4, count, first)
+}
+
+/// The same for one of 280 bytes.
+fn planned_280(rt: &HostRuntime, head: &[u8], count: usize, first: u8) -> Result<Outcome, Fail> {
+    let store = store(rt, 280, 12, head)?;
+    if store.len() != 280 {
+        return Err(Fail::new("another size"));
+    }
+    planned(rt, &t2_space(280), &store, 4, count, first)
+}
+
 /// The longest message leaves no room for a terminator. The old one was empty, so nothing has to be closed.
 #[test]
 fn the_longest_message(rt: HostRuntime) -> Result<(), Fail> {
-    let store = store(&rt, 64, 12, &[0xE1, 0x10, 6, 0, 3, 0, 0xFE])?;
-    let space = t2_space(64);
-    if store.len() == 64 {
-        let Outcome::Steps(steps) = planned(&rt, &space, &store, 4, 46, 0)? else {
-            panic!(rt; "no plan");
-        };
-        assert_eq!(rt; steps.len(), 12);
-        assert!(rt; is_step(&steps, 0, 5, &[2, 3, 4, 5]));
-        assert!(rt; is_step(&steps, 10, 15, &[42, 43, 44, 45]));
-        assert!(rt; is_step(&steps, 11, 4, &[3, 46, 0, 1]));
-        let long = planned(&rt, &space, &store, 4, 47, 0)?;
-        assert_eq!(rt; long, Outcome::Fault(1, 46));
-    }
+    let rows: [Row; 3] = [
+        (0, 5, &[2, 3, 4, 5]),
+        (10, 15, &[42, 43, 44, 45]),
+        (11, 4, &[3, 46, 0, 1]),
+    ];
+    let head = [0xE1, 0x10, 6, 0, 3, 0, 0xFE];
+    has_steps(&rt, &planned_64(&rt, &head, 46, 0)?, 12, &rows);
+    is_too_long(&rt, &planned_64(&rt, &head, 47, 0)?, 46);
     Ok(())
 }
 
 /// A length of three bytes lies in two blocks; the first of them is written first and last.
 #[test]
 fn a_length_over_two_blocks(rt: HostRuntime) -> Result<(), Fail> {
-    let store = store(
-        &rt,
-        280,
-        12,
-        &[
-            0xE1, 0x10, 0x21, 0, 1, 3, 0x90, 0x10, 0x35, 3, 3, 0xD0, 0, 0, 0xFE,
-        ],
-    )?;
-    let space = t2_space(280);
-    if store.len() == 280 {
-        let Outcome::Steps(steps) = planned(&rt, &space, &store, 4, 255, 1)? else {
-            panic!(rt; "no plan");
-        };
-        assert_eq!(rt; steps.len(), 66);
-        assert!(rt; is_step(&steps, 0, 5, &[0x35, 3, 0, 0xD0]));
-        assert!(rt; is_step(&steps, 1, 6, &[0xFF, 1, 2, 3]));
-        assert!(rt; is_step(&steps, 64, 69, &[252, 253, 254, 255]));
-        assert!(rt; is_step(&steps, 65, 5, &[0x35, 3, 0xFF, 0]));
-        assert_eq!(rt;
-            planned(&rt, &space, &store, 4, 256, 1)?,
-            Outcome::Fault(1, 255)
-        );
-    }
+    let rows: [Row; 4] = [
+        (0, 5, &[0x35, 3, 0, 0xD0]),
+        (1, 6, &[0xFF, 1, 2, 3]),
+        (64, 69, &[252, 253, 254, 255]),
+        (65, 5, &[0x35, 3, 0xFF, 0]),
+    ];
+    let head = [
+        0xE1, 0x10, 0x21, 0, 1, 3, 0x90, 0x10, 0x35, 3, 3, 0xD0, 0, 0, 0xFE,
+    ];
+    has_steps(&rt, &planned_280(&rt, &head, 255, 1)?, 66, &rows);
+    is_too_long(&rt, &planned_280(&rt, &head, 256, 1)?, 255);
     Ok(())
 }
 
@@ -145,29 +165,28 @@ fn a_length_over_two_blocks(rt: HostRuntime) -> Result<(), Fail> {
 /// that block is written, and the block of the length before it and behind it.
 #[test]
 fn unchanged_blocks_stay(rt: HostRuntime) -> Result<(), Fail> {
-    let space = t2_space(64);
-    let held = store(&rt, 64, 12, &[0xE1, 0x10, 6, 0, 3, 3, 0xD0, 0, 0, 0xFE])?;
-    if held.len() == 64 {
-        let rows: [(u16, &[u8]); 2] = [(4, &[3, 0, 0xD0, 0]), (4, &[3, 0, 0xFE, 0])];
-        assert_eq!(rt; planned(&rt, &space, &held, 4, 0, 0)?, blocks(&rt, &rows)?);
-    }
-    let empty = store(&rt, 64, 12, &[0xE1, 0x10, 6, 0, 3, 0, 0xFE])?;
-    if empty.len() == 64 {
-        assert_eq!(rt; planned(&rt, &space, &empty, 4, 0, 0)?, blocks(&rt, &[])?);
-    }
-    let near = store(
-        &rt,
-        64,
-        12,
-        &[0xE1, 0x10, 6, 0, 3, 9, 1, 2, 3, 4, 5, 6, 7, 8, 0xAA, 0xFE],
-    )?;
-    if near.len() == 64 {
-        let rows: [(u16, &[u8]); 3] = [
-            (4, &[3, 0, 1, 2]),
-            (6, &[7, 8, 9, 0xFE]),
-            (4, &[3, 9, 1, 2]),
-        ];
-        assert_eq!(rt; planned(&rt, &space, &near, 4, 9, 1)?, blocks(&rt, &rows)?);
+    let cases: [(&[u8], usize, u8, &[Row]); 3] = [
+        (
+            &[0xE1, 0x10, 6, 0, 3, 3, 0xD0, 0, 0, 0xFE],
+            0,
+            0,
+            &[(0, 4, &[3, 0, 0xD0, 0]), (1, 4, &[3, 0, 0xFE, 0])],
+        ),
+        (&[0xE1, 0x10, 6, 0, 3, 0, 0xFE], 0, 0, &[]),
+        (
+            &[0xE1, 0x10, 6, 0, 3, 9, 1, 2, 3, 4, 5, 6, 7, 8, 0xAA, 0xFE],
+            9,
+            1,
+            &[
+                (0, 4, &[3, 0, 1, 2]),
+                (1, 6, &[7, 8, 9, 0xFE]),
+                (2, 4, &[3, 9, 1, 2]),
+            ],
+        ),
+    ];
+    for (head, count, first, rows) in cases {
+        let outcome = planned_64(&rt, head, count, first)?;
+        has_steps(&rt, &outcome, rows.len(), rows);
     }
     Ok(())
 }
@@ -175,76 +194,74 @@ fn unchanged_blocks_stay(rt: HostRuntime) -> Result<(), Fail> {
 /// A memory control TLV reserves the addresses 32 to 35: block 8 is left alone.
 #[test]
 fn reserved_addresses_stay(rt: HostRuntime) -> Result<(), Fail> {
-    let store = store(
-        &rt,
-        64,
-        12,
-        &[
-            0xE1, 0x10, 6, 0, 2, 3, 0x20, 4, 4, 3, 0, 0xFE, 0, 0, 0, 0, 0, 0, 0, 0, 0xAA, 0xBB,
-            0xCC, 0xDD,
-        ],
-    )?;
-    let space = t2_space(64);
-    if store.len() == 64 {
-        let rows: [(u16, &[u8]); 4] = [
-            (6, &[2, 3, 4, 5]),
-            (7, &[6, 7, 8, 9]),
-            (9, &[10, 11, 12, 0xFE]),
-            (5, &[4, 3, 12, 1]),
-        ];
-        assert_eq!(rt;
-            planned(&rt, &space, &store, 4, 12, 1)?,
-            blocks(&rt, &rows)?
-        );
-        assert_eq!(rt;
-            planned(&rt, &space, &store, 4, 38, 1)?,
-            Outcome::Fault(1, 37)
-        );
-    }
+    let rows: [Row; 4] = [
+        (0, 6, &[2, 3, 4, 5]),
+        (1, 7, &[6, 7, 8, 9]),
+        (2, 9, &[10, 11, 12, 0xFE]),
+        (3, 5, &[4, 3, 12, 1]),
+    ];
+    let head = [
+        0xE1, 0x10, 6, 0, 2, 3, 0x20, 4, 4, 3, 0, 0xFE, 0, 0, 0, 0, 0, 0, 0, 0, 0xAA, 0xBB, 0xCC,
+        0xDD,
+    ];
+    has_steps(&rt, &planned_64(&rt, &head, 12, 1)?, 4, &rows);
+    is_too_long(&rt, &planned_64(&rt, &head, 38, 1)?, 37);
     Ok(())
 }
 
-/// Blocks of 32 bytes: the message shares one with the container, which stays.
-#[test]
-fn one_block_of_a_type_5_tag(rt: HostRuntime) -> Result<(), Fail> {
-    let held = [0xE1, 0x40, 0x0F, 0, 3, 3, 0xD0, 0, 0, 0xFE];
-    let store = store(&rt, 128, 0, &held)?;
+/// The plan for a Type 5 tag of four blocks of 32 bytes.
+fn planned_t5(rt: &HostRuntime, count: usize, first: u8) -> Result<Outcome, Fail> {
+    let head = [0xE1, 0x40, 0x0F, 0, 3, 3, 0xD0, 0, 0, 0xFE];
+    let store = store(rt, 128, 0, &head)?;
+    if store.len() != 128 {
+        return Err(Fail::new("another size"));
+    }
     let space = Space {
         start: 4,
         end: 124,
         control: false,
         writable: true,
     };
-    if store.len() == 128 {
-        let Outcome::Steps(steps) = planned(&rt, &space, &store, 32, 2, 0xD1)? else {
-            panic!(rt; "no plan");
-        };
-        assert_eq!(rt; steps.len(), 2);
-        let mut block = [0; 32];
-        let close = [0xE1, 0x40, 0x0F, 0, 3, 0, 0xD0, 0, 0, 0xFE];
-        block[..10].copy_from_slice(&close);
-        assert!(rt; is_step(&steps, 0, 0, &block));
-        let last = [0xE1, 0x40, 0x0F, 0, 3, 2, 0xD1, 0xD2, 0xFE, 0xFE];
-        block[..10].copy_from_slice(&last);
-        assert!(rt; is_step(&steps, 1, 0, &block));
-        assert_eq!(rt;
-            planned(&rt, &space, &store, 32, 119, 0)?,
-            Outcome::Fault(1, 118)
-        );
-    }
+    planned(rt, &space, &store, 32, count, first)
+}
+
+/// Blocks of 32 bytes: the message shares one with the container, which stays.
+#[test]
+fn one_block_of_a_type_5_tag(rt: HostRuntime) -> Result<(), Fail> {
+    let rows: [Row; 2] = [
+        (
+            0,
+            0,
+            b"\xE1\x40\x0F\0\x03\x00\xD0\0\0\xFE\0\0\0\0\0\0\0\0\0\0\0\0\0\0\0\0\0\0\0\0\0\0",
+        ),
+        (
+            1,
+            0,
+            b"\xE1\x40\x0F\0\x03\x02\xD1\xD2\xFE\xFE\0\0\0\0\0\0\0\0\0\0\0\0\0\0\0\0\0\0\0\0\0\0",
+        ),
+    ];
+    has_steps(&rt, &planned_t5(&rt, 2, 0xD1)?, 2, &rows);
+    is_too_long(&rt, &planned_t5(&rt, 119, 0)?, 118);
     Ok(())
+}
+
+/// The capacity of an area up to this address that holds an empty message alone.
+fn capacity_to(rt: &HostRuntime, end: u32) -> Result<Option<u32>, Fail>
+    requires order { 16 ≤ end }
+    requires small { end ≤ 1024 }
+{
+    let store = store(rt, 280, 16, &[3, 0])?;
+    match find_message(&t2_space(end), &store) {
+        Walk::Held { map } => Ok(Some(capacity(&map))),
+        _ => Ok(None),
+    }
 }
 
 /// An area of a message's TLV alone: its capacity at the borders of the two forms of a length.
 #[test]
 fn capacities(rt: HostRuntime) -> Result<(), Fail> {
     for (end, most) in [(18, 0), (272, 254), (273, 254), (274, 254), (275, 255)] {
-        let store = store(&rt, 280, 16, &[3, 0])?;
-        let space = t2_space(end);
-        let Walk::Held { map } = find_message(&space, &store) else {
-            panic!(rt; "no message");
-        };
-        assert_eq!(rt; capacity(&map), most, "with {end}");
+        assert_eq!(rt; capacity_to(&rt, end)?, Some(most), "with {end}");
     }
     Ok(())
 }

@@ -1,68 +1,98 @@
 //! Whole runs over crowds of devices and over lost, damaged and broken transmissions.
 
-use super::tags_tests::report;
+use super::runs::{Run, all_tell, begins, ends};
+use std::alloc::{AllocError, Global};
 use std::test::Fail;
 
-/// What a script shows, its lines, and its answers.
-const ANSWERS: [(&str, &str, &str); 6] = [
+/// Crowds, and noise.
+const ANSWERS: [Run; 7] = [
     (
         "an identifier of seven bytes",
+        "run quiet",
         "place t2 04112233445566 45 000000000000000000000000E11012000103A00C340300FE\nread 04112233445566",
-        "1 ok\n2 message - writable\n",
+        0,
+        "1 ok
+2 message - writable
+",
     ),
     (
         "a crowd in its order",
-        "place t2 01020304 4 -\nplace t2 03020304 4 -\nplace t2 04112233445566 4 -\nfind",
-        "1 ok\n2 ok\n3 ok\n4 found 3 03020304:t2 01020304:t2 04112233445566:t2\n",
+        "run quiet",
+        "place t2 01020304 4 -
+place t2 03020304 4 -
+place t2 04112233445566 4 -
+find",
+        0,
+        "1 ok
+2 ok
+3 ok
+4 found 3 03020304:t2 01020304:t2 04112233445566:t2
+",
     ),
     (
         "four requests that are lost find nobody",
-        "place t2 01020304 4 -\nfates LLLL\nfind",
-        "1 ok\n2 ok\n3 found 0\n",
+        "run quiet",
+        "place t2 01020304 4 -
+fates LLLL
+find",
+        0,
+        "1 ok
+2 ok
+3 found 0
+",
     ),
     (
         "a field that is lost is lit again",
-        "place t2 01020304 16 000000000000000000000000E11006000303D00000FE0000\nfates PPB\nread 01020304\nread 01020304",
-        "1 ok\n2 ok\n3 field lost\n4 message D00000 writable\n",
+        "run quiet",
+        "place t2 01020304 16 000000000000000000000000E11006000303D00000FE0000
+fates PPB
+read 01020304
+read 01020304",
+        0,
+        "1 ok
+2 ok
+3 field lost
+4 message D00000 writable
+",
     ),
     (
         "six bad receptions",
-        "place t2 01020304 4 -\nfates PPPPPPLLLLLL\nread 01020304",
-        "1 ok\n2 ok\n3 six bad\n",
+        "run quiet",
+        "place t2 01020304 4 -
+fates PPPPPPLLLLLL
+read 01020304",
+        0,
+        "1 ok
+2 ok
+3 six bad
+",
     ),
     (
         "an identifier that isn't placed",
+        "run quiet",
         "read 0A0B0C0D\nread E004010203040506",
-        "1 not found\n2 not found\n",
+        0,
+        "1 not found
+2 not found
+",
+    ),
+    (
+        "what was found before a refused line stays reported",
+        "run quiet",
+        "place t2 01020304 16 000000000000000000000000E11006000303D00000FE0000
+find
+fly",
+        2,
+        "1 ok
+2 found 1 01020304:t2
+fault 2 line 3
+",
     ),
 ];
 
 #[test]
 fn crowds_and_noise(rt: HostRuntime) -> Result<(), Fail> {
-    let alloc = rt.alloc();
-    for (shows, script, text) in ANSWERS {
-        let (status, written) = report(alloc, "run quiet", script)?;
-        assert_eq!(rt; str::from_utf8(&written)?, text, "{shows}");
-        assert_eq!(rt; status, 0, "{shows}");
-    }
-    Ok(())
-}
-
-#[test]
-fn what_was_found_before_a_refused_line_stays_reported(rt: HostRuntime) -> Result<(), Fail> {
-    let script = "place t2 01020304 16 000000000000000000000000E11006000303D00000FE0000
-find
-fly";
-    let (status, written) = report(rt.alloc(), "run quiet", script)?;
-    assert_eq!(rt; status, 2);
-    assert_eq!(rt;
-        str::from_utf8(&written)?,
-        "1 ok
-2 found 1 01020304:t2
-fault 2 line 3
-"
-    );
-    Ok(())
+    all_tell(&rt, rt.alloc(), &ANSWERS)
 }
 
 /// The report's first lines of a search among three tags.
@@ -83,14 +113,17 @@ const FIRST_ROUND: &str = "1 ok
 4 > 5000 pass
 ";
 
+/// Three tags, and a search among them.
+const THREE: &str =
+    "place t2 01020304 4 -\nplace t2 03020304 4 -\nplace t2 04112233445566 4 -\nfind";
+
 #[test]
 fn a_crowd_bit_by_bit(rt: HostRuntime) -> Result<(), Fail> {
-    let alloc = rt.alloc();
-    let script = "place t2 01020304 4 -\nplace t2 03020304 4 -\nplace t2 04112233445566 4 -\nfind";
-    let (status, written) = report(alloc, "run", script)?;
-    assert_eq!(rt; status, 0);
-    assert!(rt; written.as_slice().starts_with(FIRST_ROUND.as_bytes()));
-    Ok(())
+    begins(
+        &rt,
+        rt.alloc(),
+        &("a search among three", "run", THREE, 0, FIRST_ROUND),
+    )
 }
 
 /// The digits of sixteen identifiers' last bytes, in crowd order: their bits are compared from the lowest on.
@@ -98,28 +131,47 @@ const LAST_BYTES: [&str; 16] = [
     "0F", "07", "0B", "03", "0D", "05", "09", "01", "0E", "06", "0A", "02", "0C", "04", "08", "00",
 ];
 
-#[test]
-fn a_full_field_in_crowd_order_ten_times(rt: HostRuntime) -> Result<(), Fail> {
-    let alloc = rt.alloc();
+/// Their tags, and ten searches.
+fn ten_searches(alloc: Global) -> Result<String, AllocError> {
     let mut script = String::new(alloc);
+    for last in LAST_BYTES {
+        for part in ["place t2 010203", last, " 4 -\n"] {
+            script.push_str(part)?;
+        }
+    }
+    for _ in 0..10 {
+        script.push_str("find\n")?;
+    }
+    Ok(script)
+}
+
+/// What they tell, in the lines behind the sixteenth.
+fn ten_times_sixteen(alloc: Global) -> Result<String, AllocError> {
     let mut found = String::from_str(alloc, " found 16")?;
     for last in LAST_BYTES {
-        script.push_str("place t2 010203")?;
-        script.push_str(last)?;
-        script.push_str(" 4 -\n")?;
-        found.push_str(" 010203")?;
-        found.push_str(last)?;
-        found.push_str(":t2")?;
+        for part in [" 010203", last, ":t2"] {
+            found.push_str(part)?;
+        }
     }
-    let mut wanted = String::new(alloc);
+    found.push_str("\n")?;
+    let mut told = String::new(alloc);
     for line in 17..27 {
-        script.push_str("find\n")?;
-        wanted.push_str(line.to_string(alloc)?.as_str())?;
-        wanted.push_str(found.as_str())?;
-        wanted.push_str("\n")?;
+        told.push_str(line.to_string(alloc)?.as_str())?;
+        told.push_str(found.as_str())?;
     }
-    let (status, written) = report(alloc, "run quiet", script.as_str())?;
-    assert_eq!(rt; status, 0);
-    assert!(rt; written.as_slice().ends_with(wanted.as_str().as_bytes()));
-    Ok(())
+    Ok(told)
+}
+
+#[test]
+fn a_full_field_in_crowd_order_ten_times(rt: HostRuntime) -> Result<(), Fail> {
+    let script = ten_searches(rt.alloc())?;
+    let told = ten_times_sixteen(rt.alloc())?;
+    let run = (
+        "a full field",
+        "run quiet",
+        script.as_str(),
+        0,
+        told.as_str(),
+    );
+    ends(&rt, rt.alloc(), &run)
 }

@@ -1,20 +1,12 @@
 //! Whole runs over workloads.
 
 use super::program::program;
-use super::tags_tests::report;
+use super::runs::{report, words_of};
 use super::*;
 use nfc_io::{Failed, MemSink, MemSource};
-use std::alloc::AllocError;
+use std::process::Abort;
 use std::test::Fail;
 use workload::Workload;
-
-fn words_of(alloc: Global, text: &str) -> Result<Vec<String>, AllocError> {
-    let mut words: Vec<String> = Vec::new(alloc);
-    for word in text.split(' ') {
-        words.push(String::from_str(alloc, word)?)?;
-    }
-    Ok(words)
-}
 
 /// Words, the status, and what is written.
 const RUNS: [(&str, u8, &str); 12] = [
@@ -40,18 +32,22 @@ const RUNS: [(&str, u8, &str); 12] = [
     ("make 5 3 3", 6, "fault 6 words\n"),
 ];
 
+/// A run of these words has this status, writes this line, and reads nothing.
+fn makes(rt: &impl Abort, alloc: Global, text: &str, wanted: (u8, &str)) -> Result<(), Fail> {
+    let words = words_of(alloc, text)?;
+    let mut source = MemSource::new(Vec::from_slice(alloc, b"find\n")?, vec![in alloc; 1]?);
+    let mut sink = MemSink::new(alloc, 1 << 8, Vec::new(alloc))?;
+    let status = program(alloc, Ok(words), &mut source, &mut sink);
+    assert_eq!(rt; (status, str::from_utf8(sink.content())?), wanted, "{text}");
+    assert!(rt; source.read(&mut [0; 8]).is_err(), "{text}");
+    Ok(())
+}
+
 /// One line is all that is written, and nothing is read.
 #[test]
 fn what_a_run_over_a_workload_tells(rt: HostRuntime) -> Result<(), Fail> {
-    let alloc = rt.alloc();
-    for (text, wanted, line) in RUNS {
-        let words = words_of(alloc, text)?;
-        let mut source = MemSource::new(Vec::from_slice(alloc, b"find\n")?, vec![in alloc; 1]?);
-        let mut sink = MemSink::new(alloc, 1 << 8, Vec::new(alloc))?;
-        let status = program(alloc, Ok(words), &mut source, &mut sink);
-        assert_eq!(rt; status, wanted, "{text}");
-        assert_eq!(rt; str::from_utf8(sink.content())?, line, "{text}");
-        assert!(rt; source.read(&mut [0; 8]).is_err(), "{text}");
+    for (text, status, line) in RUNS {
+        makes(&rt, rt.alloc(), text, (status, line))?;
     }
     Ok(())
 }
@@ -75,43 +71,58 @@ impl Sink for Drips {
     }
 }
 
+/// A sink with so much room that fails at this call took this part of the line, and the journal is whole.
+fn breaks_off(
+    rt: &impl Abort,
+    alloc: Global,
+    room: usize,
+    failing: u32,
+    line: &str,
+) -> Result<(), Fail> {
+    let words = words_of(alloc, "make 5 1")?;
+    let mut source = MemSource::new(Vec::new(alloc), Vec::new(alloc));
+    let inner = MemSink::new(alloc, room, vec![in alloc; failing]?)?;
+    let mut sink = Drips { inner };
+    let mut bench = Bench::new(alloc);
+    let status = run_bench(alloc, &words, &mut source, &mut sink, &mut bench);
+    assert_eq!(rt; (status, bench.journal().len()), (4, 7), "{room} {failing}");
+    assert_eq!(rt; str::from_utf8(sink.inner.content())?, line);
+    Ok(())
+}
+
 /// The line is written behind all commands, so a sink that fails leaves the journal whole.
 #[test]
 fn a_sink_that_fails(rt: HostRuntime) -> Result<(), Fail> {
-    let alloc = rt.alloc();
-    for (room, failing, line) in [
+    let rows = [
         (1 << 8, 1, ""),
         (1 << 8, 3, "made 5 1 w"),
         (10, 9, "made 5 1 w"),
-    ] {
-        let words = words_of(alloc, "make 5 1")?;
-        let mut source = MemSource::new(Vec::new(alloc), Vec::new(alloc));
-        let inner = MemSink::new(alloc, room, vec![in alloc; failing]?)?;
-        let mut sink = Drips { inner };
-        let mut bench = Bench::new(alloc);
-        let status = run_bench(alloc, &words, &mut source, &mut sink, &mut bench);
-        assert_eq!(rt; status, 4, "{room} {failing}");
-        assert_eq!(rt; str::from_utf8(sink.inner.content())?, line);
-        assert_eq!(rt; bench.journal().len(), 7, "{room} {failing}");
+    ];
+    for (room, failing, line) in rows {
+        breaks_off(&rt, rt.alloc(), room, failing, line)?;
     }
     Ok(())
 }
 
-/// The same lines in a script have as many of these answers.
-#[test]
-fn a_workload_as_a_script(rt: HostRuntime) -> Result<(), Fail> {
-    let alloc = rt.alloc();
-    let workload = Workload::new(5, 3).unwrap();
+/// The lines of a workload as a script.
+fn script_of(alloc: Global, workload: &Workload) -> Result<String, Fail> {
     let mut script = String::new(alloc);
     for place in 0..workload.line_count() {
         script.push_str(str::from_utf8(&workload.line(place))?)?;
         script.push_str("\n")?;
     }
-    let (status, written) = report(alloc, "run quiet", script.as_str())?;
+    Ok(script)
+}
+
+/// The same lines in a script have as many of these answers.
+#[test]
+fn a_workload_as_a_script(rt: HostRuntime) -> Result<(), Fail> {
+    let script = script_of(rt.alloc(), &Workload::new(5, 3).unwrap())?;
+    let (status, written) = report(rt.alloc(), "run quiet", script.as_str())?;
     assert_eq!(rt; status, 0);
     let text = str::from_utf8(&written)?;
-    assert_eq!(rt; text.split(" written\n").count(), 3 + 1);
-    assert_eq!(rt; text.split(" message ").count(), 3 + 1);
-    assert_eq!(rt; text.split(" success\n").count(), 3 + 1);
+    for answer in [" written\n", " message ", " success\n"] {
+        assert_eq!(rt; text.split(answer).count(), 3 + 1, "{answer}");
+    }
     Ok(())
 }

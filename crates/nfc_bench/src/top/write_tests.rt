@@ -1,17 +1,20 @@
 //! Whole runs that write messages, with answers alone.
 
-use super::tags_tests::report;
+use super::runs::{Run, all_tell, report};
 use std::alloc::Global;
+use std::process::Abort;
 use std::test::Fail;
 
-/// What a script shows, its lines, and the report.
-const WRITES: [(&str, &str, &str); 10] = [
+/// Writes, and what they leave.
+const WRITES: [Run; 10] = [
     (
         "a message that fills its area, and one that doesn't fit",
+        "run quiet",
         "place t2 01020304 16 000000000000000000000000E11006000303D00000FE
 write 01020304 gen:46:0
 dump 01020304
 write 01020304 gen:47:0",
+        0,
         "1 ok
 2 written
 3 store 000000000000000000000000E1100600032E000102030405060708090A0B0C0D0E0F101112131415161718191A1B1C1D1E1F202122232425262728292A2B2C2D
@@ -20,40 +23,68 @@ write 01020304 gen:47:0",
     ),
     (
         "a closed tag, and an updated length of two bytes in two pieces",
+        "run quiet",
         "place t2 01020304 16 000000000000000000000000E110060F0303D00000FE
 write 01020304 D1
 place t4 02030405 8 000F20003B00010406E10400070000 0001D0
 write 02030405 D1
 dump 02030405",
-        "1 ok\n2 read only\n3 ok\n4 short mlc\n5 store 0001D000000000\n",
+        0,
+        "1 ok
+2 read only
+3 ok
+4 short mlc
+5 store 0001D000000000
+",
     ),
     (
         "a tag without a message, and one that isn't placed",
-        "place t2 01020304 4 -\nwrite 01020304 D1\nwrite 01020305 D1",
-        "1 ok\n2 not ndef\n3 not found\n",
+        "run quiet",
+        "place t2 01020304 4 -
+write 01020304 D1
+write 01020305 D1",
+        0,
+        "1 ok
+2 not ndef
+3 not found
+",
     ),
     (
         "a locked block",
+        "run quiet",
         "place t2 01020304 16 000000000000000000000000E11006000303D00000FE
 lock 01020304 5
 write 01020304 D10000AA
 read 01020304",
-        "1 ok\n2 ok\n3 refused 0000\n4 message - writable\n",
+        0,
+        "1 ok
+2 ok
+3 refused 0000
+4 message - writable
+",
     ),
     (
         "a locked block of a Type 5 tag",
+        "run quiet",
         "place t5 E004010203040506 8 4 E14004000303D00000FE
 lock E004010203040506 2
 write E004010203040506 D10000AABB
 read E004010203040506",
-        "1 ok\n2 ok\n3 refused 0012\n4 message - writable\n",
+        0,
+        "1 ok
+2 ok
+3 refused 0012
+4 message - writable
+",
     ),
     (
         "a Type 4 tag right behind a read of it",
+        "run quiet",
         "place t4 02030405 8 000F20003B000D0406E10400200000 0003D00000
 read 02030405
 write 02030405 gen:20:1
 read 02030405",
+        0,
         "1 ok
 2 message D00000 writable
 3 written
@@ -62,36 +93,56 @@ read 02030405",
     ),
     (
         "the acknowledgement of the first WRITE is lost five times",
+        "run quiet",
         "place t2 01020304 16 000000000000000000000000E11006000303D00000FE
 fates PPPPPPPPPPPPPPPLPLPLPLPL
 write 01020304 D10000AA
 read 01020304",
-        "1 ok\n2 ok\n3 written\n4 message D10000AA writable\n",
+        0,
+        "1 ok
+2 ok
+3 written
+4 message D10000AA writable
+",
     ),
     (
         "... six times",
+        "run quiet",
         "place t2 01020304 16 000000000000000000000000E11006000303D00000FE
 fates PPPPPPPPPPPPPPPLPLPLPLPLPL
 write 01020304 D10000AA
 read 01020304",
-        "1 ok\n2 ok\n3 six bad\n4 message - writable\n",
+        0,
+        "1 ok
+2 ok
+3 six bad
+4 message - writable
+",
     ),
     (
         "... and that of the last WRITE",
+        "run quiet",
         "place t2 01020304 16 000000000000000000000000E11006000303D00000FE
 fates PPPPPPPPPPPPPPPPPPPLPLPLPLPLPL
 write 01020304 D10000AA
 read 01020304",
-        "1 ok\n2 ok\n3 six bad\n4 message D10000AA writable\n",
+        0,
+        "1 ok
+2 ok
+3 six bad
+4 message D10000AA writable
+",
     ),
     (
         "one tag of two is written, twice with the empty message",
+        "run quiet",
         "place t2 01020304 16 000000000000000000000000E11006000303D00000FE
 place t2 04112233445566 16 000000000000000000000000E11006000303D00000FE
 write 04112233445566 -
 write 04112233445566 -
 read 04112233445566
 dump 01020304",
+        0,
         "1 ok
 2 ok
 3 written
@@ -104,13 +155,7 @@ dump 01020304",
 
 #[test]
 fn writes_and_what_they_leave(rt: HostRuntime) -> Result<(), Fail> {
-    let alloc = rt.alloc();
-    for (shows, script, text) in WRITES {
-        let (status, written) = report(alloc, "run quiet", script)?;
-        assert_eq!(rt; str::from_utf8(&written)?, text, "{shows}");
-        assert_eq!(rt; status, 0, "{shows}");
-    }
-    Ok(())
+    all_tell(&rt, rt.alloc(), &WRITES)
 }
 
 /// A tag that holds D00000, and a write to it of D10000AA.
@@ -143,10 +188,9 @@ fn broken_off(alloc: Global, place: &str, id: &str, passes: usize) -> Result<Vec
     for _ in 0..passes {
         script.push_str("P")?;
     }
-    script.push_str("B\nwrite ")?;
-    script.push_str(id)?;
-    script.push_str(" D10000AA\nread ")?;
-    script.push_str(id)?;
+    for part in ["B\nwrite ", id, " D10000AA\nread ", id] {
+        script.push_str(part)?;
+    }
     let (_, written) = report(alloc, "run quiet", script.as_str())?;
     Ok(written)
 }
@@ -161,26 +205,30 @@ fn stage_of(text: &str, first: usize) -> usize {
     BROKEN_OFF.len()
 }
 
-/// A Break at each transmission of a write leaves the old message, then the empty one, then the new one.
+/// Breaks at one transmission after the other leave the old message, then the empty one, then the new one, until the write is
+/// done before its Break.
+fn breaks(rt: &impl Abort, alloc: Global, place: &str, id: &str) -> Result<(), Fail> {
+    let mut stage = 0;
+    for passes in 0..80 {
+        let written = broken_off(alloc, place, id, passes)?;
+        let text = str::from_utf8(&written)?;
+        stage = stage_of(text, stage);
+        if stage == 3 {
+            assert_eq!(rt;
+                text,
+                "1 ok\n2 ok\n3 written\n4 field lost\n",
+                "{id} {passes}"
+            );
+            return Ok(());
+        }
+    }
+    Err(Fail::new("never written"))
+}
+
 #[test]
 fn a_break_at_each_transmission(rt: HostRuntime) -> Result<(), Fail> {
-    let alloc = rt.alloc();
     for (place, id) in KINDS {
-        let mut stage = 0;
-        for passes in 0..80 {
-            let written = broken_off(alloc, place, id, passes)?;
-            let text = str::from_utf8(&written)?;
-            stage = stage_of(text, stage);
-            if stage == 3 {
-                assert_eq!(rt;
-                    text,
-                    "1 ok\n2 ok\n3 written\n4 field lost\n",
-                    "{id} {passes}"
-                );
-                break;
-            }
-        }
-        assert_eq!(rt; stage, 3, "{id}");
+        breaks(&rt, rt.alloc(), place, id)?;
     }
     Ok(())
 }

@@ -1,0 +1,5 @@
+use Rattle.std.proofs.Common.{refl}
+use Rattle.tag_tests.proofs.write_tests.write_t2.Goals as goal
+
+pub write-requires-clause-of : goal.write-requires-clause-of
+write-requires-clause-of c = record { kind = refl; named = tt }

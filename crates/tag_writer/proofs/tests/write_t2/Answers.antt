@@ -1,5 +1,0 @@
-use Rattle.std.proofs.Common.{refl}
-use Rattle.tag_writer.proofs.tests.write_t2.Goals as goal
-
-pub write-requires-clause-of : goal.write-requires-clause-of
-write-requires-clause-of c = record { kind = refl; named = tt }

@@ -1,0 +1,1 @@
+"""The language of scripts (docs/script.md): its words, its commands, and when a line is accepted."""
