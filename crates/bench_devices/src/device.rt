@@ -498,113 +498,97 @@ impl Device {
 #[cfg(test)]
 mod tests {
     use super::*;
-    use nfc_base::Mute;
-    use std::process::Abort;
+    use crate::rows::Step::{Dark, Hears, Light};
+    use crate::rows::{Step, goes_through};
     use std::test::Fail;
 
-    /// The bytes of a request and its tail, and the bytes of the answer, which is whole: none where it is silent.
-    type Row<'a> = (&'a [u8], u8, &'a [u8]);
+    const INVENTORY: &[u8] = &[0x26, 0x01, 0x00];
 
-    fn walk<R: Abort>(
-        rt: &R,
-        alloc: Global,
-        device: &mut Device,
-        rows: &[Row],
-    ) -> Result<(), Fail> {
-        let tech = device.tech();
-        for (request, tail, answer) in rows {
-            let wanted = if answer.is_empty() {
-                None
-            } else {
-                Some(Frame::whole(tech, answer)?)
-            };
-            let frame = Frame::part(tech, request, *tail)?;
-            assert_eq!(rt;
-                device.hear(alloc, &frame, &mut Mute),
-                Ok(wanted),
-                "at {request:?}"
-            );
-        }
-        Ok(())
+    /// An INVENTORY that a tag answers, and one at which it is silent.
+    const FOUND: Step = Hears(
+        INVENTORY,
+        0,
+        &[0, 0, 0x06, 0x05, 0x04, 0x03, 0x02, 0x01, 0x04, 0xE0],
+    );
+
+    const NOT_FOUND: Step = Hears(INVENTORY, 0, &[]);
+
+    const STAY_QUIET: Step = Hears(
+        &[0x22, 0x02, 0x06, 0x05, 0x04, 0x03, 0x02, 0x01, 0x04, 0xE0],
+        0,
+        &[],
+    );
+
+    fn type_5_tag(alloc: Global) -> Result<Device, Fail> {
+        let id = [0xE0, 0x04, 0x01, 0x02, 0x03, 0x04, 0x05, 0x06];
+        let tag = T5Tag::new(id, vec![in alloc; 0u8; 16]?, 4)?;
+        Ok(Device::T5(PoweredTag::new(tag)))
     }
-
-    const INVENTORY: [u8; 3] = [0x26, 0x01, 0x00];
-
-    const PRESENT: [u8; 10] = [0, 0, 0x06, 0x05, 0x04, 0x03, 0x02, 0x01, 0x04, 0xE0];
-
-    const QUIET: [u8; 10] = [0x22, 0x02, 0x06, 0x05, 0x04, 0x03, 0x02, 0x01, 0x04, 0xE0];
 
     #[test]
     fn type_5_tag_has_power_in_the_light(rt: HostRuntime) -> Result<(), Fail> {
         let alloc = rt.alloc();
-        let id = [0xE0, 0x04, 0x01, 0x02, 0x03, 0x04, 0x05, 0x06];
-        let tag = T5Tag::new(id, vec![in alloc; 0u8; 16]?, 4)?;
-        let mut device = Device::T5(PoweredTag::new(tag));
-        walk(&rt, alloc, &mut device, &[(&INVENTORY, 0, &[])])?;
-        device.light();
-        walk(
-            &rt,
-            alloc,
-            &mut device,
-            &[
-                (&INVENTORY, 0, &PRESENT),
-                (&QUIET, 0, &[]),
-                (&INVENTORY, 0, &[]),
-            ],
-        )?;
-        device.light();
-        walk(&rt, alloc, &mut device, &[(&INVENTORY, 0, &[])])?;
-        device.dark();
-        walk(&rt, alloc, &mut device, &[(&INVENTORY, 0, &[])])?;
-        device.light();
-        walk(&rt, alloc, &mut device, &[(&INVENTORY, 0, &PRESENT)])
+        let steps = [
+            NOT_FOUND, Light, FOUND, STAY_QUIET, NOT_FOUND, Light, NOT_FOUND, Dark, NOT_FOUND,
+            Light, FOUND,
+        ];
+        goes_through(&rt, alloc, &mut type_5_tag(alloc)?, &[&steps])
     }
 
-    #[test]
-    fn type_2_tag_is_read_once_it_is_selected(rt: HostRuntime) -> Result<(), Fail> {
-        let alloc = rt.alloc();
+    fn type_2_tag(alloc: Global) -> Result<Device, Fail> {
         let store = [
             1, 2, 3, 4, 5, 6, 7, 8, 9, 10, 11, 12, 13, 14, 15, 16, 17, 18, 19, 20,
         ];
         let tag = T2Tag::new(store.to_vec(alloc)?)?;
         let id = Ident::new(&[1, 2, 3, 4])?;
-        let mut device = Device::T2(Front::new(id, T2Upper::new(tag)));
-        walk(&rt, alloc, &mut device, &[(&[0x26], 7, &[])])?;
-        device.light();
-        let content = [5, 6, 7, 8, 9, 10, 11, 12, 13, 14, 15, 16, 17, 18, 19, 20];
-        let rows: [Row; 8] = [
-            (&[0x30, 1], 0, &[]),
-            (&[0x26], 7, &[0x04, 0]),
-            (&[0x93, 0x20], 0, &[1, 2, 3, 4, 4]),
-            (&[0x93, 0x70, 1, 2, 3, 4, 4], 0, &[0]),
-            (&[0x30, 1], 0, &content),
-            (&[0x50, 0], 0, &[]),
-            (&[0x30, 1], 0, &[]),
-            (&[0x26], 7, &[]),
-        ];
-        walk(&rt, alloc, &mut device, &rows)?;
-        device.dark();
-        walk(&rt, alloc, &mut device, &[(&[0x52], 7, &[])])
+        Ok(Device::T2(Front::new(id, T2Upper::new(tag))))
     }
 
+    #[test]
+    fn type_2_tag_is_read_once_it_is_selected(rt: HostRuntime) -> Result<(), Fail> {
+        let alloc = rt.alloc();
+        let steps = [
+            Hears(&[0x26], 7, &[]),
+            Light,
+            Hears(&[0x30, 1], 0, &[]),
+            Hears(&[0x26], 7, &[0x04, 0]),
+            Hears(&[0x93, 0x20], 0, &[1, 2, 3, 4, 4]),
+            Hears(&[0x93, 0x70, 1, 2, 3, 4, 4], 0, &[0]),
+            Hears(
+                &[0x30, 1],
+                0,
+                &[5, 6, 7, 8, 9, 10, 11, 12, 13, 14, 15, 16, 17, 18, 19, 20],
+            ),
+            Hears(&[0x50, 0], 0, &[]),
+            Hears(&[0x30, 1], 0, &[]),
+            Hears(&[0x26], 7, &[]),
+            Dark,
+            Hears(&[0x52], 7, &[]),
+        ];
+        goes_through(&rt, alloc, &mut type_2_tag(alloc)?, &[&steps])
+    }
+
+    /// A call of all devices, at which one is silent in the dark.
+    const CALL_IN_THE_DARK: Step = Hears(&[0x52], 7, &[]);
+
     /// A call of all devices, and the selection of this one.
-    const SELECTION: [Row; 3] = [
-        (&[0x52], 7, &[0x04, 0]),
-        (&[0x93, 0x20], 0, &[1, 2, 3, 4, 4]),
-        (&[0x93, 0x70, 1, 2, 3, 4, 4], 0, &[0x20]),
+    const SELECTION: &[Step] = &[
+        Hears(&[0x52], 7, &[0x04, 0]),
+        Hears(&[0x93, 0x20], 0, &[1, 2, 3, 4, 4]),
+        Hears(&[0x93, 0x70, 1, 2, 3, 4, 4], 0, &[0x20]),
     ];
 
-    const RATS: Row = (&[0xE0, 0x80], 0, &[0x02, 0x00]);
+    const RATS: Step = Hears(&[0xE0, 0x80], 0, &[0x02, 0x00]);
 
     /// SLP_REQ, and a call of those that don't sleep, which are silent.
-    const SLP_REQ: Row = (&[0x50, 0], 0, &[]);
+    const SLP_REQ: Step = Hears(&[0x50, 0], 0, &[]);
 
-    const SENS_REQ: Row = (&[0x26], 7, &[]);
+    const SENS_REQ: Step = Hears(&[0x26], 7, &[]);
 
-    const DESELECT: Row = (&[0xC2], 0, &[0xC2]);
+    const DESELECT: Step = Hears(&[0xC2], 0, &[0xC2]);
 
     /// SELECT of the NDEF application in a block, which is done.
-    const SELECT: Row = (
+    const SELECT: Step = Hears(
         &[
             0x02, 0x00, 0xA4, 0x04, 0x00, 0x07, 0xD2, 0x76, 0x00, 0x00, 0x85, 0x01, 0x01,
         ],
@@ -625,34 +609,25 @@ mod tests {
     #[test]
     fn type_4_tag_sleeps_without_a_link(rt: HostRuntime) -> Result<(), Fail> {
         let alloc = rt.alloc();
-        let mut device = type_4_tag(alloc)?;
-        device.light();
-        walk(&rt, alloc, &mut device, &SELECTION)?;
-        walk(&rt, alloc, &mut device, &[SLP_REQ, SENS_REQ])
+        let parts: [&[Step]; 3] = [&[Light], SELECTION, &[SLP_REQ, SENS_REQ]];
+        goes_through(&rt, alloc, &mut type_4_tag(alloc)?, &parts)
     }
 
     #[test]
     fn link_to_a_type_4_tag_takes_every_frame(rt: HostRuntime) -> Result<(), Fail> {
         let alloc = rt.alloc();
-        let mut device = type_4_tag(alloc)?;
-        walk(&rt, alloc, &mut device, &[(&[0x52], 7, &[])])?;
-        device.light();
-        walk(&rt, alloc, &mut device, &[(&[0xE0, 0x80], 0, &[])])?;
-        walk(&rt, alloc, &mut device, &SELECTION)?;
-        walk(
-            &rt,
-            alloc,
-            &mut device,
+        let parts: [&[Step]; 5] = [
+            &[CALL_IN_THE_DARK, Light, Hears(&[0xE0, 0x80], 0, &[])],
+            SELECTION,
             &[RATS, SLP_REQ, SELECT, DESELECT, SENS_REQ],
-        )?;
-        walk(&rt, alloc, &mut device, &SELECTION)?;
-        walk(
-            &rt,
-            alloc,
-            &mut device,
-            &[(&[0xE0, 0x51], 0, &[0x02, 0x00]), SELECT],
-        )?;
-        device.dark();
-        walk(&rt, alloc, &mut device, &[(&[0x52], 7, &[])])
+            SELECTION,
+            &[
+                Hears(&[0xE0, 0x51], 0, &[0x02, 0x00]),
+                SELECT,
+                Dark,
+                CALL_IN_THE_DARK,
+            ],
+        ];
+        goes_through(&rt, alloc, &mut type_4_tag(alloc)?, &parts)
     }
 }

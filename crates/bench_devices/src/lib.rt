@@ -30,3 +30,5 @@ pub use writing::write;
 mod opening_tests;
 #[cfg(test)]
 mod peer_tests;
+#[cfg(test)]
+mod rows;

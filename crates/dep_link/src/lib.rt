@@ -24,8 +24,3 @@ pub use law::{delivered_anew, faults_stay, handed_once, replies_heard};
 pub use listener::PeerListener;
 pub use pair::{DepPair, release};
 pub use target::{Target, TargetKind, TargetStep};
-
-#[cfg(test)]
-mod field_tests;
-#[cfg(test)]
-mod tests;

@@ -10,9 +10,13 @@ mod activate;
 mod block;
 mod card;
 mod exchange;
+#[cfg(test)]
+mod fates_tests;
 mod law;
 mod link;
 mod listener;
+#[cfg(test)]
+mod rats_tests;
 mod reader;
 mod size;
 #[cfg(test)]

@@ -12,6 +12,3 @@ mod law;
 pub use calls::{get_on, lookup_on, put_on};
 pub use closing::close_and_release;
 pub use law::calls_due;
-
-#[cfg(test)]
-mod tests;

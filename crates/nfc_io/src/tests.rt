@@ -34,6 +34,58 @@ impl Read for Pieces {
 /// The sizes of reads that each text is cut into.
 const SIZES: [usize; 3] = [1, 7, 4096];
 
+/// The lines that a reader gives, each with an LF, at most so many of them.
+fn given(
+    alloc: Global,
+    reader: &mut LineReader,
+    source: &mut StdSource<Pieces>,
+    most: usize,
+) -> Result<Vec<u8>, Fail> {
+    let mut given = Vec::new(alloc);
+    for _ in 0..most {
+        if reader.advance(source) != Ok(true) {
+            break;
+        }
+        given.extend_from_slice(reader.line())?;
+        given.push(b'\n')?;
+    }
+    Ok(given)
+}
+
+/// A text, cut into reads of this size, of which the one with this number fails.
+fn source_of(
+    alloc: Global,
+    text: &[u8],
+    size: usize,
+    failing: usize,
+) -> Result<StdSource<Pieces>, Fail> {
+    Ok(StdSource::new(Pieces {
+        bytes: Vec::from_slice(alloc, text)?,
+        at: 0,
+        size,
+        failing,
+        reads: 0,
+    }))
+}
+
+/// What is told twice behind the lines.
+type Ends = [Result<bool, LineStop>; 2];
+
+/// Whether a reader has no line at first, the lines that it gives of such a text, and what it tells behind them.
+fn told(
+    alloc: Global,
+    text: &[u8],
+    size: usize,
+    failing: usize,
+) -> Result<(bool, Vec<u8>, Ends), Fail> {
+    let mut source = source_of(alloc, text, size, failing)?;
+    let mut reader = LineReader::new(alloc)?;
+    let empty = reader.line().is_empty();
+    let lines = given(alloc, &mut reader, &mut source, text.len())?;
+    let ends = [reader.advance(&mut source), reader.advance(&mut source)];
+    Ok((empty, lines, ends))
+}
+
 /// Reads a text, of which the read with this number fails, and compares the lines, each with an LF, and what is told
 /// behind them.
 fn read_lines(
@@ -44,27 +96,8 @@ fn read_lines(
     lines: &[u8],
     end: Result<bool, LineStop>,
 ) -> Result<(), Fail> {
-    let mut source = StdSource::new(Pieces {
-        bytes: Vec::from_slice(alloc, text)?,
-        at: 0,
-        size,
-        failing,
-        reads: 0,
-    });
-    let mut reader = LineReader::new(alloc)?;
-    assert!(rt; reader.line().is_empty());
-    let mut given: Vec<u8> = Vec::new(alloc);
-    for _ in text {
-        if reader.advance(&mut source) != Ok(true) {
-            break;
-        }
-        given.extend_from_slice(reader.line())?;
-        given.push(b'\n')?;
-    }
-    assert_eq!(rt; given.as_slice(), lines);
-    for _ in 0..2 {
-        assert_eq!(rt; reader.advance(&mut source), end);
-    }
+    let (empty, given, ends) = told(alloc, text, size, failing)?;
+    assert_eq!(rt; (empty, given.as_slice(), ends), (true, lines, [end, end]));
     Ok(())
 }
 
@@ -100,16 +133,23 @@ fn long_text(alloc: Global, ahead: usize, length: usize) -> Result<Vec<u8>, Fail
     Ok(text)
 }
 
+/// A line of 4,096 bytes behind one of so many is given, and one of 4,097 is not.
+fn is_cut_at_4096(rt: &impl Abort, alloc: Global, ahead: usize, size: usize) -> Result<(), Fail> {
+    let text = long_text(alloc, ahead, 4096)?;
+    read_lines(rt, alloc, &text, (size, 0), &text, Ok(false))?;
+    let text = long_text(alloc, ahead, 4097)?;
+    let first = text
+        .as_slice()
+        .split_at(text.len().min(ahead.saturating_add(1)))
+        .0;
+    read_lines(rt, alloc, &text, (size, 0), first, Err(LineStop::TooLong))
+}
+
 #[test]
 fn lines_of_4096_bytes_are_given_and_longer_ones_are_not(rt: HostRuntime) -> Result<(), Fail> {
-    let alloc = rt.alloc();
     for ahead in [0, 1, 100, 4090, 4095, 4096] {
         for size in SIZES {
-            let text = long_text(alloc, ahead, 4096)?;
-            read_lines(&rt, alloc, &text, (size, 0), &text, Ok(false))?;
-            let text = long_text(alloc, ahead, 4097)?;
-            let first = text.as_slice().split_at(text.len().min(ahead + 1)).0;
-            read_lines(&rt, alloc, &text, (size, 0), first, Err(LineStop::TooLong))?;
+            is_cut_at_4096(&rt, rt.alloc(), ahead, size)?;
         }
     }
     Ok(())
@@ -148,16 +188,23 @@ fn a_failed_read_ends_the_lines(rt: HostRuntime) -> Result<(), Fail> {
     read_lines(&rt, rt.alloc(), text, (1, 16), lines, Ok(false))
 }
 
+/// What a reader of one line tells twice, where the read with this number fails, and the line that it has then.
+fn told_of_one(alloc: Global, failing: u32) -> Result<(Ends, Vec<u8>), Fail> {
+    let text = Vec::from_slice(alloc, b"one\n")?;
+    let mut source = MemSource::new(text, vec![in alloc; failing]?);
+    let mut reader = LineReader::new(alloc)?;
+    let ends = [reader.advance(&mut source), reader.advance(&mut source)];
+    Ok((ends, Vec::from_slice(alloc, reader.line())?))
+}
+
 #[test]
 fn the_last_line_stays_behind_the_end_and_a_fault(rt: HostRuntime) -> Result<(), Fail> {
-    let alloc = rt.alloc();
     for (failing, end) in [(9, Ok(false)), (2, Err(LineStop::ReadFault))] {
-        let text = Vec::from_slice(alloc, b"one\n")?;
-        let mut source = MemSource::new(text, vec![in alloc; failing]?);
-        let mut reader = LineReader::new(alloc)?;
-        assert_eq!(rt; reader.advance(&mut source), Ok(true));
-        assert_eq!(rt; reader.advance(&mut source), end);
-        assert_eq!(rt; reader.line(), b"one".as_slice());
+        let (ends, line) = told_of_one(rt.alloc(), failing)?;
+        assert_eq!(rt;
+            (ends, line.as_slice()),
+            ([Ok(true), end], b"one".as_slice())
+        );
     }
     Ok(())
 }

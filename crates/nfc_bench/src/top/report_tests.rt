@@ -68,7 +68,8 @@ fn every_event(rt: HostRuntime) -> Result<(), Fail> {
     Ok(())
 }
 
-/// An answer as a table has it: of a message its link, its source and its bytes, of a device its identifier and its kind.
+/// An answer as a table has it: of a message its link, its source and its bytes, of a device its identifier and its
+/// kind.
 #[derive(Clone, Copy)]
 enum Told {
     Done,

@@ -1,8 +1,0 @@
-use Rattle.dep_link.specs.contracts.field_tests.PhoneListener.TheImpl.{ghosts}
-use Rattle.dep_link.specs.Peering.{activated_in_step}
-use Rattle.dep_link.proofs.field_tests.ends.Goals as goal
-
-pub swap-requires-clause-ready : goal.swap-requires-clause-ready
-swap-requires-clause-ready c =
-    let t = c.in_ok-field.ensures.stands _ in
-    λ _. c.on-pair.ensures.ready (activated_in_step ghosts (λ l. l.target) c.activate.new.field _ c.in_ok-initiator.initiator c.in_ok-initiator.field-0-1.items (c.in_ok-initiator.ensures.ends t).2)

@@ -1,4 +1,0 @@
-use Rattle.link_calls.proofs.tests.closes.Goals as goal
-
-pub close_and_release-requires-clause-open_ : goal.close_and_release-requires-clause-open_
-close_and_release-requires-clause-open_ c = c.requires.open_

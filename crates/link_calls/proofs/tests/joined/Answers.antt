@@ -1,4 +1,0 @@
-use Rattle.link_calls.proofs.tests.joined.Goals as goal
-
-pub puts-requires-clause-open_ : goal.puts-requires-clause-open_
-puts-requires-clause-open_ c = c.in_ok-initiator.ensures.open_

@@ -1,4 +1,0 @@
-use Rattle.link_calls.proofs.tests.values_from.Goals as goal
-
-pub two_values-requires-clause-open_ : goal.two_values-requires-clause-open_
-two_values-requires-clause-open_ g c = c.in_ok-initiator.ensures.open_
