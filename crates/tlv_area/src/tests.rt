@@ -72,113 +72,114 @@ fn is_held(held: &Holds, fault: u8, message: &[u8]) -> bool {
     }
 }
 
+/// Type 2 tags: how many bytes they have, what stands there from byte 12 on, and the message.
+const MESSAGES: [(usize, &[u8], &[u8]); 12] = [
+    // as delivered, an NTAG203: lock bits behind the area
+    (
+        180,
+        &[0xE1, 0x10, 0x12, 0, 1, 3, 0xA0, 0x0C, 0x34, 3, 0, 0xFE],
+        &[],
+    ),
+    (
+        180,
+        &[
+            0xE1, 0x10, 0x12, 0, 1, 3, 0xA0, 0x0C, 0x34, 3, 12, 0xD1, 1, 8, 0x55, 1, 0x65, 0x78,
+            0x61, 0x6D, 0x70, 0x6C, 0x65, 0xFE,
+        ],
+        &[
+            0xD1, 1, 8, 0x55, 1, 0x65, 0x78, 0x61, 0x6D, 0x70, 0x6C, 0x65,
+        ],
+    ),
+    (
+        280,
+        &[
+            0xE1, 0x10, 0x21, 0, 1, 3, 0x90, 0x10, 0x35, 3, 3, 0xD0, 0, 0, 0xFE,
+        ],
+        &[0xD0, 0, 0],
+    ),
+    // four reserved bytes from address 32 on, before and after a message was written round them
+    (
+        64,
+        &[
+            0xE1, 0x10, 6, 0, 2, 3, 0x20, 4, 4, 3, 0, 0xFE, 0, 0, 0, 0, 0, 0, 0, 0, 0xAA, 0xBB,
+            0xCC, 0xDD,
+        ],
+        &[],
+    ),
+    (
+        64,
+        &[
+            0xE1, 0x10, 6, 0, 2, 3, 0x20, 4, 4, 3, 12, 1, 2, 3, 4, 5, 6, 7, 8, 9, 0xAA, 0xBB, 0xCC,
+            0xDD, 10, 11, 12, 0xFE,
+        ],
+        &[1, 2, 3, 4, 5, 6, 7, 8, 9, 10, 11, 12],
+    ),
+    // three bytes for a length below 255, of the message and of a control TLV
+    (
+        64,
+        &[0xE1, 0x10, 6, 0, 3, 0xFF, 0, 3, 0xD0, 0, 0, 0xFE],
+        &[0xD0, 0, 0],
+    ),
+    (
+        64,
+        &[
+            0xE1, 0x10, 6, 0, 1, 0xFF, 0, 3, 0x19, 9, 4, 3, 2, 0xAA, 0xBB, 0xCA, 0xCB,
+        ],
+        &[0xCA, 0xCB],
+    ),
+    // a range that begins at address 16 reserves only what lies past its own TLV
+    (
+        64,
+        &[0xE1, 0x10, 6, 0, 2, 3, 0x10, 6, 4, 0xAA, 3, 1, 0x55, 0xFE],
+        &[0x55],
+    ),
+    // two ranges, the later one named first: addresses 56 to 59 and 44 to 47
+    (
+        80,
+        &[
+            0xE1, 0x10, 8, 0, 2, 3, 0x38, 4, 4, 2, 3, 0x2C, 4, 4, 3, 24, 1, 2, 3, 4, 5, 6, 7, 8, 9,
+            10, 11, 12, 13, 14, 15, 16, 0xAA, 0xAA, 0xAA, 0xAA, 17, 18, 19, 20, 21, 22, 23, 24,
+            0xBB, 0xBB, 0xBB, 0xBB, 0xFE,
+        ],
+        &[
+            1, 2, 3, 4, 5, 6, 7, 8, 9, 10, 11, 12, 13, 14, 15, 16, 17, 18, 19, 20, 21, 22, 23, 24,
+        ],
+    ),
+    // the first message counts, and what stands behind it is not read
+    (
+        64,
+        &[
+            0xE1, 0x10, 6, 0, 3, 4, 0xDE, 0xAD, 0xBE, 0xEF, 3, 1, 0x42, 0xFE,
+        ],
+        &[0xDE, 0xAD, 0xBE, 0xEF],
+    ),
+    (
+        64,
+        &[
+            0xE1, 0x10, 6, 0, 3, 8, 0x65, 0x6C, 0x65, 0x70, 0x68, 0x61, 0x6E, 0x74, 0xFE,
+        ],
+        b"elephant",
+    ),
+    // read-only, with no terminator
+    (
+        64,
+        &[
+            0xE1, 0x10, 6, 0x0F, 3, 0x21, 0xD1, 2, 0x1C, 0x53, 0x70, 0x91, 1, 9, 0x54, 2, 0x65,
+            0x6E, 0x4C, 0x69, 0x62, 0x6E, 0x66, 0x63, 0x51, 1, 0x0B, 0x55, 3, 0x6C, 0x69, 0x62,
+            0x6E, 0x66, 0x63, 0x2E, 0x6F, 0x72, 0x67,
+        ],
+        &[
+            0xD1, 2, 0x1C, 0x53, 0x70, 0x91, 1, 9, 0x54, 2, 0x65, 0x6E, 0x4C, 0x69, 0x62, 0x6E,
+            0x66, 0x63, 0x51, 1, 0x0B, 0x55, 3, 0x6C, 0x69, 0x62, 0x6E, 0x66, 0x63, 0x2E, 0x6F,
+            0x72, 0x67,
+        ],
+    ),
+];
+
 #[test]
 fn type_2_messages(rt: HostRuntime) -> Result<(), Fail> {
-    let rows: [(usize, &[u8], &[u8]); 12] = [
-        // as delivered, an NTAG203: lock bits behind the area
-        (
-            180,
-            &[0xE1, 0x10, 0x12, 0, 1, 3, 0xA0, 0x0C, 0x34, 3, 0, 0xFE],
-            &[],
-        ),
-        (
-            180,
-            &[
-                0xE1, 0x10, 0x12, 0, 1, 3, 0xA0, 0x0C, 0x34, 3, 12, 0xD1, 1, 8, 0x55, 1, 0x65,
-                0x78, 0x61, 0x6D, 0x70, 0x6C, 0x65, 0xFE,
-            ],
-            &[
-                0xD1, 1, 8, 0x55, 1, 0x65, 0x78, 0x61, 0x6D, 0x70, 0x6C, 0x65,
-            ],
-        ),
-        (
-            280,
-            &[
-                0xE1, 0x10, 0x21, 0, 1, 3, 0x90, 0x10, 0x35, 3, 3, 0xD0, 0, 0, 0xFE,
-            ],
-            &[0xD0, 0, 0],
-        ),
-        // four reserved bytes from address 32 on, before and after a message was written round them
-        (
-            64,
-            &[
-                0xE1, 0x10, 6, 0, 2, 3, 0x20, 4, 4, 3, 0, 0xFE, 0, 0, 0, 0, 0, 0, 0, 0, 0xAA, 0xBB,
-                0xCC, 0xDD,
-            ],
-            &[],
-        ),
-        (
-            64,
-            &[
-                0xE1, 0x10, 6, 0, 2, 3, 0x20, 4, 4, 3, 12, 1, 2, 3, 4, 5, 6, 7, 8, 9, 0xAA, 0xBB,
-                0xCC, 0xDD, 10, 11, 12, 0xFE,
-            ],
-            &[1, 2, 3, 4, 5, 6, 7, 8, 9, 10, 11, 12],
-        ),
-        // three bytes for a length below 255, of the message and of a control TLV
-        (
-            64,
-            &[0xE1, 0x10, 6, 0, 3, 0xFF, 0, 3, 0xD0, 0, 0, 0xFE],
-            &[0xD0, 0, 0],
-        ),
-        (
-            64,
-            &[
-                0xE1, 0x10, 6, 0, 1, 0xFF, 0, 3, 0x19, 9, 4, 3, 2, 0xAA, 0xBB, 0xCA, 0xCB,
-            ],
-            &[0xCA, 0xCB],
-        ),
-        // a range that begins at address 16 reserves only what lies past its own TLV
-        (
-            64,
-            &[0xE1, 0x10, 6, 0, 2, 3, 0x10, 6, 4, 0xAA, 3, 1, 0x55, 0xFE],
-            &[0x55],
-        ),
-        // two ranges, the later one named first: addresses 56 to 59 and 44 to 47
-        (
-            80,
-            &[
-                0xE1, 0x10, 8, 0, 2, 3, 0x38, 4, 4, 2, 3, 0x2C, 4, 4, 3, 24, 1, 2, 3, 4, 5, 6, 7,
-                8, 9, 10, 11, 12, 13, 14, 15, 16, 0xAA, 0xAA, 0xAA, 0xAA, 17, 18, 19, 20, 21, 22,
-                23, 24, 0xBB, 0xBB, 0xBB, 0xBB, 0xFE,
-            ],
-            &[
-                1, 2, 3, 4, 5, 6, 7, 8, 9, 10, 11, 12, 13, 14, 15, 16, 17, 18, 19, 20, 21, 22, 23,
-                24,
-            ],
-        ),
-        // the first message counts, and what stands behind it is not read
-        (
-            64,
-            &[
-                0xE1, 0x10, 6, 0, 3, 4, 0xDE, 0xAD, 0xBE, 0xEF, 3, 1, 0x42, 0xFE,
-            ],
-            &[0xDE, 0xAD, 0xBE, 0xEF],
-        ),
-        (
-            64,
-            &[
-                0xE1, 0x10, 6, 0, 3, 8, 0x65, 0x6C, 0x65, 0x70, 0x68, 0x61, 0x6E, 0x74, 0xFE,
-            ],
-            b"elephant",
-        ),
-        // read-only, with no terminator
-        (
-            64,
-            &[
-                0xE1, 0x10, 6, 0x0F, 3, 0x21, 0xD1, 2, 0x1C, 0x53, 0x70, 0x91, 1, 9, 0x54, 2, 0x65,
-                0x6E, 0x4C, 0x69, 0x62, 0x6E, 0x66, 0x63, 0x51, 1, 0x0B, 0x55, 3, 0x6C, 0x69, 0x62,
-                0x6E, 0x66, 0x63, 0x2E, 0x6F, 0x72, 0x67,
-            ],
-            &[
-                0xD1, 2, 0x1C, 0x53, 0x70, 0x91, 1, 9, 0x54, 2, 0x65, 0x6E, 0x4C, 0x69, 0x62, 0x6E,
-                0x66, 0x63, 0x51, 1, 0x0B, 0x55, 3, 0x6C, 0x69, 0x62, 0x6E, 0x66, 0x63, 0x2E, 0x6F,
-                0x72, 0x67,
-            ],
-        ),
-    ];
-    for (size, bytes, message) in rows {
-        let held = t2_tag_holds(&rt, size, bytes)?;
+    for (size, bytes, message) in MESSAGES.iter() {
+        let held = t2_tag_holds(&rt, *size, bytes)?;
         assert!(rt; is_held(&held, 0, message), "at {bytes:?}: {held:?}");
     }
     Ok(())
@@ -237,52 +238,54 @@ fn t5_tag_holds(rt: &HostRuntime, size: usize, bytes: &[u8]) -> Result<Holds, Fa
     t5_holds(rt, &store)
 }
 
+/// Type 5 tags: how many bytes they have, what they begin with, and what they hold: a fault's number, or a message.
+const AREAS: [(usize, &[u8], u8, &[u8]); 11] = [
+    // a tag that ends before its area
+    (
+        16,
+        &[0xE1, 0x40, 6, 0, 3, 3, 0xD0, 0, 0, 0xFE],
+        0,
+        &[0xD0, 0, 0],
+    ),
+    (
+        128,
+        &[0xE1, 0x40, 0x0F, 0, 3, 3, 0xD0, 0, 0, 0xFE],
+        0,
+        &[0xD0, 0, 0],
+    ),
+    // a control TLV reserves nothing, and one that is passed over needs its last byte
+    (
+        16,
+        &[0xE1, 0x40, 1, 0, 1, 3, 0x0B, 8, 4, 3, 1, 0x55],
+        0,
+        &[0x55],
+    ),
+    (16, &[0xE1, 0x40, 6, 0, 7, 12], 8, &[]),
+    (16, &[0xE1, 0x80, 6, 0], 2, &[]),
+    (16, &[0xE3, 0x40, 6, 0], 1, &[]),
+    // containers of eight bytes: their area begins behind them, and is counted in bytes 6 and 7
+    (
+        16,
+        &[0xE2, 0x40, 0, 0, 0, 0, 0, 1, 3, 3, 0xD0, 0, 0, 0xFE],
+        0,
+        &[0xD0, 0, 0],
+    ),
+    (
+        16,
+        &[0xE1, 0x40, 0, 0, 0xFF, 0xFF, 0, 1, 3, 3, 0xD0, 0, 0, 0xFE],
+        0,
+        &[0xD0, 0, 0],
+    ),
+    (16, &[0xE2, 0x40, 0, 0, 0, 1, 0, 0], 5, &[]),
+    (16, &[0xE2, 0x4C, 0, 0], 3, &[]),
+    (4, &[0xE1, 0x40, 0, 0], 8, &[]),
+];
+
 #[test]
 fn type_5_areas(rt: HostRuntime) -> Result<(), Fail> {
-    let rows: [(usize, &[u8], u8, &[u8]); 11] = [
-        // a tag that ends before its area
-        (
-            16,
-            &[0xE1, 0x40, 6, 0, 3, 3, 0xD0, 0, 0, 0xFE],
-            0,
-            &[0xD0, 0, 0],
-        ),
-        (
-            128,
-            &[0xE1, 0x40, 0x0F, 0, 3, 3, 0xD0, 0, 0, 0xFE],
-            0,
-            &[0xD0, 0, 0],
-        ),
-        // a control TLV reserves nothing, and one that is passed over needs its last byte
-        (
-            16,
-            &[0xE1, 0x40, 1, 0, 1, 3, 0x0B, 8, 4, 3, 1, 0x55],
-            0,
-            &[0x55],
-        ),
-        (16, &[0xE1, 0x40, 6, 0, 7, 12], 8, &[]),
-        (16, &[0xE1, 0x80, 6, 0], 2, &[]),
-        (16, &[0xE3, 0x40, 6, 0], 1, &[]),
-        // containers of eight bytes: their area begins behind them, and is counted in bytes 6 and 7
-        (
-            16,
-            &[0xE2, 0x40, 0, 0, 0, 0, 0, 1, 3, 3, 0xD0, 0, 0, 0xFE],
-            0,
-            &[0xD0, 0, 0],
-        ),
-        (
-            16,
-            &[0xE1, 0x40, 0, 0, 0xFF, 0xFF, 0, 1, 3, 3, 0xD0, 0, 0, 0xFE],
-            0,
-            &[0xD0, 0, 0],
-        ),
-        (16, &[0xE2, 0x40, 0, 0, 0, 1, 0, 0], 5, &[]),
-        (16, &[0xE2, 0x4C, 0, 0], 3, &[]),
-        (4, &[0xE1, 0x40, 0, 0], 8, &[]),
-    ];
-    for (size, bytes, fault, message) in rows {
-        let held = t5_tag_holds(&rt, size, bytes)?;
-        assert!(rt; is_held(&held, fault, message), "at {bytes:?}: {held:?}");
+    for (size, bytes, fault, message) in AREAS.iter() {
+        let held = t5_tag_holds(&rt, *size, bytes)?;
+        assert!(rt; is_held(&held, *fault, message), "at {bytes:?}: {held:?}");
     }
     Ok(())
 }
