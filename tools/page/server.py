@@ -6,20 +6,20 @@ sentence of plain text.
 
 from __future__ import annotations
 
-import contextlib
 import itertools
 import json
 import secrets
 import select
 import socket
-from contextlib import suppress
+from contextlib import closing, suppress
 from http.server import BaseHTTPRequestHandler, ThreadingHTTPServer
 from pathlib import Path
-from typing import Any, Callable, Iterator
+from typing import Any, Callable, Generator
 
 import bench
 from page.cache import Cache
 from page.running import FORMS, Gone, NoProgram, Runner
+from page.saving import saved_page
 from page.shown import shown
 from page.sliding import Slider
 
@@ -109,6 +109,7 @@ class Handler(BaseHTTPRequestHandler):
     server_version = "nfc-page"
     sys_version = ""
     timeout = PATIENCE
+    has_begun = False
     server: Server
 
     def do_GET(self) -> None:
@@ -119,15 +120,25 @@ class Handler(BaseHTTPRequestHandler):
 
     def obey(self, obeyed: Callable[[str], None]) -> None:
         """Answers a request, or tells why not."""
+        self.has_begun = False
         try:
             self.check_origin()
             obeyed(self.name())
         except Refusal as refusal:
             self.refuse(refusal.status, str(refusal))
         except NoProgram as problem:
-            self.answer(503, TEXT, f"{problem}\n".encode())
+            self.fail(503, str(problem))
         except (Gone, OSError):
             self.close_connection = True
+        except Exception as problem:
+            self.fail(500, f"the server failed at this request ({type(problem).__name__})")
+
+    def fail(self, status: int, why: str) -> None:
+        """Tells why, unless an answer has begun already: that one is cut off."""
+        self.close_connection = True
+        with suppress(OSError):
+            if not self.has_begun:
+                self.refuse(status, why)
 
     def check_origin(self) -> None:
         """Another site's page can neither ask by another name of this machine, nor from its own origin."""
@@ -183,17 +194,19 @@ class Handler(BaseHTTPRequestHandler):
         self.wfile.write(body)
 
     def begin(self, status: int, kind: str, **headers: str) -> None:
+        self.has_begun = True
         self.send_response(status)
         for name, value in {"Content-Type": kind, **HEADERS, **headers}.items():
             self.send_header(name, value)
         self.end_headers()
 
-    def stream(self, kind: str, pieces: Iterator[bytes]) -> None:
+    def stream(self, kind: str, pieces: Generator[bytes, None, None]) -> None:
         """An answer whose pieces go out as they come. Where nothing can run, that is told before anything is sent."""
-        first = next(pieces, b"")
-        self.begin(200, kind, **{"Transfer-Encoding": "chunked"})
-        for piece in itertools.chain([first], pieces):
-            self.chunk(piece)
+        with closing(pieces):
+            first = next(pieces, b"")
+            self.begin(200, kind, **{"Transfer-Encoding": "chunked"})
+            for piece in itertools.chain([first], pieces):
+                self.chunk(piece)
         self.wfile.write(b"0\r\n\r\n")
 
     def chunk(self, piece: bytes) -> None:
@@ -266,7 +279,7 @@ def post_run(handler: Handler, asked: dict[str, Any]) -> None:
         raise Refusal(400, f"the form is one of {', '.join(FORMS)}")
     run = handler.server.runner.run(form, script_of(asked), handler.is_gone)
 
-    def pieces() -> Iterator[bytes]:
+    def pieces() -> Generator[bytes, None, None]:
         yield from run.pieces
         if run.ended:
             yield f"ended: {run.ended}\n".encode()
@@ -280,12 +293,19 @@ def post_shown(handler: Handler, asked: dict[str, Any]) -> None:
 
 def post_slide(handler: Handler, asked: dict[str, Any]) -> None:
     rows = handler.server.slider.rows(script_of(asked), handler.is_gone)
-    with contextlib.closing(rows):
+    with closing(rows):
         handler.stream(ROWS, (as_json(row) + b"\n" for row in rows))
+
+
+def post_save(handler: Handler, asked: dict[str, Any]) -> None:
+    text = saved_page(handler.server.slider, script_of(asked), gone=handler.is_gone)
+    name = 'attachment; filename="nfc-page.html"'
+    handler.answer(200, HTML, text.encode(), **{"Content-Disposition": name})
 
 
 POSTED: dict[str, Callable[[Handler, dict[str, Any]], None]] = {
     "run": post_run,
     "shown": post_shown,
     "slide": post_slide,
+    "save": post_save,
 }
