@@ -1,1 +1,467 @@
-/* The page. */
+/* The page: a script at the left, what goes over the air at the right, the slider below.
+
+   A saved file holds its runs in the element "saved": there nothing is asked of a server, and no script is run. All that
+   a script or a report says becomes text and never markup. */
+
+(() => {
+  "use strict";
+
+  const LINE_HEIGHT = 20;
+  const PADDING = 6;
+  const MOST_NUMBERS = 1001;
+  const MOST_HEARD = 30;
+  const MANY = 2000;
+  const FATES = [
+    ["pass", "Let it pass"],
+    ["damage", "Damage it"],
+    ["lose", "Lose it"],
+    ["break", "Break off: the field goes dark"],
+  ];
+
+  const at = (id) => document.getElementById(id);
+  const editor = at("script");
+  const saved = at("saved") ? JSON.parse(at("saved").textContent) : null;
+
+  /* base: the script that was run; script, data: what the ladder shows, a place of the slider or the base itself. */
+  const state = { base: null, baseShown: null, script: "", data: null, running: null, kept: new Map(), focus: null };
+
+  function make(name, className, text) {
+    const made = document.createElement(name);
+    if (className) made.className = className;
+    if (text !== undefined) made.textContent = text;
+    return made;
+  }
+
+  function say(sentence) {
+    at("said").textContent = sentence;
+  }
+
+  /* What is asked of the server ------------------------------------------------------------------------------------ */
+
+  async function answered(word, options) {
+    let answer;
+    try {
+      answer = await fetch(word, options);
+    } catch (error) {
+      if (error.name === "AbortError") throw error;
+      throw new Error("The server doesn't answer: is `nfc.py page` still running?");
+    }
+    if (!answer.ok) throw new Error((await answer.text()).trim() || `The server refused this, by ${answer.status}.`);
+    return answer;
+  }
+
+  function ask(word, body, signal) {
+    const headers = { "Content-Type": "application/json" };
+    return answered(word, { method: "POST", headers, body: JSON.stringify(body), signal });
+  }
+
+  async function eachPiece(answer, take) {
+    const reader = answer.body.pipeThrough(new TextDecoderStream()).getReader();
+    for (let next = await reader.read(); !next.done; next = await reader.read()) take(next.value);
+  }
+
+  async function eachLine(answer, take) {
+    let rest = "";
+    await eachPiece(answer, (piece) => {
+      const lines = (rest + piece).split("\n");
+      rest = lines.pop();
+      lines.filter((line) => line.trim()).forEach((line) => take(JSON.parse(line)));
+    });
+    if (rest.trim()) take(JSON.parse(rest));
+  }
+
+  /* What a script shows; asked once for each. */
+  function shownOf(script, signal) {
+    if (!state.kept.has(script)) {
+      const asked = ask("shown", { script }, signal).then((answer) => answer.json());
+      state.kept.set(script, asked);
+      asked.catch(() => state.kept.delete(script));
+    }
+    return state.kept.get(script);
+  }
+
+  /* The editor ------------------------------------------------------------------------------------------------------ */
+
+  function drawNumbers() {
+    const count = editor.value.split("\n").length;
+    const numbers = Array.from({ length: Math.min(count, MOST_NUMBERS) }, (_, index) => index + 1);
+    at("line-numbers").textContent = numbers.join("\n") + (count > MOST_NUMBERS ? "\n.." : "");
+    follow();
+  }
+
+  function follow() {
+    at("line-numbers").scrollTop = editor.scrollTop;
+    at("line-numbers").style.setProperty("transform", "none");
+    const line = Number(at("band").dataset.line || 0);
+    if (!line) return;
+    const top = PADDING + (line - 1) * LINE_HEIGHT - editor.scrollTop;
+    at("band").style.top = `${top}px`;
+    const isLow = top > editor.clientHeight / 2;
+    at("reason").style.top = isLow ? "" : `${top + LINE_HEIGHT + 2}px`;
+    at("reason").style.bottom = isLow ? `${editor.offsetHeight - top + 2}px` : "";
+  }
+
+  function unmark() {
+    at("band").dataset.line = "";
+    at("band").hidden = true;
+    at("reason").hidden = true;
+    at("reason").textContent = "";
+    editor.removeAttribute("aria-invalid");
+  }
+
+  function mark(refused) {
+    at("band").dataset.line = refused.line;
+    at("band").hidden = false;
+    const expected = refused.expected ? `\nExpected: ${refused.expected}` : "";
+    at("reason").textContent = `✗ Line ${refused.line}: ${refused.reason}${expected}`;
+    at("reason").hidden = false;
+    editor.setAttribute("aria-invalid", "true");
+    editor.scrollTop = Math.max(0, PADDING + (refused.line - 1) * LINE_HEIGHT - editor.clientHeight / 3);
+    follow();
+  }
+
+  function setScript(script) {
+    editor.value = script;
+    unmark();
+    drawNumbers();
+  }
+
+  /* What a run tells ------------------------------------------------------------------------------------------------ */
+
+  function count(number, name) {
+    return number === 1 ? `1 ${name}` : `${number} ${name}s`;
+  }
+
+  function outcome(shown) {
+    const entries = shown.data ? shown.data.entries : [];
+    const frames = entries.reduce((sum, entry) => sum + entry.frames.filter((frame) => frame.mark !== "!").length, 0);
+    const size = `${count(entries.length, "command")}, ${count(frames, "frame")}`;
+    if (shown.refused) return `Line ${shown.refused.line} is refused: ${shown.refused.reason} Before it: ${size}.`;
+    if (shown.status === 0) return `Every line was obeyed: ${size}.`;
+    return `The run ended with status ${shown.status}: ${size}.`;
+  }
+
+  function heard(shown) {
+    const entries = shown.data ? shown.data.entries : [];
+    const told = entries.slice(0, MOST_HEARD).map((entry) => `Line ${entry.line}: ${entry.answer || "cut off"}.`);
+    const more = entries.length - MOST_HEARD;
+    return told.join(" ") + (more > 0 ? ` And ${more} more.` : "");
+  }
+
+  function tell(shown, place) {
+    const parts = [make("p", shown.status === 0 ? "" : "bad", outcome(shown))];
+    if (place) parts.unshift(make("p", "", `Shown is the run of place ${place.at}, with its own line of fates.`));
+    if (shown.note) parts.push(make("p", "note", shown.note));
+    parts.push(make("p", "heard", heard(shown)));
+    at("result").replaceChildren(...parts);
+  }
+
+  /* The picture; of a place, the last entries open alone, and the view on the frame that is hit. */
+  function picture(data, place) {
+    state.data = data;
+    at("hint").hidden = !data || Boolean(saved);
+    if (!data) {
+      at("ladder").replaceChildren();
+      return;
+    }
+    const options = saved ? {} : { onFrame: (frame, entry) => setTimeout(() => openMenu(frame, entry)) };
+    const isLarge = data.entries.reduce((sum, entry) => sum + entry.frames.length, 0) > MANY;
+    drawLadder(at("ladder"), data, { ...options, folded: isLarge || Boolean(place) });
+    if (place) showPlace(place);
+    if (state.focus) focusAgain();
+  }
+
+  function showPlace(place) {
+    [...at("ladder").querySelectorAll(".fold")].slice(-2).forEach((button) => button.click());
+    const fate = { B: "break", D: "damage", L: "lose" }[place.fate];
+    const hit = [...at("ladder").querySelectorAll(`.piece .fate-${fate}`)].pop();
+    if (!hit) return;
+    hit.classList.add("here");
+    hit.scrollIntoView({ block: "nearest" });
+  }
+
+  function present(script, shown, place) {
+    state.script = script;
+    tell(shown, place);
+    at("report").textContent = shown.report;
+    if (!place && shown.refused) mark(shown.refused);
+    picture(shown.data, place);
+  }
+
+  /* Running --------------------------------------------------------------------------------------------------------- */
+
+  const slider = benchPage.slider({
+    section: at("slider"), about: at("slider-about"), choice: at("choice"), strip: at("strip"), range: at("place"),
+    told: at("told"), numbers: at("numbers"),
+  }, choosePlace);
+
+  async function choosePlace(place) {
+    state.chosen = place;
+    closeMenu();
+    if (!place) {
+      if (state.baseShown) present(state.base, state.baseShown);
+      return;
+    }
+    try {
+      const shown = saved ? await benchPage.opened(place.shown) : await shownOf(place.script);
+      if (state.chosen !== place) return;
+      if (shown) present(place.script, shown, place);
+      else at("result").replaceChildren(make("p", "", "The run of this place was left out of this file."));
+    } catch (error) {
+      if (state.chosen === place) at("result").replaceChildren(make("p", "bad", error.message));
+    }
+  }
+
+  async function slide(script, signal) {
+    await eachLine(await ask("slide", { script }, signal), (told) => {
+      if (signal.aborted) return;
+      if (told.at) slider.add(told);
+      else if (told.kind || told.none) slider.begin(told);
+      else if (told.error) slider.fail(told.error);
+    });
+  }
+
+  /* The script that is asked for, also out of a link that was pasted in its place; an empty one has a sentence. */
+  async function wanted() {
+    const link = benchPage.linkIn(editor.value);
+    if (link) await open(link);
+    if (editor.value.trim()) return editor.value;
+    throw new Error("The script is empty: choose an example, or type a command.");
+  }
+
+  async function runQuiet(script, signal) {
+    at("report-box").open = true;
+    at("report").textContent = "";
+    picture(null);
+    const answer = await ask("run", { form: "run quiet", script }, signal);
+    await eachPiece(answer, (piece) => at("report").append(piece));
+    at("result").replaceChildren(make("p", "", "The answers alone are below."));
+  }
+
+  async function runWhole(script, signal) {
+    const shown = await shownOf(script, signal);
+    if (signal.aborted) return;
+    Object.assign(state, { base: script, baseShown: shown });
+    present(script, shown);
+    if (!shown.refused && shown.data) await slide(script, signal);
+  }
+
+  async function run() {
+    if (state.running) state.running.abort();
+    const running = new AbortController();
+    Object.assign(state, { running, chosen: null });
+    closeMenu();
+    unmark();
+    slider.clear();
+    say("");
+    document.body.setAttribute("aria-busy", "true");
+    try {
+      const script = await wanted();
+      at("result").replaceChildren(make("p", "", "Running .."));
+      await keep(script);
+      await (at("form").value === "run" ? runWhole : runQuiet)(script, running.signal);
+    } catch (error) {
+      if (!running.signal.aborted) at("result").replaceChildren(make("p", "bad", error.message));
+    }
+    if (state.running === running) document.body.removeAttribute("aria-busy");
+  }
+
+  /* Links ----------------------------------------------------------------------------------------------------------- */
+
+  async function keep(script) {
+    history.replaceState(null, "", `#${await benchPage.pack(script)}`);
+  }
+
+  async function open(fragment) {
+    try {
+      setScript(await benchPage.unpack(fragment));
+    } catch (error) {
+      throw new Error("This link holds no script that can be read: a part of it may be missing.");
+    }
+  }
+
+  async function openAddress() {
+    if (location.hash.length < 2) return false;
+    try {
+      await open(location.hash.slice(1));
+      await run();
+    } catch (error) {
+      at("result").replaceChildren(make("p", "bad", error.message));
+    }
+    return true;
+  }
+
+  async function copy(text, sentence) {
+    try {
+      await navigator.clipboard.writeText(text);
+      say(sentence);
+    } catch (error) {
+      editor.select();
+      say("The browser doesn't let the page copy: the script is selected, so copy it yourself.");
+    }
+  }
+
+  async function copyLink() {
+    const here = location.href.split("#")[0];
+    const link = `${here}#${await benchPage.pack(editor.value)}`;
+    await copy(link, "The link is copied. Who runs the page too pastes it in the place of the script, and runs it.");
+  }
+
+  /* A frame's fate -------------------------------------------------------------------------------------------------- */
+
+  function closeMenu() {
+    at("menu").hidden = true;
+    at("menu").replaceChildren();
+  }
+
+  function choose(frame, entry, fate) {
+    closeMenu();
+    if (editor.value !== state.base) {
+      say("The script was changed since this run: run it first, then choose the frame.");
+      return;
+    }
+    const script = benchPage.withFate(state.script, state.data.entries, entry, frame, fate);
+    const added = script.split("\n").length - state.script.split("\n").length;
+    state.focus = { entry: state.data.entries.indexOf(entry) + added, frame: entry.frames.indexOf(frame) };
+    setScript(script);
+    run();
+  }
+
+  /* Behind the next run the focus is on the frame that was chosen. */
+  function focusAgain() {
+    const { entry, frame } = state.focus;
+    state.focus = null;
+    const section = at("ladder").querySelectorAll(".entry")[entry];
+    const row = section && section.querySelectorAll(".piece .frame")[frame];
+    if (row && row.tabIndex === 0) row.focus({ preventScroll: false });
+  }
+
+  function openMenu(frame, entry) {
+    const menu = at("menu");
+    const row = document.activeElement.closest(".frame") || at("ladder");
+    const items = FATES.map(([fate, text]) => {
+      const item = make("button", "", `${frame.fate === fate ? "● " : ""}${text}`);
+      Object.assign(item, { type: "button", tabIndex: -1 });
+      item.setAttribute("role", "menuitem");
+      item.addEventListener("click", () => choose(frame, entry, fate));
+      return item;
+    });
+    menu.replaceChildren(...items);
+    menu.hidden = false;
+    menu.back = row;
+    const box = row.getBoundingClientRect();
+    const left = Math.min(box.left + 40, document.documentElement.clientWidth - menu.offsetWidth - 4);
+    menu.style.left = `${Math.max(4, left) + scrollX}px`;
+    const above = box.bottom + menu.offsetHeight > innerHeight;
+    menu.style.top = `${(above ? Math.max(0, box.top - menu.offsetHeight) : box.bottom) + scrollY}px`;
+    items[Math.max(0, FATES.findIndex(([fate]) => fate === frame.fate))].focus({ preventScroll: true });
+  }
+
+  function onMenuKey(event) {
+    const items = [...at("menu").children];
+    const here = items.indexOf(document.activeElement);
+    const steps = { ArrowDown: here + 1, ArrowUp: here - 1, Home: 0, End: -1 };
+    if (event.key in steps) items.at(steps[event.key] % items.length).focus();
+    else if (event.key === "Escape" || event.key === "Tab") leaveMenu();
+    else return;
+    event.preventDefault();
+  }
+
+  function leaveMenu() {
+    const { back } = at("menu");
+    closeMenu();
+    if (back && back.focus) back.focus({ preventScroll: true });
+  }
+
+  /* Saving, and a saved file ---------------------------------------------------------------------------------------- */
+
+  async function save() {
+    say("The file is made ..");
+    try {
+      if (!editor.value.trim()) throw new Error("The script is empty: there is nothing to save.");
+      const file = await (await ask("save", { script: editor.value })).blob();
+      const link = make("a", "");
+      Object.assign(link, { href: URL.createObjectURL(file), download: "nfc-page.html" });
+      link.click();
+      setTimeout(() => URL.revokeObjectURL(link.href), 60000);
+      say("The file is saved: it shows this script and its runs without a server.");
+    } catch (error) {
+      say(error.message);
+    }
+  }
+
+  async function showSaved() {
+    for (const id of ["choose", "run", "form", "link", "save"]) at(id).hidden = true;
+    at("intro").textContent = "A saved script and its runs. Nothing is run here; the script can be read and copied.";
+    const all = await benchPage.opened(saved);
+    editor.readOnly = true;
+    setScript(all.script);
+    Object.assign(state, { base: all.script, baseShown: await benchPage.opened(all.shown) });
+    if (all.left_out) say(all.left_out);
+    present(all.script, state.baseShown);
+    if (all.first) slider.begin(all.first);
+    (all.slides || []).forEach((told) => slider.add(told));
+  }
+
+  /* Examples, and the beginning ------------------------------------------------------------------------------------- */
+
+  function showExample(example) {
+    at("about").textContent = example.about.map((line) => line.replace(/^# ?/, "")).join("\n");
+    at("about").hidden = false;
+    setScript(example.script);
+    run();
+  }
+
+  async function offerExamples() {
+    const examples = await (await answered("examples")).json();
+    const first = make("option", "", "choose one ..");
+    first.value = "";
+    at("example").replaceChildren(first, ...examples.map((example) => make("option", "", example.name)));
+    at("example").addEventListener("change", () => {
+      const chosen = examples.find((example) => example.name === at("example").value);
+      if (chosen) showExample(chosen);
+    });
+    return examples;
+  }
+
+  function onEdit() {
+    unmark();
+    drawNumbers();
+    at("about").hidden = true;
+    at("example").value = "";
+  }
+
+  function listen() {
+    editor.addEventListener("input", onEdit);
+    editor.addEventListener("scroll", follow);
+    editor.addEventListener("keydown", (event) => {
+      if (event.key === "Enter" && (event.ctrlKey || event.metaKey) && !saved) run();
+    });
+    at("run").addEventListener("click", run);
+    at("save").addEventListener("click", save);
+    at("copy").addEventListener("click", () => copy(editor.value, "The script is copied."));
+    at("link").addEventListener("click", copyLink);
+    at("menu").addEventListener("keydown", onMenuKey);
+    document.addEventListener("pointerdown", (event) => {
+      if (!at("menu").contains(event.target)) closeMenu();
+    });
+    window.addEventListener("hashchange", openAddress);
+    window.addEventListener("beforeprint", () => { at("printed").textContent = editor.value; });
+  }
+
+  async function start() {
+    listen();
+    if (saved) return showSaved();
+    const examples = await offerExamples();
+    const isOpened = await openAddress();
+    const first = examples.find((example) => example.name.startsWith("write-broken-off")) || examples[0];
+    if (!isOpened && first) {
+      at("example").value = first.name;
+      showExample(first);
+    }
+    return undefined;
+  }
+
+  drawNumbers();
+  start().catch((error) => at("result").replaceChildren(make("p", "bad", error.message)));
+})();

@@ -1,0 +1,200 @@
+/* The slider over the transmissions of a last write or put: what each place tells, its colour and form, the numbers.
+
+   benchPage.slider(parts, show) gives { begin, add, end, clear }.
+     parts  the elements: { section, about, choice, strip, range, told, numbers }
+     show   function (script), called with the script of the chosen place, or null for the run as it is */
+
+(() => {
+  "use strict";
+
+  const FATES = { B: "broken off", D: "damaged", L: "lost" };
+  const MOST_GLYPHS = 64;
+  const SHOW_AFTER = 120;
+  const DRAW_AFTER = 60;
+
+  const KINDS = {
+    old: { glyph: "■", label: "the old message" },
+    empty: { glyph: "□", label: "empty" },
+    new: { glyph: "★", label: "the new message" },
+    other: { glyph: "!", label: "something else" },
+    both: { glyph: "★", label: "accepted, and told so" },
+    untold: { glyph: "◆", label: "accepted, but not told so" },
+    neither: { glyph: "□", label: "not accepted, and not told so" },
+    false: { glyph: "!", label: "told so, but not accepted" },
+    waiting: { glyph: "·", label: "not run yet" },
+  };
+  const WRITE = ["old", "empty", "new", "other"];
+  const PUT = ["both", "untold", "neither", "false"];
+
+  function make(name, className, text) {
+    const made = document.createElement(name);
+    if (className) made.className = className;
+    if (text !== undefined) made.textContent = text;
+    return made;
+  }
+
+  const sum = (view, kind) => [...view.slides.values()].filter((slide) => kindOf(view, slide) === kind).length;
+
+  /* How many messages stood in the inbox before the put: the fewest that any place tells. */
+  function before(view) {
+    return Math.min(...[...view.slides.values()].map((slide) => (slide.accepted || []).length));
+  }
+
+  function kindOf(view, slide) {
+    if (!slide) return "waiting";
+    if (view.kind === "write") return WRITE.includes(slide.told) ? slide.told : "other";
+    const isAccepted = (slide.accepted || []).length > view.before;
+    if (slide.answer === "success") return isAccepted ? "both" : "false";
+    return isAccepted ? "untold" : "neither";
+  }
+
+  function cell(view, at, fate) {
+    const kind = kindOf(view, view.slides.get(`${at}${fate}`));
+    const isHere = at === view.at && fate === view.fate;
+    const made = make("span", `cell cell-${kind}${isHere ? " here" : ""}`);
+    made.dataset.at = at;
+    made.dataset.fate = fate;
+    if (view.places <= MOST_GLYPHS) made.textContent = KINDS[kind].glyph;
+    return made;
+  }
+
+  function row(view, fate) {
+    const made = make("div", "row");
+    if (view.fates.length > 1) made.append(make("span", "row-name", FATES[fate]));
+    const cells = make("div", "cells");
+    for (let at = 1; at <= view.places; at += 1) cells.append(cell(view, at, fate));
+    made.append(cells);
+    return made;
+  }
+
+  function numbers(view) {
+    return (view.kind === "write" ? WRITE : PUT).map((kind) => {
+      const count = sum(view, kind);
+      const item = make("li", `number number-${kind}`);
+      item.dataset.kind = kind;
+      item.append(make("span", `glyph cell-${kind}`, KINDS[kind].glyph), " ", make("b", "", String(count)));
+      item.append(` ${KINDS[kind].label}`);
+      item.hidden = count === 0 && (kind === "other" || kind === "false");
+      return item;
+    });
+  }
+
+  function inbox(view, slide) {
+    const accepted = slide.accepted || [];
+    if (!accepted.length) return "Its inbox is empty.";
+    return `Its inbox: ${accepted.map((one) => (one.length > 60 ? `${one.slice(0, 60)} ..` : one)).join(" ")}.`;
+  }
+
+  /* What the chosen place tells, as one or two sentences. */
+  function told(view) {
+    const what = view.kind === "write" ? "The tag isn't pulled away" : "No transmission is hit";
+    if (view.at === 0) return `${what}: this is the run as the script says it.`;
+    const start = `Transmission ${view.at} of ${view.places} is ${FATES[view.fate]}`;
+    const slide = view.slides.get(`${view.at}${view.fate}`);
+    if (!slide) return `${start}: not run yet.`;
+    const kind = kindOf(view, slide);
+    const answer = `the ${view.kind} answers "${slide.answer}"`;
+    if (view.kind === "put") return `${start}: ${answer}. The message is ${KINDS[kind].label}. ${inbox(view, slide)}`;
+    const held = kind === "other" ? `tells "${slide.told}"` : `finds ${kind === "empty" ? "it " : ""}${KINDS[kind].label}`;
+    return `${start}: ${answer}, and the read behind it ${held}.`;
+  }
+
+  function draw(view) {
+    const { parts } = view;
+    view.before = view.kind === "put" ? before(view) : 0;
+    parts.strip.replaceChildren(...view.fates.map((fate) => row(view, fate)));
+    parts.numbers.replaceChildren(...numbers(view));
+    tell(view);
+  }
+
+  function tell(view) {
+    const sentence = told(view);
+    view.parts.told.textContent = sentence;
+    view.parts.range.setAttribute("aria-valuetext", sentence);
+  }
+
+  function mark(view) {
+    for (const one of view.parts.strip.querySelectorAll(".here")) one.classList.remove("here");
+    const here = view.parts.strip.querySelector(`[data-at="${view.at}"][data-fate="${view.fate}"]`);
+    if (here) here.classList.add("here");
+    tell(view);
+  }
+
+  function move(view, at, fate) {
+    Object.assign(view, { at, fate });
+    view.parts.range.value = String(at);
+    for (const one of view.parts.choice.querySelectorAll("input")) one.checked = one.value === fate;
+    mark(view);
+    clearTimeout(view.timer);
+    view.timer = setTimeout(() => {
+      const slide = view.slides.get(`${at}${fate}`);
+      if (at === 0 || slide) view.show(at === 0 ? null : slide);
+    }, SHOW_AFTER);
+  }
+
+  function choice(view) {
+    const made = view.fates.map((fate) => {
+      const label = make("label", "");
+      const input = make("input", "");
+      Object.assign(input, { type: "radio", name: "fate", value: fate, checked: fate === view.fate });
+      input.addEventListener("change", () => move(view, view.at, fate));
+      label.append(input, ` ${FATES[fate]}`);
+      return label;
+    });
+    view.parts.choice.replaceChildren(make("legend", "", "The transmission is"), ...made);
+    view.parts.choice.hidden = view.fates.length < 2;
+  }
+
+  function begin(view, first) {
+    clear(view);
+    view.parts.section.hidden = false;
+    if (first.none) {
+      view.parts.about.textContent = first.none;
+      view.parts.section.classList.add("none");
+      return;
+    }
+    const { kind, places } = first;
+    Object.assign(view, { kind, places, fates: kind === "put" ? ["B", "D", "L"] : ["B"] });
+    Object.assign(view.parts.range, { min: 0, max: places, value: 0, disabled: false });
+    const what = kind === "write" ? "the tag is pulled away, and read again" : "the frame is hit, and the inbox is told";
+    view.parts.about.textContent = `The ${kind} of line ${first.line} has ${places} transmissions. At each of them ${what}.`;
+    choice(view);
+    draw(view);
+  }
+
+  function add(view, slide) {
+    view.slides.set(`${slide.at}${slide.fate}`, slide);
+    if (view.isWaiting) return;
+    view.isWaiting = true;
+    setTimeout(() => {
+      view.isWaiting = false;
+      if (view.kind) draw(view);
+    }, DRAW_AFTER);
+  }
+
+  function clear(view) {
+    clearTimeout(view.timer);
+    Object.assign(view, { slides: new Map(), kind: "", places: 0, at: 0, fate: "B", fates: ["B"], before: 0 });
+    view.parts.section.hidden = true;
+    view.parts.section.classList.remove("none");
+    for (const part of [view.parts.strip, view.parts.numbers, view.parts.choice]) part.replaceChildren();
+    view.parts.told.textContent = "";
+    view.parts.range.disabled = true;
+  }
+
+  benchPage.slider = (parts, show) => {
+    const view = { parts, show };
+    clear(view);
+    parts.range.addEventListener("input", () => move(view, Number(parts.range.value), view.fate));
+    parts.strip.addEventListener("click", (event) => {
+      const { at, fate } = event.target.dataset;
+      if (at) move(view, Number(at), fate);
+    });
+    return {
+      begin: (first) => begin(view, first),
+      add: (slide) => add(view, slide),
+      fail: (sentence) => begin(view, { none: sentence }),
+      clear: () => clear(view),
+    };
+  };
+})();
