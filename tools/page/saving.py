@@ -12,19 +12,20 @@ import time
 import zlib
 from concurrent.futures import ThreadPoolExecutor
 from dataclasses import dataclass
-from pathlib import Path
 from typing import Any, Callable, Iterator
 
 from frames.words import counted
 from page.file import as_json
+from page.parts import FRAME, SCRIPTS, STYLES, joined
 from page.running import never
 from page.shown import shown
 from page.sliding import FATES, WORKERS, Slider
 
-HERE = Path(__file__).parent
 STYLE = '<link rel="stylesheet" href="page.css">'
 SCRIPT = '<script src="page.js"></script>'
 CHARSET = '<meta charset="utf-8">'
+SPARED = 0.97
+PLACEHOLDER = 16
 POLICY = "default-src 'none'; style-src 'unsafe-inline'; script-src 'unsafe-inline'; img-src data:"
 
 
@@ -38,26 +39,25 @@ class Room:
 
 def saved_page(slider: Slider, script: bytes, room: Room = Room(), gone: Callable[[], bool] = never) -> str:
     """The file's text."""
-    return with_data(as_json(saved(slider, script, room, gone)))
+    return with_data(as_json(packed(saved(slider, script, room, gone))))
 
 
 def saved(slider: Slider, script: bytes, room: Room, gone: Callable[[], bool]) -> dict[str, Any]:
     """What the file holds."""
     until = time.monotonic() + room.seconds
     left_out: list[str] = []
-    data = {"script": script.decode("utf-8", "surrogateescape"), "shown": None, "slide": None}
-    size = room.size - len(with_data("")) - len(as_json(data))
-    own, slide = packed_shown(slider, script, gone), the_slide(slider, script, gone)
-    data["shown"], size = fitting(own, size, "the script's own report", left_out)
-    data["slide"], size = fitting(packed(slide), size, "the slider", left_out)
-    rows = slide["rows"] if data["slide"] else []
-    data["slides"] = inside(slider, [row["script"] for row in rows], size, until, gone)
-    missing = data["slides"].count(None)
+    text = script.decode("utf-8", "surrogateescape")
+    size = int(room.size * SPARED) - len(with_data("")) - packed_size(text)
+    own, size = fitting(packed_shown(slider, script, gone), size, "the script's own report", left_out)
+    slide, size = fitting(the_slide(slider, script, gone), size, "the slider", left_out)
+    rows = slide["rows"] if slide else []
+    slides = inside(slider, [row["script"] for row in rows], size, until, gone)
+    missing = slides.count(None)
     if missing:
         left_out.append(f"the runs of {missing} of {counted(len(rows), 'place')}")
     why = f"the file would have more than {room.size:,} bytes, or its runs take longer than {room.seconds:g} seconds"
-    data["left_out"] = f"Left out, as {why}: {', '.join(left_out)}." if left_out else None
-    return data
+    told = f"Left out, as {why}: {', '.join(left_out)}." if left_out else None
+    return {"script": text, "shown": own, "slide": slide, "slides": slides, "left_out": told}
 
 
 def the_slide(slider: Slider, script: bytes, gone: Callable[[], bool]) -> dict[str, Any]:
@@ -70,9 +70,9 @@ def the_slide(slider: Slider, script: bytes, gone: Callable[[], bool]) -> dict[s
     return {"head": head, "rows": ordered, "done": rows[-1]["done"]}
 
 
-def fitting(part: dict[str, str], size: int, name: str, left_out: list[str]) -> tuple[dict[str, str] | None, int]:
+def fitting(part: dict[str, Any], size: int, name: str, left_out: list[str]) -> tuple[dict[str, Any] | None, int]:
     """A part, if there is room for it, and how much is left then."""
-    needed = len(as_json(part))
+    needed = packed_size(part)
     if needed <= size:
         return part, size - needed
     left_out.append(name)
@@ -84,7 +84,7 @@ def inside(
 ) -> list[dict[str, str] | None]:
     """The packed runs of the places, none where there was no room or no time left for one."""
     slides: list[dict[str, str] | None] = [None] * len(scripts)
-    size -= len(as_json(slides))
+    size -= PLACEHOLDER * len(scripts)
 
     def late() -> bool:
         return time.monotonic() > until or gone()
@@ -132,11 +132,13 @@ def packed(value: Any) -> dict[str, str]:
     return {"z": base64.b64encode(zlib.compress(text, 9)).decode()}
 
 
+def packed_size(value: Any) -> int:
+    return len(packed(value)["z"])
+
+
 def with_data(data: str) -> str:
     """The page with its style, its script and this data inside."""
-    style = joined("ladder.css", "page.css")
-    script = joined("ladder.js", "page.js")
-    page = (HERE / "page.html").read_text("utf-8")
+    style, script, page = joined(STYLES), joined(SCRIPTS), joined(FRAME)
     policy = f'{CHARSET}\n<meta http-equiv="Content-Security-Policy" content="{POLICY}">'
     held = f'<script type="application/json" id="saved">{data}</script>\n<script>\n{script}</script>'
     for place, part in ((CHARSET, policy), (STYLE, f"<style>\n{style}</style>"), (SCRIPT, held)):
@@ -146,6 +148,3 @@ def with_data(data: str) -> str:
         page = before + part + behind
     return page
 
-
-def joined(*names: str) -> str:
-    return "".join((HERE / name).read_text("utf-8") for name in names)

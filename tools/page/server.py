@@ -13,17 +13,16 @@ import select
 import socket
 from contextlib import closing, suppress
 from http.server import BaseHTTPRequestHandler, ThreadingHTTPServer
-from pathlib import Path
 from typing import Any, Callable, Generator
 
 import bench
 from page.cache import Cache
+from page.parts import FRAME, SCRIPTS, STYLES, joined
 from page.running import FORMS, Gone, NoProgram, Runner
 from page.saving import saved_page
 from page.shown import shown
 from page.sliding import Slider
 
-HERE = Path(__file__).parent
 EXAMPLES = bench.ROOT / "examples"
 ADDRESS = "127.0.0.1"
 NAMES = (ADDRESS, "localhost")
@@ -37,9 +36,9 @@ HTML = "text/html; charset=utf-8"
 JSON = "application/json"
 ROWS = "application/x-ndjson"
 FILES = {
-    "": (HTML, ("page.html",)),
-    "page.js": ("text/javascript; charset=utf-8", ("ladder.js", "page.js")),
-    "page.css": ("text/css; charset=utf-8", ("ladder.css", "page.css")),
+    "": (HTML, FRAME),
+    "page.js": ("text/javascript; charset=utf-8", SCRIPTS),
+    "page.css": ("text/css; charset=utf-8", STYLES),
 }
 POLICY = "; ".join(
     (
@@ -160,7 +159,7 @@ class Handler(BaseHTTPRequestHandler):
             self.answer(200, JSON, as_json(examples()))
         elif name in FILES:
             kind, parts = FILES[name]
-            self.answer(200, kind, b"".join((HERE / part).read_bytes() for part in parts))
+            self.answer(200, kind, joined(parts).encode())
         elif name in POSTED:
             raise Refusal(405, f"{name} is asked by POST")
         else:
