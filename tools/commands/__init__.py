@@ -10,7 +10,7 @@ from __future__ import annotations
 import importlib
 import importlib.util
 
-IN_ORDER = ("run", "why", "annotate", "ladder", "pcap", "place", "dump", "ndef")
+IN_ORDER = ("run", "why", "annotate", "ladder", "page", "pcap", "place", "dump", "ndef")
 WIDTH = max(map(len, IN_ORDER))
 
 

@@ -1,0 +1,267 @@
+"""Runs of the program on a script: with no shell, its output as it comes, within limits, and at most four at once.
+
+A script is handed over as a file that has no name, so that no thread is needed to feed the program. Each run has a
+process group of its own, which is ended whole: nothing that a run started is left behind.
+"""
+
+from __future__ import annotations
+
+import os
+import re
+import selectors
+import shutil
+import signal
+import subprocess
+import tempfile
+import time
+from contextlib import contextmanager, suppress
+from dataclasses import dataclass, field
+from pathlib import Path
+from threading import BoundedSemaphore, Lock
+from typing import Callable, Iterator
+
+import bench
+from commands.given import REPORT_LINE
+
+FORMS = {"run": ("run",), "run quiet": ("run", "quiet")}
+AT_ONCE = 4
+PIECE = 1 << 16
+TICK = 0.2
+SOURCE = bench.ROOT / "crates" / "nfc_bench"
+ENDED = re.compile(rb"run=ended status=([0-9]+)")
+
+NOT_BUILT = "The built program isn't there: `rt run` in crates/nfc_bench proves and builds it."
+UNPROVED = f"{NOT_BUILT} Meanwhile `rt try` runs it without proof, half a minute each time."
+
+
+class NoProgram(Exception):
+    """There is nothing to run."""
+
+
+class Gone(Exception):
+    """Nobody waits for this run any longer, or the server ends."""
+
+
+@dataclass(frozen=True)
+class Limits:
+    """How long a run may take, and how many bytes it may write."""
+
+    seconds: float = 20
+    size: int = 64 << 20
+
+    def too_long(self) -> str:
+        return f"the program was ended after {self.seconds:g} seconds"
+
+    def too_much(self) -> str:
+        return f"the program was ended after {self.size >> 20 or self.size} {'MB' if self.size >> 20 else 'bytes'} of output"
+
+
+@dataclass(frozen=True)
+class Program:
+    """What is run: the words before those of a form, where, within which limits, and what a reader is told of it."""
+
+    words: tuple[str, ...]
+    limits: Limits = Limits()
+    folder: Path | None = None
+    note: str | None = None
+
+    @property
+    def is_tried(self) -> bool:
+        return self.note is not None
+
+
+def found() -> Program:
+    """The built program, or else `rt try`, where it is on the path and the program's source is here."""
+    built = bench.program()
+    if built is not None:
+        return Program((str(built),))
+    tool = shutil.which("rt")
+    if tool is None or not SOURCE.is_dir():
+        raise NoProgram(NOT_BUILT)
+    return Program((tool, "try", "--"), Limits(seconds=180), SOURCE, UNPROVED)
+
+
+@dataclass
+class Run:
+    """One run: its pieces of output, and behind them its status and the sentence of a limit that ended it."""
+
+    pieces: Iterator[bytes] = field(default_factory=lambda: iter(()))
+    status: int | None = None
+    ended: str | None = None
+    note: str | None = None
+
+
+@dataclass(frozen=True)
+class Ran:
+    """A run that is over, with all its output."""
+
+    status: int | None
+    output: bytes
+    ended: str | None
+    note: str | None
+
+
+def never() -> bool:
+    return False
+
+
+class Runner:
+    """Starts runs, lets at most four run at once, and ends them all."""
+
+    def __init__(self, find: Callable[[], Program] = found, at_once: int = AT_ONCE) -> None:
+        self.find = find
+        self.slots = BoundedSemaphore(at_once)
+        self.lock = Lock()
+        self.processes: set[subprocess.Popen[bytes]] = set()
+        self.is_stopped = False
+
+    def run(self, form: str, script: bytes, gone: Callable[[], bool] = never) -> Run:
+        """A run whose pieces are to be taken one after another; it waits for its turn before the first."""
+        program = self.find()
+        run = Run(note=program.note)
+        pieces = self.pieces(run, program, form, script, gone)
+        run.pieces = tried(run, pieces) if program.is_tried else pieces
+        return run
+
+    def whole(self, form: str, script: bytes, gone: Callable[[], bool] = never) -> Ran:
+        """A run from beginning to end."""
+        run = self.run(form, script, gone)
+        output = b"".join(run.pieces)
+        return Ran(run.status, output, run.ended, run.note)
+
+    def pieces(
+        self, run: Run, program: Program, form: str, script: bytes, gone: Callable[[], bool]
+    ) -> Iterator[bytes]:
+        with self.turn(gone), self.started(program, form, script) as process:
+            deadline = time.monotonic() + program.limits.seconds
+            for piece in within(program.limits, run, output_of(process, deadline, gone)):
+                yield piece
+            run.status = self.ending(process, deadline, run, program.limits)
+
+    @contextmanager
+    def turn(self, gone: Callable[[], bool]) -> Iterator[None]:
+        """One of the few places; who waits for one may go away meanwhile."""
+        while not self.slots.acquire(timeout=TICK):
+            if gone() or self.is_stopped:
+                raise Gone
+        try:
+            yield
+        finally:
+            self.slots.release()
+
+    @contextmanager
+    def started(self, program: Program, form: str, script: bytes) -> Iterator[subprocess.Popen[bytes]]:
+        """The process, which has ended with all that it started when this is left."""
+        with tempfile.TemporaryFile() as source:
+            source.write(script)
+            source.seek(0)
+            process = self.start(program, form, source.fileno())
+        try:
+            yield process
+        finally:
+            end(process)
+            with self.lock:
+                self.processes.discard(process)
+
+    def start(self, program: Program, form: str, source: int) -> subprocess.Popen[bytes]:
+        errors = subprocess.STDOUT if program.is_tried else subprocess.DEVNULL
+        with self.lock:
+            if self.is_stopped:
+                raise Gone
+            try:
+                process = subprocess.Popen(
+                    [*program.words, *FORMS[form]],
+                    stdin=source,
+                    stdout=subprocess.PIPE,
+                    stderr=errors,
+                    cwd=program.folder,
+                    start_new_session=True,
+                )
+            except OSError as problem:
+                raise NoProgram(f"The program can't be started: {problem.strerror}.") from None
+            self.processes.add(process)
+        return process
+
+    def ending(self, process: subprocess.Popen[bytes], deadline: float, run: Run, limits: Limits) -> int | None:
+        """The status behind the last piece; none where a limit or the server ended the program."""
+        if self.is_stopped:
+            raise Gone
+        if run.ended is not None:
+            return None
+        try:
+            return process.wait(max(0.0, deadline - time.monotonic()))
+        except subprocess.TimeoutExpired:
+            run.ended = limits.too_long()
+            return None
+
+    def stop(self) -> None:
+        """Ends all that runs, and lets nothing begin any more."""
+        with self.lock:
+            self.is_stopped = True
+            for process in self.processes:
+                kill(process)
+
+
+class OutOfTime(Exception):
+    """The time of a run is over."""
+
+
+def output_of(process: subprocess.Popen[bytes], deadline: float, gone: Callable[[], bool]) -> Iterator[bytes]:
+    """What the process writes, as it comes."""
+    descriptor = process.stdout.fileno()
+    with selectors.DefaultSelector() as waiting:
+        waiting.register(descriptor, selectors.EVENT_READ)
+        while True:
+            left = deadline - time.monotonic()
+            if left <= 0:
+                raise OutOfTime
+            if gone():
+                raise Gone
+            if not waiting.select(min(left, TICK)):
+                continue
+            piece = os.read(descriptor, PIECE)
+            if not piece:
+                return
+            yield piece
+
+
+def within(limits: Limits, run: Run, pieces: Iterator[bytes]) -> Iterator[bytes]:
+    """The pieces up to a limit. Where one is reached, the run has its sentence."""
+    left = limits.size
+    try:
+        for piece in pieces:
+            yield piece[:left]
+            left -= len(piece)
+            if left < 0:
+                run.ended = limits.too_much()
+                return
+    except OutOfTime:
+        run.ended = limits.too_long()
+
+
+def tried(run: Run, pieces: Iterator[bytes]) -> Iterator[bytes]:
+    """Of what `rt try` writes, the report's lines alone. The program's status is in a line of its own."""
+    status = None
+    kept = b""
+    for piece in pieces:
+        *lines, kept = (kept + piece).split(b"\n")
+        for line in lines:
+            ended = ENDED.match(line)
+            status = int(ended[1]) if ended else status
+        yield b"".join(line + b"\n" for line in lines if REPORT_LINE.fullmatch(line.decode("ascii", "replace")))
+    run.status = run.status if status is None else status
+
+
+def end(process: subprocess.Popen[bytes]) -> None:
+    """Ends the process, where it still runs, and takes its status, so that nothing of it stays."""
+    if process.poll() is None:
+        kill(process)
+        process.wait()
+    process.stdout.close()
+
+
+def kill(process: subprocess.Popen[bytes]) -> None:
+    """Ends the process with all that it started."""
+    if process.returncode is None:
+        with suppress(ProcessLookupError, PermissionError):
+            os.killpg(process.pid, signal.SIGKILL)

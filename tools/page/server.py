@@ -1,0 +1,277 @@
+"""The page's server: this machine alone, one secret address, three files of its own, and runs of the program.
+
+What a request names is looked up in a table, and never becomes the name of a file. What is refused is told in one
+sentence of plain text.
+"""
+
+from __future__ import annotations
+
+import itertools
+import json
+import secrets
+import select
+import socket
+from contextlib import suppress
+from http.server import BaseHTTPRequestHandler, ThreadingHTTPServer
+from pathlib import Path
+from typing import Any, Callable, Iterator
+
+import bench
+from page.running import FORMS, Gone, NoProgram, Runner
+from page.shown import shown
+
+HERE = Path(__file__).parent
+EXAMPLES = bench.ROOT / "examples"
+ADDRESS = "127.0.0.1"
+NAMES = (ADDRESS, "localhost")
+MOST_BODY = 1_000_000
+MOST_DRAINED = 8_000_000
+PATIENCE = 30
+PIECE = 1 << 16
+
+TEXT = "text/plain; charset=utf-8"
+HTML = "text/html; charset=utf-8"
+JSON = "application/json"
+ROWS = "application/x-ndjson"
+FILES = {
+    "": (HTML, ("page.html",)),
+    "page.js": ("text/javascript; charset=utf-8", ("ladder.js", "fates.js", "packing.js", "asking.js", "editor.js", "menu.js", "slider.js", "page.js")),
+    "page.css": ("text/css; charset=utf-8", ("ladder.css", "page.css")),
+}
+POLICY = "; ".join(
+    (
+        "default-src 'none'",
+        "script-src 'self'",
+        "style-src 'self' 'unsafe-inline'",
+        "connect-src 'self'",
+        "img-src 'self' data:",
+        "base-uri 'none'",
+        "form-action 'none'",
+        "frame-ancestors 'none'",
+    )
+)
+HEADERS = {
+    "Cache-Control": "no-store",
+    "Content-Security-Policy": POLICY,
+    "Referrer-Policy": "no-referrer",
+    "X-Content-Type-Options": "nosniff",
+    "X-Frame-Options": "DENY",
+}
+
+
+class Refusal(Exception):
+    """A request that isn't obeyed: its status, and why, in one sentence."""
+
+    def __init__(self, status: int, why: str) -> None:
+        super().__init__(why)
+        self.status = status
+
+
+class Server(ThreadingHTTPServer):
+    """Listens, with a token that only the printed address has."""
+
+    daemon_threads = True
+    block_on_close = False
+    request_queue_size = 64
+
+    def __init__(self, port: int, runner: Runner) -> None:
+        super().__init__((ADDRESS, port), Handler)
+        self.runner = runner
+        self.token = secrets.token_hex(16)
+        self.hosts = {f"{name}:{self.server_port}" for name in NAMES}
+
+    @property
+    def address(self) -> str:
+        return f"http://{ADDRESS}:{self.server_port}/{self.token}/"
+
+    def server_bind(self) -> None:
+        """Binds without asking who this machine is, which may take a while where there is no network."""
+        self.socket.bind(self.server_address)
+        self.server_address = self.socket.getsockname()
+        self.server_name, self.server_port = self.server_address[:2]
+
+    def handle_error(self, request: Any, client_address: Any) -> None:
+        """A connection that fails concerns its client alone."""
+
+    def stop(self) -> None:
+        self.runner.stop()
+        self.server_close()
+
+
+class Handler(BaseHTTPRequestHandler):
+    """One connection, request after request."""
+
+    protocol_version = "HTTP/1.1"
+    server_version = "nfc-page"
+    sys_version = ""
+    timeout = PATIENCE
+    server: Server
+
+    def do_GET(self) -> None:
+        self.obey(self.get)
+
+    def do_POST(self) -> None:
+        self.obey(self.post)
+
+    def obey(self, obeyed: Callable[[str], None]) -> None:
+        """Answers a request, or tells why not."""
+        try:
+            self.check_origin()
+            obeyed(self.name())
+        except Refusal as refusal:
+            self.refuse(refusal.status, str(refusal))
+        except NoProgram as problem:
+            self.answer(503, TEXT, f"{problem}\n".encode())
+        except (Gone, OSError):
+            self.close_connection = True
+
+    def check_origin(self) -> None:
+        """Another site's page can neither ask by another name of this machine, nor from its own origin."""
+        host, origin = self.headers.get_all("Host", []), self.headers.get_all("Origin", [])
+        if len(host) != 1 or host[0].lower() not in self.server.hosts:
+            raise Refusal(403, "this Host isn't the page's")
+        if any(one.lower() != f"http://{host[0].lower()}" for one in origin):
+            raise Refusal(403, "this Origin isn't the page's")
+
+    def name(self) -> str:
+        """What stands behind the token."""
+        parts = self.path.split("/")
+        if len(parts) != 3 or parts[0] or not secrets.compare_digest(parts[1].encode(), self.server.token.encode()):
+            raise Refusal(404, "there is nothing at this address")
+        return parts[2]
+
+    def get(self, name: str) -> None:
+        if name == "examples":
+            self.answer(200, JSON, as_json(examples()))
+        elif name in FILES:
+            kind, parts = FILES[name]
+            self.answer(200, kind, b"".join((HERE / part).read_bytes() for part in parts))
+        elif name in POSTED:
+            raise Refusal(405, f"{name} is asked by POST")
+        else:
+            raise Refusal(404, "there is nothing at this address")
+
+    def post(self, name: str) -> None:
+        if name not in POSTED:
+            raise Refusal(405 if name in FILES or name == "examples" else 404, "nothing is posted to this address")
+        POSTED[name](self, self.asked())
+
+    def asked(self) -> dict[str, Any]:
+        """The request's body."""
+        length = self.headers.get("Content-Length", "")
+        if "Transfer-Encoding" in self.headers or not (length.isascii() and length.isdecimal()):
+            raise Refusal(411, "the request has to say its length")
+        if int(length[:20]) > MOST_BODY:
+            raise Refusal(413, f"a request has at most {MOST_BODY} bytes")
+        body = self.rfile.read(int(length))
+        if len(body) != int(length):
+            raise Gone
+        try:
+            asked = json.loads(body)
+        except (ValueError, RecursionError):
+            raise Refusal(400, "the request is no JSON") from None
+        if not isinstance(asked, dict):
+            raise Refusal(400, "the request is no object of JSON")
+        return asked
+
+    def answer(self, status: int, kind: str, body: bytes, **more: str) -> None:
+        self.begin(status, kind, **{"Content-Length": str(len(body))}, **more)
+        self.wfile.write(body)
+
+    def begin(self, status: int, kind: str, **headers: str) -> None:
+        self.send_response(status)
+        for name, value in {"Content-Type": kind, **HEADERS, **headers}.items():
+            self.send_header(name, value)
+        self.end_headers()
+
+    def stream(self, kind: str, pieces: Iterator[bytes]) -> None:
+        """An answer whose pieces go out as they come. Where nothing can run, that is told before anything is sent."""
+        first = next(pieces, b"")
+        self.begin(200, kind, **{"Transfer-Encoding": "chunked"})
+        for piece in itertools.chain([first], pieces):
+            self.chunk(piece)
+        self.wfile.write(b"0\r\n\r\n")
+
+    def chunk(self, piece: bytes) -> None:
+        if piece:
+            self.wfile.write(b"%X\r\n%b\r\n" % (len(piece), piece))
+
+    def refuse(self, status: int, why: str) -> None:
+        """Tells why, and ends the connection; what the client still sends is taken, so that it hears the answer."""
+        self.close_connection = True
+        self.answer(status, TEXT, f"{why}\n".encode(), Connection="close")
+        with suppress(OSError):
+            self.drain()
+
+    def drain(self) -> None:
+        self.wfile.flush()
+        self.connection.shutdown(socket.SHUT_WR)
+        self.connection.settimeout(1)
+        taken = 0
+        while taken < MOST_DRAINED and (piece := self.connection.recv(PIECE)):
+            taken += len(piece)
+
+    def is_gone(self) -> bool:
+        """Whether the client has closed its end."""
+        readable, _, _ = select.select([self.connection], [], [], 0)
+        if not readable:
+            return False
+        try:
+            return not self.connection.recv(1, socket.MSG_PEEK)
+        except OSError:
+            return True
+
+    def send_error(self, code: int, message: str | None = None, explain: str | None = None) -> None:
+        """What Python's own server refuses, such as another method: the same form as all else."""
+        status, why = (405, "this method isn't known here") if code == 501 else (code, "this is no request of HTTP")
+        with suppress(OSError):
+            self.refuse(status, why)
+
+    def log_message(self, *_: Any) -> None:
+        """Nothing is written of requests."""
+
+
+def as_json(value: Any) -> bytes:
+    return json.dumps(value, separators=(",", ":")).encode()
+
+
+def examples() -> list[dict[str, Any]]:
+    """The scripts of examples/, each with the three lines on what to look at."""
+    found = []
+    for path in sorted(EXAMPLES.glob("*.script")):
+        script = path.read_text("utf-8")
+        about = [line.removeprefix("#").strip() for line in script.split("\n")[:3] if line.startswith("#")]
+        found.append({"name": path.stem, "about": about, "script": script})
+    return found
+
+
+def script_of(asked: dict[str, Any]) -> bytes:
+    """The script as bytes. Those that are no text may be sent as Python escapes them, each as one lone surrogate."""
+    script = asked.get("script")
+    if not isinstance(script, str):
+        raise Refusal(400, "the request has no script")
+    try:
+        return script.encode("utf-8", "surrogateescape")
+    except UnicodeEncodeError:
+        raise Refusal(400, "the script is no text") from None
+
+
+def post_run(handler: Handler, asked: dict[str, Any]) -> None:
+    form = asked.get("form", "run")
+    if form not in FORMS:
+        raise Refusal(400, f"the form is one of {', '.join(FORMS)}")
+    run = handler.server.runner.run(form, script_of(asked), handler.is_gone)
+
+    def pieces() -> Iterator[bytes]:
+        yield from run.pieces
+        if run.ended:
+            yield f"ended: {run.ended}\n".encode()
+
+    handler.stream(TEXT, pieces())
+
+
+def post_shown(handler: Handler, asked: dict[str, Any]) -> None:
+    handler.answer(200, JSON, as_json(shown(handler.server.runner, script_of(asked), handler.is_gone)))
+
+
+POSTED: dict[str, Callable[[Handler, dict[str, Any]], None]] = {"run": post_run, "shown": post_shown}
