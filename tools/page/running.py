@@ -69,6 +69,15 @@ class Program:
     def is_tried(self) -> bool:
         return self.note is not None
 
+    @property
+    def build(self) -> tuple[object, ...]:
+        """Which build of which program it is: another one may answer otherwise."""
+        try:
+            stands = os.stat(self.words[0])
+        except OSError as problem:
+            raise NoProgram(f"The program can't be started: {problem.strerror}.") from None
+        return *self.words, stands.st_mtime_ns, stands.st_size
+
 
 def found() -> Program:
     """The built program, or else `rt try`, where it is on the path and the program's source is here."""

@@ -6,6 +6,7 @@ sentence of plain text.
 
 from __future__ import annotations
 
+import contextlib
 import itertools
 import json
 import secrets
@@ -17,8 +18,10 @@ from pathlib import Path
 from typing import Any, Callable, Iterator
 
 import bench
+from page.cache import Cache
 from page.running import FORMS, Gone, NoProgram, Runner
 from page.shown import shown
+from page.sliding import Slider
 
 HERE = Path(__file__).parent
 EXAMPLES = bench.ROOT / "examples"
@@ -42,7 +45,7 @@ POLICY = "; ".join(
     (
         "default-src 'none'",
         "script-src 'self'",
-        "style-src 'self' 'unsafe-inline'",
+        "style-src 'self'",
         "connect-src 'self'",
         "img-src 'self' data:",
         "base-uri 'none'",
@@ -77,6 +80,7 @@ class Server(ThreadingHTTPServer):
     def __init__(self, port: int, runner: Runner) -> None:
         super().__init__((ADDRESS, port), Handler)
         self.runner = runner
+        self.slider = Slider(runner, Cache())
         self.token = secrets.token_hex(16)
         self.hosts = {f"{name}:{self.server_port}" for name in NAMES}
 
@@ -274,4 +278,14 @@ def post_shown(handler: Handler, asked: dict[str, Any]) -> None:
     handler.answer(200, JSON, as_json(shown(handler.server.runner, script_of(asked), handler.is_gone)))
 
 
-POSTED: dict[str, Callable[[Handler, dict[str, Any]], None]] = {"run": post_run, "shown": post_shown}
+def post_slide(handler: Handler, asked: dict[str, Any]) -> None:
+    rows = handler.server.slider.rows(script_of(asked), handler.is_gone)
+    with contextlib.closing(rows):
+        handler.stream(ROWS, (as_json(row) + b"\n" for row in rows))
+
+
+POSTED: dict[str, Callable[[Handler, dict[str, Any]], None]] = {
+    "run": post_run,
+    "shown": post_shown,
+    "slide": post_slide,
+}
