@@ -6,20 +6,14 @@
 (() => {
   "use strict";
 
-  const LINE_HEIGHT = 20;
-  const PADDING = 6;
-  const MOST_NUMBERS = 1001;
   const MOST_HEARD = 30;
+  const MOST_KEPT = 200;
   const MANY = 2000;
-  const FATES = [
-    ["pass", "Let it pass"],
-    ["damage", "Damage it"],
-    ["lose", "Lose it"],
-    ["break", "Break off: the field goes dark"],
-  ];
+  const NAMES = { B: "break", D: "damage", L: "lose" };
 
   const at = (id) => document.getElementById(id);
-  const editor = at("script");
+  const { answered, ask, eachPiece, eachLine } = benchPage;
+  const area = at("script");
   const saved = at("saved") ? JSON.parse(at("saved").textContent) : null;
 
   /* base: the script that was run; script, data: what the ladder shows, a place of the slider or the base itself. */
@@ -36,94 +30,15 @@
     at("said").textContent = sentence;
   }
 
-  /* What is asked of the server ------------------------------------------------------------------------------------ */
-
-  async function answered(word, options) {
-    let answer;
-    try {
-      answer = await fetch(word, options);
-    } catch (error) {
-      if (error.name === "AbortError") throw error;
-      throw new Error("The server doesn't answer: is `nfc.py page` still running?");
-    }
-    if (!answer.ok) throw new Error((await answer.text()).trim() || `The server refused this, by ${answer.status}.`);
-    return answer;
-  }
-
-  function ask(word, body, signal) {
-    const headers = { "Content-Type": "application/json" };
-    return answered(word, { method: "POST", headers, body: JSON.stringify(body), signal });
-  }
-
-  async function eachPiece(answer, take) {
-    const reader = answer.body.pipeThrough(new TextDecoderStream()).getReader();
-    for (let next = await reader.read(); !next.done; next = await reader.read()) take(next.value);
-  }
-
-  async function eachLine(answer, take) {
-    let rest = "";
-    await eachPiece(answer, (piece) => {
-      const lines = (rest + piece).split("\n");
-      rest = lines.pop();
-      lines.filter((line) => line.trim()).forEach((line) => take(JSON.parse(line)));
-    });
-    if (rest.trim()) take(JSON.parse(rest));
-  }
-
   /* What a script shows; asked once for each. */
   function shownOf(script, signal) {
     if (!state.kept.has(script)) {
+      if (state.kept.size >= MOST_KEPT) state.kept.delete(state.kept.keys().next().value);
       const asked = ask("shown", { script }, signal).then((answer) => answer.json());
       state.kept.set(script, asked);
       asked.catch(() => state.kept.delete(script));
     }
     return state.kept.get(script);
-  }
-
-  /* The editor ------------------------------------------------------------------------------------------------------ */
-
-  function drawNumbers() {
-    const count = editor.value.split("\n").length;
-    const numbers = Array.from({ length: Math.min(count, MOST_NUMBERS) }, (_, index) => index + 1);
-    at("line-numbers").textContent = numbers.join("\n") + (count > MOST_NUMBERS ? "\n.." : "");
-    follow();
-  }
-
-  function follow() {
-    at("line-numbers").scrollTop = editor.scrollTop;
-    at("line-numbers").style.setProperty("transform", "none");
-    const line = Number(at("band").dataset.line || 0);
-    if (!line) return;
-    const top = PADDING + (line - 1) * LINE_HEIGHT - editor.scrollTop;
-    at("band").style.top = `${top}px`;
-    const isLow = top > editor.clientHeight / 2;
-    at("reason").style.top = isLow ? "" : `${top + LINE_HEIGHT + 2}px`;
-    at("reason").style.bottom = isLow ? `${editor.offsetHeight - top + 2}px` : "";
-  }
-
-  function unmark() {
-    at("band").dataset.line = "";
-    at("band").hidden = true;
-    at("reason").hidden = true;
-    at("reason").textContent = "";
-    editor.removeAttribute("aria-invalid");
-  }
-
-  function mark(refused) {
-    at("band").dataset.line = refused.line;
-    at("band").hidden = false;
-    const expected = refused.expected ? `\nExpected: ${refused.expected}` : "";
-    at("reason").textContent = `✗ Line ${refused.line}: ${refused.reason}${expected}`;
-    at("reason").hidden = false;
-    editor.setAttribute("aria-invalid", "true");
-    editor.scrollTop = Math.max(0, PADDING + (refused.line - 1) * LINE_HEIGHT - editor.clientHeight / 3);
-    follow();
-  }
-
-  function setScript(script) {
-    editor.value = script;
-    unmark();
-    drawNumbers();
   }
 
   /* What a run tells ------------------------------------------------------------------------------------------------ */
@@ -164,7 +79,7 @@
       at("ladder").replaceChildren();
       return;
     }
-    const options = saved ? {} : { onFrame: (frame, entry) => setTimeout(() => openMenu(frame, entry)) };
+    const options = saved ? {} : { onFrame: askFate };
     const isLarge = data.entries.reduce((sum, entry) => sum + entry.frames.length, 0) > MANY;
     drawLadder(at("ladder"), data, { ...options, folded: isLarge || Boolean(place) });
     if (place) showPlace(place);
@@ -173,8 +88,7 @@
 
   function showPlace(place) {
     [...at("ladder").querySelectorAll(".fold")].slice(-2).forEach((button) => button.click());
-    const fate = { B: "break", D: "damage", L: "lose" }[place.fate];
-    const hit = [...at("ladder").querySelectorAll(`.piece .fate-${fate}`)].pop();
+    const hit = [...at("ladder").querySelectorAll(`.piece .fate-${NAMES[place.fate]}`)].pop();
     if (!hit) return;
     hit.classList.add("here");
     hit.scrollIntoView({ block: "nearest" });
@@ -184,12 +98,14 @@
     state.script = script;
     tell(shown, place);
     at("report").textContent = shown.report;
-    if (!place && shown.refused) mark(shown.refused);
+    if (!place && shown.refused) editor.mark(shown.refused);
     picture(shown.data, place);
   }
 
   /* Running --------------------------------------------------------------------------------------------------------- */
 
+  const editor = benchPage.editor({ area, numbers: at("line-numbers"), band: at("band"), reason: at("reason") });
+  const menu = benchPage.menu(at("menu"), choose);
   const slider = benchPage.slider({
     section: at("slider"), about: at("slider-about"), choice: at("choice"), strip: at("strip"), range: at("place"),
     told: at("told"), numbers: at("numbers"),
@@ -197,7 +113,7 @@
 
   async function choosePlace(place) {
     state.chosen = place;
-    closeMenu();
+    menu.close();
     if (!place) {
       if (state.baseShown) present(state.base, state.baseShown);
       return;
@@ -217,15 +133,15 @@
       if (signal.aborted) return;
       if (told.at) slider.add(told);
       else if (told.kind || told.none) slider.begin(told);
-      else if (told.error) slider.fail(told.error);
+      else if (told.ended) slider.end(told.ended);
     });
   }
 
   /* The script that is asked for, also out of a link that was pasted in its place; an empty one has a sentence. */
   async function wanted() {
-    const link = benchPage.linkIn(editor.value);
+    const link = benchPage.linkIn(area.value);
     if (link) await open(link);
-    if (editor.value.trim()) return editor.value;
+    if (area.value.trim()) return area.value;
     throw new Error("The script is empty: choose an example, or type a command.");
   }
 
@@ -250,8 +166,8 @@
     if (state.running) state.running.abort();
     const running = new AbortController();
     Object.assign(state, { running, chosen: null });
-    closeMenu();
-    unmark();
+    menu.close();
+    editor.unmark();
     slider.clear();
     say("");
     document.body.setAttribute("aria-busy", "true");
@@ -274,7 +190,7 @@
 
   async function open(fragment) {
     try {
-      setScript(await benchPage.unpack(fragment));
+      editor.set(await benchPage.unpack(fragment));
     } catch (error) {
       throw new Error("This link holds no script that can be read: a part of it may be missing.");
     }
@@ -296,34 +212,34 @@
       await navigator.clipboard.writeText(text);
       say(sentence);
     } catch (error) {
-      editor.select();
+      area.select();
       say("The browser doesn't let the page copy: the script is selected, so copy it yourself.");
     }
   }
 
   async function copyLink() {
     const here = location.href.split("#")[0];
-    const link = `${here}#${await benchPage.pack(editor.value)}`;
+    const link = `${here}#${await benchPage.pack(area.value)}`;
     await copy(link, "The link is copied. Who runs the page too pastes it in the place of the script, and runs it.");
   }
 
   /* A frame's fate -------------------------------------------------------------------------------------------------- */
 
-  function closeMenu() {
-    at("menu").hidden = true;
-    at("menu").replaceChildren();
+  /* Later, since the key that asked would otherwise choose in the menu. */
+  function askFate(frame, entry) {
+    const row = document.activeElement.closest(".frame") || at("ladder");
+    setTimeout(() => menu.open(frame, entry, row));
   }
 
   function choose(frame, entry, fate) {
-    closeMenu();
-    if (editor.value !== state.base) {
+    if (area.value !== state.base) {
       say("The script was changed since this run: run it first, then choose the frame.");
       return;
     }
     const script = benchPage.withFate(state.script, state.data.entries, entry, frame, fate);
     const added = script.split("\n").length - state.script.split("\n").length;
     state.focus = { entry: state.data.entries.indexOf(entry) + added, frame: entry.frames.indexOf(frame) };
-    setScript(script);
+    editor.set(script);
     run();
   }
 
@@ -336,50 +252,13 @@
     if (row && row.tabIndex === 0) row.focus({ preventScroll: false });
   }
 
-  function openMenu(frame, entry) {
-    const menu = at("menu");
-    const row = document.activeElement.closest(".frame") || at("ladder");
-    const items = FATES.map(([fate, text]) => {
-      const item = make("button", "", `${frame.fate === fate ? "● " : ""}${text}`);
-      Object.assign(item, { type: "button", tabIndex: -1 });
-      item.setAttribute("role", "menuitem");
-      item.addEventListener("click", () => choose(frame, entry, fate));
-      return item;
-    });
-    menu.replaceChildren(...items);
-    menu.hidden = false;
-    menu.back = row;
-    const box = row.getBoundingClientRect();
-    const left = Math.min(box.left + 40, document.documentElement.clientWidth - menu.offsetWidth - 4);
-    menu.style.left = `${Math.max(4, left) + scrollX}px`;
-    const above = box.bottom + menu.offsetHeight > innerHeight;
-    menu.style.top = `${(above ? Math.max(0, box.top - menu.offsetHeight) : box.bottom) + scrollY}px`;
-    items[Math.max(0, FATES.findIndex(([fate]) => fate === frame.fate))].focus({ preventScroll: true });
-  }
-
-  function onMenuKey(event) {
-    const items = [...at("menu").children];
-    const here = items.indexOf(document.activeElement);
-    const steps = { ArrowDown: here + 1, ArrowUp: here - 1, Home: 0, End: -1 };
-    if (event.key in steps) items.at(steps[event.key] % items.length).focus();
-    else if (event.key === "Escape" || event.key === "Tab") leaveMenu();
-    else return;
-    event.preventDefault();
-  }
-
-  function leaveMenu() {
-    const { back } = at("menu");
-    closeMenu();
-    if (back && back.focus) back.focus({ preventScroll: true });
-  }
-
   /* Saving, and a saved file ---------------------------------------------------------------------------------------- */
 
   async function save() {
     say("The file is made ..");
     try {
-      if (!editor.value.trim()) throw new Error("The script is empty: there is nothing to save.");
-      const file = await (await ask("save", { script: editor.value })).blob();
+      if (!area.value.trim()) throw new Error("The script is empty: there is nothing to save.");
+      const file = await (await ask("save", { script: area.value })).blob();
       const link = make("a", "");
       Object.assign(link, { href: URL.createObjectURL(file), download: "nfc-page.html" });
       link.click();
@@ -394,13 +273,14 @@
     for (const id of ["choose", "run", "form", "link", "save"]) at(id).hidden = true;
     at("intro").textContent = "A saved script and its runs. Nothing is run here; the script can be read and copied.";
     const all = await benchPage.opened(saved);
-    editor.readOnly = true;
-    setScript(all.script);
+    area.readOnly = true;
+    editor.set(all.script);
     Object.assign(state, { base: all.script, baseShown: await benchPage.opened(all.shown) });
     if (all.left_out) say(all.left_out);
     present(all.script, state.baseShown);
-    if (all.first) slider.begin(all.first);
-    (all.slides || []).forEach((told) => slider.add(told));
+    if (!all.slide) return;
+    slider.begin(all.slide.head);
+    (all.slide.rows || []).forEach((row, index) => slider.add({ ...row, shown: all.slides[index] }));
   }
 
   /* Examples, and the beginning ------------------------------------------------------------------------------------- */
@@ -408,7 +288,7 @@
   function showExample(example) {
     at("about").textContent = example.about.map((line) => line.replace(/^# ?/, "")).join("\n");
     at("about").hidden = false;
-    setScript(example.script);
+    editor.set(example.script);
     run();
   }
 
@@ -425,28 +305,21 @@
   }
 
   function onEdit() {
-    unmark();
-    drawNumbers();
     at("about").hidden = true;
     at("example").value = "";
   }
 
   function listen() {
-    editor.addEventListener("input", onEdit);
-    editor.addEventListener("scroll", follow);
-    editor.addEventListener("keydown", (event) => {
+    area.addEventListener("input", onEdit);
+    area.addEventListener("keydown", (event) => {
       if (event.key === "Enter" && (event.ctrlKey || event.metaKey) && !saved) run();
     });
     at("run").addEventListener("click", run);
     at("save").addEventListener("click", save);
-    at("copy").addEventListener("click", () => copy(editor.value, "The script is copied."));
+    at("copy").addEventListener("click", () => copy(area.value, "The script is copied."));
     at("link").addEventListener("click", copyLink);
-    at("menu").addEventListener("keydown", onMenuKey);
-    document.addEventListener("pointerdown", (event) => {
-      if (!at("menu").contains(event.target)) closeMenu();
-    });
     window.addEventListener("hashchange", openAddress);
-    window.addEventListener("beforeprint", () => { at("printed").textContent = editor.value; });
+    window.addEventListener("beforeprint", () => { at("printed").textContent = area.value; });
   }
 
   async function start() {
@@ -462,6 +335,5 @@
     return undefined;
   }
 
-  drawNumbers();
   start().catch((error) => at("result").replaceChildren(make("p", "bad", error.message)));
 })();

@@ -2,7 +2,9 @@
 
    benchPage.slider(parts, show) gives { begin, add, end, clear }.
      parts  the elements: { section, about, choice, strip, range, told, numbers }
-     show   function (script), called with the script of the chosen place, or null for the run as it is */
+     show   function (row), called with the row of the chosen place, or null for the run as it is
+
+   What a row tells, the server decided: docs/page.md. */
 
 (() => {
   "use strict";
@@ -17,14 +19,12 @@
     empty: { glyph: "□", label: "empty" },
     new: { glyph: "★", label: "the new message" },
     other: { glyph: "!", label: "something else" },
-    both: { glyph: "★", label: "accepted, and told so" },
-    untold: { glyph: "◆", label: "accepted, but not told so" },
-    neither: { glyph: "□", label: "not accepted, and not told so" },
-    false: { glyph: "!", label: "told so, but not accepted" },
+    told: { glyph: "★", label: "accepted, and told so" },
+    accepted: { glyph: "◆", label: "accepted, but not told so" },
+    "not accepted": { glyph: "□", label: "not accepted, and not told so" },
     waiting: { glyph: "·", label: "not run yet" },
   };
-  const WRITE = ["old", "empty", "new", "other"];
-  const PUT = ["both", "untold", "neither", "false"];
+  const TOLD = { write: ["old", "empty", "new"], put: ["told", "accepted", "not accepted"] };
 
   function make(name, className, text) {
     const made = document.createElement(name);
@@ -35,23 +35,17 @@
 
   const sum = (view, kind) => [...view.slides.values()].filter((slide) => kindOf(view, slide) === kind).length;
 
-  /* How many messages stood in the inbox before the put: the fewest that any place tells. */
-  function before(view) {
-    return Math.min(...[...view.slides.values()].map((slide) => (slide.accepted || []).length));
-  }
-
   function kindOf(view, slide) {
     if (!slide) return "waiting";
-    if (view.kind === "write") return WRITE.includes(slide.told) ? slide.told : "other";
-    const isAccepted = (slide.accepted || []).length > view.before;
-    if (slide.answer === "success") return isAccepted ? "both" : "false";
-    return isAccepted ? "untold" : "neither";
+    return TOLD[view.kind].includes(slide.told) ? slide.told : "other";
   }
+
+  const className = (kind) => `cell-${kind.replace(" ", "-")}`;
 
   function cell(view, at, fate) {
     const kind = kindOf(view, view.slides.get(`${at}${fate}`));
     const isHere = at === view.at && fate === view.fate;
-    const made = make("span", `cell cell-${kind}${isHere ? " here" : ""}`);
+    const made = make("span", `cell ${className(kind)}${isHere ? " here" : ""}`);
     made.dataset.at = at;
     made.dataset.fate = fate;
     if (view.places <= MOST_GLYPHS) made.textContent = KINDS[kind].glyph;
@@ -68,13 +62,13 @@
   }
 
   function numbers(view) {
-    return (view.kind === "write" ? WRITE : PUT).map((kind) => {
+    return [...TOLD[view.kind], "other"].map((kind) => {
       const count = sum(view, kind);
-      const item = make("li", `number number-${kind}`);
+      const item = make("li", "number");
       item.dataset.kind = kind;
-      item.append(make("span", `glyph cell-${kind}`, KINDS[kind].glyph), " ", make("b", "", String(count)));
+      item.append(make("span", `glyph ${className(kind)}`, KINDS[kind].glyph), " ", make("b", "", String(count)));
       item.append(` ${KINDS[kind].label}`);
-      item.hidden = count === 0 && (kind === "other" || kind === "false");
+      item.hidden = count === 0 && kind === "other";
       return item;
     });
   }
@@ -101,7 +95,6 @@
 
   function draw(view) {
     const { parts } = view;
-    view.before = view.kind === "put" ? before(view) : 0;
     parts.strip.replaceChildren(...view.fates.map((fate) => row(view, fate)));
     parts.numbers.replaceChildren(...numbers(view));
     tell(view);
@@ -153,11 +146,13 @@
       view.parts.section.classList.add("none");
       return;
     }
+    const { parts } = view;
     const { kind, places } = first;
     Object.assign(view, { kind, places, fates: kind === "put" ? ["B", "D", "L"] : ["B"] });
-    Object.assign(view.parts.range, { min: 0, max: places, value: 0, disabled: false });
+    Object.assign(parts.range, { min: 0, max: places, value: 0, disabled: false });
     const what = kind === "write" ? "the tag is pulled away, and read again" : "the frame is hit, and the inbox is told";
-    view.parts.about.textContent = `The ${kind} of line ${first.line} has ${places} transmissions. At each of them ${what}.`;
+    parts.about.textContent = `The ${kind} of line ${first.line} has ${places} transmissions. At each of them ${what}.`;
+    if (first.note) parts.about.append(` ${first.note}`);
     choice(view);
     draw(view);
   }
@@ -174,7 +169,7 @@
 
   function clear(view) {
     clearTimeout(view.timer);
-    Object.assign(view, { slides: new Map(), kind: "", places: 0, at: 0, fate: "B", fates: ["B"], before: 0 });
+    Object.assign(view, { slides: new Map(), kind: "", places: 0, at: 0, fate: "B", fates: ["B"] });
     view.parts.section.hidden = true;
     view.parts.section.classList.remove("none");
     for (const part of [view.parts.strip, view.parts.numbers, view.parts.choice]) part.replaceChildren();
@@ -193,7 +188,7 @@
     return {
       begin: (first) => begin(view, first),
       add: (slide) => add(view, slide),
-      fail: (sentence) => begin(view, { none: sentence }),
+      end: (sentence) => parts.about.append(` ${sentence}`),
       clear: () => clear(view),
     };
   };
