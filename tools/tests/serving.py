@@ -68,7 +68,8 @@ class Serving(unittest.TestCase):
 
     def serve_instead(self, text: str, limits: Limits = Limits()) -> None:
         """A server whose program is this text of a shell, run in the test's folder."""
-        self.serve(Runner(lambda: Program((str(self.stand_in(text)),), limits)))
+        program = Program((str(self.stand_in(text)),), limits)
+        self.serve(Runner(lambda: program))
 
     def stand_in(self, text: str, name: str = "stand-in") -> Path:
         path = self.folder / name
