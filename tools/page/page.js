@@ -9,6 +9,7 @@
   const MOST_HEARD = 30;
   const MOST_KEPT = 200;
   const MANY = 2000;
+  const DRAWN_AFTER = 150;
   const NAMES = { B: "break", D: "damage", L: "lose" };
 
   const at = (id) => document.getElementById(id);
@@ -81,13 +82,20 @@
     }
     const options = saved ? {} : { onFrame: askFate };
     const isLarge = data.entries.reduce((sum, entry) => sum + entry.frames.length, 0) > MANY;
-    drawLadder(at("ladder"), data, { ...options, folded: isLarge || Boolean(place) });
-    if (place) showPlace(place);
+    drawLadder(at("ladder"), data, { ...options, all: !isLarge, folded: isLarge || Boolean(place) });
+    if (place) openLast(place, isLarge);
     if (state.focus) focusAgain();
   }
 
-  function showPlace(place) {
-    [...at("ladder").querySelectorAll(".fold")].slice(-2).forEach((button) => button.click());
+  function openLast(place, isLarge) {
+    const last = [...at("ladder").querySelectorAll(".fold")].slice(place.accepted ? -1 : -2);
+    last.forEach((button) => button.click());
+    if (last.length && isLarge) last[0].scrollIntoView({ block: "nearest" });
+    setTimeout(() => showHit(place), isLarge ? DRAWN_AFTER : 0);
+  }
+
+  function showHit(place) {
+    if (state.chosen !== place) return;
     const hit = [...at("ladder").querySelectorAll(`.piece .fate-${NAMES[place.fate]}`)].pop();
     if (!hit) return;
     hit.classList.add("here");
@@ -285,8 +293,15 @@
 
   /* Examples, and the beginning ------------------------------------------------------------------------------------- */
 
+  /* A line on what to look at; what stands between grave accents is of the script or the report. */
+  function sentences(line) {
+    const made = make("p", "");
+    line.split("`").forEach((text, index) => made.append(index % 2 ? make("code", "", text) : text));
+    return made;
+  }
+
   function showExample(example) {
-    at("about").textContent = example.about.map((line) => line.replace(/^# ?/, "")).join("\n");
+    at("about").replaceChildren(...example.about.map(sentences));
     at("about").hidden = false;
     editor.set(example.script);
     run();
