@@ -15,11 +15,18 @@ from __future__ import annotations
 import signal
 import sys
 import webbrowser
+from threading import Thread
 from types import FrameType
 
 from commands.given import BadInput, Words, content_of
-from page.running import Runner
-from page.server import Server
+from commands.run import NO_PROGRAM
+from page.cache import Cache
+from page.running import NoProgram, Runner
+from page.saving import saved_page
+from page.server import MOST_BODY, Server
+from page.sliding import Slider
+
+ENDS = (signal.SIGTERM, signal.SIGHUP)
 
 
 def main(words: list[str]) -> int:
@@ -30,22 +37,46 @@ def main(words: list[str]) -> int:
     parser.add_argument("--no-open", action="store_true", help="open no browser")
     chosen = parser.parse_args(words)
     if chosen.script is not None:
-        content_of(chosen.script)
-        raise BadInput("not yet")
+        return save(content_of(chosen.script), chosen.output)
+    if chosen.output is not None:
+        raise BadInput("name the script of which the file is made")
     if not 0 <= chosen.port <= 65535:
         raise BadInput(f"{chosen.port} is no port")
     return serve(chosen.port, not chosen.no_open)
 
 
+def save(script: bytes, name: str | None) -> int:
+    """Makes the one file."""
+    if name is None:
+        raise BadInput("name the file with -o")
+    if len(script) > MOST_BODY:
+        raise BadInput(f"the script has {len(script)} bytes, and the page takes at most {MOST_BODY}")
+    runner = Runner()
+    try:
+        text = saved_page(Slider(runner, Cache()), script)
+    except NoProgram as problem:
+        print(f"nfc page: {problem}", file=sys.stderr)
+        return NO_PROGRAM
+    finally:
+        runner.stop()
+    with open(name, "w", encoding="utf-8") as file:
+        file.write(text)
+    return 0
+
+
 def serve(port: int, opens: bool) -> int:
     """Serves until Ctrl-C, or until it is told to end."""
-    signal.signal(signal.SIGTERM, interrupted)
-    server = Server(port, Runner())
-    print(server.address, flush=True)
-    print("Ctrl-C ends it.", file=sys.stderr)
+    for ends in ENDS:
+        signal.signal(ends, interrupted)
     try:
+        server = Server(port, Runner())
+    except OSError as problem:
+        raise BadInput(f"port {port}: {problem.strerror}") from None
+    try:
+        print(server.address, flush=True)
+        print("Ctrl-C ends it.", file=sys.stderr)
         if opens:
-            webbrowser.open(server.address)
+            Thread(target=webbrowser.open, args=(server.address,), daemon=True).start()
         server.serve_forever(poll_interval=0.1)
     except KeyboardInterrupt:
         return 0

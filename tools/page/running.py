@@ -207,8 +207,10 @@ class Runner:
         """Ends all that runs, and lets nothing begin any more."""
         with self.lock:
             self.is_stopped = True
-            for process in self.processes:
-                kill(process)
+            running = list(self.processes)
+        for process in running:
+            kill(process)
+            process.wait()
 
 
 class OutOfTime(Exception):

@@ -6,24 +6,23 @@ sentence of plain text.
 
 from __future__ import annotations
 
-import contextlib
 import itertools
 import json
 import secrets
 import select
 import socket
-from contextlib import suppress
+from contextlib import closing, suppress
 from http.server import BaseHTTPRequestHandler, ThreadingHTTPServer
-from pathlib import Path
-from typing import Any, Callable, Iterator
+from typing import Any, Callable, Generator
 
 import bench
 from page.cache import Cache
+from page.parts import FRAME, SCRIPTS, STYLES, joined
 from page.running import FORMS, Gone, NoProgram, Runner
+from page.saving import saved_page
 from page.shown import shown
 from page.sliding import Slider
 
-HERE = Path(__file__).parent
 EXAMPLES = bench.ROOT / "examples"
 ADDRESS = "127.0.0.1"
 NAMES = (ADDRESS, "localhost")
@@ -37,9 +36,9 @@ HTML = "text/html; charset=utf-8"
 JSON = "application/json"
 ROWS = "application/x-ndjson"
 FILES = {
-    "": (HTML, ("page.html",)),
-    "page.js": ("text/javascript; charset=utf-8", ("ladder.js", "fates.js", "packing.js", "asking.js", "editor.js", "menu.js", "slider.js", "page.js")),
-    "page.css": ("text/css; charset=utf-8", ("ladder.css", "page.css")),
+    "": (HTML, FRAME),
+    "page.js": ("text/javascript; charset=utf-8", SCRIPTS),
+    "page.css": ("text/css; charset=utf-8", STYLES),
 }
 POLICY = "; ".join(
     (
@@ -109,6 +108,7 @@ class Handler(BaseHTTPRequestHandler):
     server_version = "nfc-page"
     sys_version = ""
     timeout = PATIENCE
+    has_begun = False
     server: Server
 
     def do_GET(self) -> None:
@@ -119,15 +119,25 @@ class Handler(BaseHTTPRequestHandler):
 
     def obey(self, obeyed: Callable[[str], None]) -> None:
         """Answers a request, or tells why not."""
+        self.has_begun = False
         try:
             self.check_origin()
             obeyed(self.name())
         except Refusal as refusal:
             self.refuse(refusal.status, str(refusal))
         except NoProgram as problem:
-            self.answer(503, TEXT, f"{problem}\n".encode())
+            self.fail(503, str(problem))
         except (Gone, OSError):
             self.close_connection = True
+        except Exception as problem:
+            self.fail(500, f"the server failed at this request ({type(problem).__name__})")
+
+    def fail(self, status: int, why: str) -> None:
+        """Tells why, unless an answer has begun already: that one is cut off."""
+        self.close_connection = True
+        with suppress(OSError):
+            if not self.has_begun:
+                self.refuse(status, why)
 
     def check_origin(self) -> None:
         """Another site's page can neither ask by another name of this machine, nor from its own origin."""
@@ -149,7 +159,7 @@ class Handler(BaseHTTPRequestHandler):
             self.answer(200, JSON, as_json(examples()))
         elif name in FILES:
             kind, parts = FILES[name]
-            self.answer(200, kind, b"".join((HERE / part).read_bytes() for part in parts))
+            self.answer(200, kind, joined(parts).encode())
         elif name in POSTED:
             raise Refusal(405, f"{name} is asked by POST")
         else:
@@ -183,17 +193,19 @@ class Handler(BaseHTTPRequestHandler):
         self.wfile.write(body)
 
     def begin(self, status: int, kind: str, **headers: str) -> None:
+        self.has_begun = True
         self.send_response(status)
         for name, value in {"Content-Type": kind, **HEADERS, **headers}.items():
             self.send_header(name, value)
         self.end_headers()
 
-    def stream(self, kind: str, pieces: Iterator[bytes]) -> None:
+    def stream(self, kind: str, pieces: Generator[bytes, None, None]) -> None:
         """An answer whose pieces go out as they come. Where nothing can run, that is told before anything is sent."""
-        first = next(pieces, b"")
-        self.begin(200, kind, **{"Transfer-Encoding": "chunked"})
-        for piece in itertools.chain([first], pieces):
-            self.chunk(piece)
+        with closing(pieces):
+            first = next(pieces, b"")
+            self.begin(200, kind, **{"Transfer-Encoding": "chunked"})
+            for piece in itertools.chain([first], pieces):
+                self.chunk(piece)
         self.wfile.write(b"0\r\n\r\n")
 
     def chunk(self, piece: bytes) -> None:
@@ -266,7 +278,7 @@ def post_run(handler: Handler, asked: dict[str, Any]) -> None:
         raise Refusal(400, f"the form is one of {', '.join(FORMS)}")
     run = handler.server.runner.run(form, script_of(asked), handler.is_gone)
 
-    def pieces() -> Iterator[bytes]:
+    def pieces() -> Generator[bytes, None, None]:
         yield from run.pieces
         if run.ended:
             yield f"ended: {run.ended}\n".encode()
@@ -280,12 +292,19 @@ def post_shown(handler: Handler, asked: dict[str, Any]) -> None:
 
 def post_slide(handler: Handler, asked: dict[str, Any]) -> None:
     rows = handler.server.slider.rows(script_of(asked), handler.is_gone)
-    with contextlib.closing(rows):
+    with closing(rows):
         handler.stream(ROWS, (as_json(row) + b"\n" for row in rows))
+
+
+def post_save(handler: Handler, asked: dict[str, Any]) -> None:
+    text = saved_page(handler.server.slider, script_of(asked), gone=handler.is_gone)
+    name = 'attachment; filename="nfc-page.html"'
+    handler.answer(200, HTML, text.encode(), **{"Content-Disposition": name})
 
 
 POSTED: dict[str, Callable[[Handler, dict[str, Any]], None]] = {
     "run": post_run,
     "shown": post_shown,
     "slide": post_slide,
+    "save": post_save,
 }
