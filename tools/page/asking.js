@@ -3,6 +3,8 @@
 (() => {
   "use strict";
 
+  const MOST_BYTES = 1000000;
+
   async function answered(word, options) {
     let answer;
     try {
@@ -15,9 +17,11 @@
     return answer;
   }
 
-  function ask(word, body, signal) {
+  async function ask(word, given, signal) {
+    const body = JSON.stringify(given);
+    if (new Blob([body]).size > MOST_BYTES) throw new Error("The script is too long: at most 1,000,000 bytes are sent.");
     const headers = { "Content-Type": "application/json" };
-    return answered(word, { method: "POST", headers, body: JSON.stringify(body), signal });
+    return answered(word, { method: "POST", headers, body, signal });
   }
 
   async function eachPiece(answer, take) {
