@@ -45,6 +45,7 @@
     area.setAttribute("aria-invalid", "true");
     area.scrollTop = Math.max(0, PADDING + (refused.line - 1) * LINE_HEIGHT - area.clientHeight / 3);
     follow(parts);
+    reason.scrollIntoView({ block: "nearest" });
   }
 
   function set(parts, script) {

@@ -13,7 +13,7 @@
   const NAMES = { B: "break", D: "damage", L: "lose" };
 
   const at = (id) => document.getElementById(id);
-  const { answered, ask, eachPiece, eachLine } = benchPage;
+  const { sentence, answered, ask, eachPiece, eachLine } = benchPage;
   const area = at("script");
   const saved = at("saved") ? JSON.parse(at("saved").textContent) : null;
 
@@ -27,8 +27,8 @@
     return made;
   }
 
-  function say(sentence) {
-    at("said").textContent = sentence;
+  function say(told) {
+    at("said").textContent = told;
   }
 
   /* What a script shows; asked once for each. */
@@ -52,7 +52,7 @@
     const entries = shown.data ? shown.data.entries : [];
     const frames = entries.reduce((sum, entry) => sum + entry.frames.filter((frame) => frame.mark !== "!").length, 0);
     const size = `${count(entries.length, "command")}, ${count(frames, "frame")}`;
-    if (shown.refused) return `Line ${shown.refused.line} is refused: ${shown.refused.reason} Before it: ${size}.`;
+    if (shown.refused) return `Line ${shown.refused.line} is refused: ${sentence(shown.refused.reason)} Before it: ${size}.`;
     if (shown.status === 0) return `Every line was obeyed: ${size}.`;
     return `The run ended with status ${shown.status}: ${size}.`;
   }
@@ -67,7 +67,7 @@
   function tell(shown, place) {
     const parts = [make("p", shown.status === 0 ? "" : "bad", outcome(shown))];
     if (place) parts.unshift(make("p", "", `Shown is the run of place ${place.at}, with its own line of fates.`));
-    if (shown.note) parts.push(make("p", "note", shown.note));
+    if (shown.note) parts.push(make("p", "note", sentence(shown.note)));
     parts.push(make("p", "heard", heard(shown)));
     at("result").replaceChildren(...parts);
   }
@@ -141,7 +141,7 @@
       if (signal.aborted) return;
       if (told.at) slider.add(told);
       else if (told.kind || told.none) slider.begin(told);
-      else if (told.ended) slider.end(told.ended);
+      else if (told.done || told.ended) slider.end(told.ended);
     });
   }
 
@@ -162,11 +162,20 @@
     at("result").replaceChildren(make("p", "", "The answers alone are below."));
   }
 
+  /* What a run told comes into view, where it isn't in it. */
+  function bringIn(element) {
+    const { top } = element.getBoundingClientRect();
+    if (top < 0 || top > innerHeight - 240) element.scrollIntoView({ block: "start" });
+  }
+
   async function runWhole(script, signal) {
     const shown = await shownOf(script, signal);
     if (signal.aborted) return;
+    const isFirst = !state.base;
     Object.assign(state, { base: script, baseShown: shown });
+    const hasFocus = Boolean(state.focus);
     present(script, shown);
+    if (!isFirst && !hasFocus && !shown.refused) bringIn(at("result"));
     if (!shown.refused && shown.data) await slide(script, signal);
   }
 
@@ -178,7 +187,7 @@
     editor.unmark();
     slider.clear();
     say("");
-    document.body.setAttribute("aria-busy", "true");
+    document.body.dataset.busy = "true";
     try {
       const script = await wanted();
       at("result").replaceChildren(make("p", "", "Running .."));
@@ -187,7 +196,7 @@
     } catch (error) {
       if (!running.signal.aborted) at("result").replaceChildren(make("p", "bad", error.message));
     }
-    if (state.running === running) document.body.removeAttribute("aria-busy");
+    if (state.running === running) delete document.body.dataset.busy;
   }
 
   /* Links ----------------------------------------------------------------------------------------------------------- */
@@ -215,10 +224,10 @@
     return true;
   }
 
-  async function copy(text, sentence) {
+  async function copy(text, told) {
     try {
       await navigator.clipboard.writeText(text);
-      say(sentence);
+      say(told);
     } catch (error) {
       area.select();
       say("The browser doesn't let the page copy: the script is selected, so copy it yourself.");
@@ -288,20 +297,23 @@
     present(all.script, state.baseShown);
     if (!all.slide) return;
     slider.begin(all.slide.head);
-    (all.slide.rows || []).forEach((row, index) => slider.add({ ...row, shown: all.slides[index] }));
+    all.slide.rows.forEach((row, index) => slider.add({ ...row, shown: all.slides[index] }));
+    slider.end();
   }
 
   /* Examples, and the beginning ------------------------------------------------------------------------------------- */
 
-  /* A line on what to look at; what stands between grave accents is of the script or the report. */
-  function sentences(line) {
-    const made = make("p", "");
-    line.split("`").forEach((text, index) => made.append(index % 2 ? make("code", "", text) : text));
-    return made;
+  /* What to look at: a paragraph for what the example is, one for the rest. Between grave accents is code. */
+  function paragraphs(about) {
+    return about.join(" ").split(/ (?=Look at: )/).map((text) => {
+      const made = make("p", "");
+      text.split("`").forEach((part, index) => made.append(index % 2 ? make("code", "", part) : part));
+      return made;
+    });
   }
 
   function showExample(example) {
-    at("about").replaceChildren(...example.about.map(sentences));
+    at("about").replaceChildren(...paragraphs(example.about));
     at("about").hidden = false;
     editor.set(example.script);
     run();

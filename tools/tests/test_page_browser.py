@@ -76,7 +76,7 @@ class Page(unittest.TestCase):
         self.settled()
 
     def settled(self) -> None:
-        self.browser.until("document.getElementById('result').textContent && !document.body.hasAttribute('aria-busy')")
+        self.browser.until("document.getElementById('result').textContent && !document.body.dataset.busy")
         self.browser.value("new Promise((done) => setTimeout(done, 100))")
 
     def slide_to(self, place: int) -> None:
@@ -90,7 +90,7 @@ class Page(unittest.TestCase):
         return {kind: int(count) for kind, count in self.browser.value(told)}
 
     def kinds(self, fate: str = "B") -> list[str]:
-        cells = f"[...document.querySelectorAll('.cell[data-fate=\"{fate}\"]')].map((one) => one.classList[1])"
+        cells = f"[...document.querySelectorAll('.cells[data-fate=\"{fate}\"] .cell')].map((one) => one.classList[1])"
         return [name.removeprefix("cell-") for name in self.browser.value(cells)]
 
     def test_an_example_is_run_and_its_report_is_the_stored_one(self):
@@ -109,7 +109,7 @@ class Page(unittest.TestCase):
                 self.assertEqual(self.browser.value(text("report")), stored)
                 drawn = self.browser.value("document.querySelectorAll('#ladder .piece .frame').length")
                 self.assertEqual(drawn, sum(line.split(" ")[1] in list("!<>*") for line in stored.splitlines()))
-                self.assertEqual(self.browser.value("document.getElementById('about').children.length"), 3)
+                self.assertEqual(self.browser.value("document.getElementById('about').children.length"), 2)
 
     def test_the_slider_tells_old_empty_and_new_as_the_program_does(self):
         self.opened(WRITE)
