@@ -10,6 +10,14 @@
   const MOST_KEPT = 200;
   const MANY = 2000;
   const DRAWN_AFTER = 150;
+  const NARROW = 820;
+  const FIRST = [
+    "# A text is written to a tag. Move the slider: the tag is pulled away at each place, and read again.",
+    "place t2 01020304 16 000000000000000000000000E11006000303D00000FE0000",
+    "write 01020304 D101085402656E48656C6C6F",
+    "read 01020304",
+    "",
+  ].join("\n");
   const NAMES = { B: "break", D: "damage", L: "lose" };
 
   const at = (id) => document.getElementById(id);
@@ -175,7 +183,7 @@
     Object.assign(state, { base: script, baseShown: shown });
     const hasFocus = Boolean(state.focus);
     present(script, shown);
-    if (!isFirst && !hasFocus && !shown.refused) bringIn(at("result"));
+    if (!isFirst && !hasFocus && !(shown.refused && innerWidth <= NARROW)) bringIn(at("result"));
     if (!shown.refused && shown.data) await slide(script, signal);
   }
 
@@ -328,7 +336,6 @@
       const chosen = examples.find((example) => example.name === at("example").value);
       if (chosen) showExample(chosen);
     });
-    return examples;
   }
 
   function onEdit() {
@@ -352,13 +359,10 @@
   async function start() {
     listen();
     if (saved) return showSaved();
-    const examples = await offerExamples();
-    const isOpened = await openAddress();
-    const first = examples.find((example) => example.name.startsWith("write-broken-off")) || examples[0];
-    if (!isOpened && first) {
-      at("example").value = first.name;
-      showExample(first);
-    }
+    await offerExamples();
+    if (await openAddress()) return undefined;
+    editor.set(FIRST);
+    await run();
     return undefined;
   }
 

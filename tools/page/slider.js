@@ -172,7 +172,8 @@
     Object.assign(view, { kind, places, fates: kind === "put" ? ["B", "D", "L"] : ["B"] });
     Object.assign(parts.range, { min: 0, max: places, value: 0, disabled: false });
     const what = kind === "write" ? "the tag is pulled away, and read again" : "the frame is hit, and the inbox is told";
-    parts.about.textContent = `The ${kind} of line ${first.line} has ${places} transmissions. At each of them ${what}.`;
+    parts.about.textContent = `The ${kind} of line ${first.line} has ${places} transmissions where all pass.`;
+    parts.about.append(` At each of them ${what}.`);
     if (first.note) parts.about.append(` ${benchPage.sentence(first.note)}`);
     choice(view);
     draw(view);
