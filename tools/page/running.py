@@ -192,16 +192,17 @@ class Runner:
         return process
 
     def ending(self, process: subprocess.Popen[bytes], deadline: float, run: Run, limits: Limits) -> int | None:
-        """The status behind the last piece; none where a limit or the server ended the program."""
+        """The status behind the last piece, that of a signal as a shell counts it; none where a limit ended the run."""
         if self.is_stopped:
             raise Gone
         if run.ended is not None:
             return None
         try:
-            return process.wait(max(0.0, deadline - time.monotonic()))
+            status = process.wait(max(0.0, deadline - time.monotonic()))
         except subprocess.TimeoutExpired:
             run.ended = limits.too_long()
             return None
+        return status if status >= 0 else 128 - status
 
     def stop(self) -> None:
         """Ends all that runs, and lets nothing begin any more."""

@@ -11,6 +11,7 @@ import json
 import secrets
 import select
 import socket
+import time
 from contextlib import closing, suppress
 from http.server import BaseHTTPRequestHandler, ThreadingHTTPServer
 from typing import Any, Callable, Generator
@@ -29,6 +30,7 @@ NAMES = (ADDRESS, "localhost")
 MOST_BODY = 1_000_000
 MOST_DRAINED = 8_000_000
 PATIENCE = 30
+DRAINING = 5
 PIECE = 1 << 16
 
 TEXT = "text/plain; charset=utf-8"
@@ -220,11 +222,10 @@ class Handler(BaseHTTPRequestHandler):
             self.drain()
 
     def drain(self) -> None:
-        self.wfile.flush()
         self.connection.shutdown(socket.SHUT_WR)
         self.connection.settimeout(1)
-        taken = 0
-        while taken < MOST_DRAINED and (piece := self.connection.recv(PIECE)):
+        until, taken = time.monotonic() + DRAINING, 0
+        while taken < MOST_DRAINED and time.monotonic() < until and (piece := self.connection.recv(PIECE)):
             taken += len(piece)
 
     def is_gone(self) -> bool:
@@ -274,7 +275,7 @@ def script_of(asked: dict[str, Any]) -> bytes:
 
 def post_run(handler: Handler, asked: dict[str, Any]) -> None:
     form = asked.get("form", "run")
-    if form not in FORMS:
+    if not isinstance(form, str) or form not in FORMS:
         raise Refusal(400, f"the form is one of {', '.join(FORMS)}")
     run = handler.server.runner.run(form, script_of(asked), handler.is_gone)
 
