@@ -3,6 +3,15 @@
 (() => {
   "use strict";
 
+  const MOST_BYTES = 1000000;
+
+  /* A text of the server as a sentence: a capital letter and a full stop. */
+  function sentence(text) {
+    const trimmed = text.trim();
+    const stop = /[.!?:]$/.test(trimmed) || !trimmed ? "" : ".";
+    return trimmed.charAt(0).toUpperCase() + trimmed.slice(1) + stop;
+  }
+
   async function answered(word, options) {
     let answer;
     try {
@@ -11,13 +20,15 @@
       if (error.name === "AbortError") throw error;
       throw new Error("The server doesn't answer: is `nfc.py page` still running?");
     }
-    if (!answer.ok) throw new Error((await answer.text()).trim() || `The server refused this, by ${answer.status}.`);
+    if (!answer.ok) throw new Error(sentence(await answer.text()) || `The server refused this, by ${answer.status}.`);
     return answer;
   }
 
-  function ask(word, body, signal) {
+  async function ask(word, given, signal) {
+    const body = JSON.stringify(given);
+    if (new Blob([body]).size > MOST_BYTES) throw new Error("The script is too long: at most 1,000,000 bytes are sent.");
     const headers = { "Content-Type": "application/json" };
-    return answered(word, { method: "POST", headers, body: JSON.stringify(body), signal });
+    return answered(word, { method: "POST", headers, body, signal });
   }
 
   async function eachPiece(answer, take) {
@@ -35,5 +46,5 @@
     if (rest.trim()) take(JSON.parse(rest));
   }
 
-  Object.assign(benchPage, { answered, ask, eachPiece, eachLine });
+  Object.assign(benchPage, { sentence, answered, ask, eachPiece, eachLine });
 })();

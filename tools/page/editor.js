@@ -17,13 +17,14 @@
     follow(parts);
   }
 
-  /* The numbers and the mark go with the text where it is scrolled; the reason stands where it covers least. */
+  /* The numbers and the mark go with the text where it is scrolled. The reason stands beneath its line, or above it
+     where there is no room. */
   function follow({ area, numbers, band, reason }) {
     numbers.scrollTop = area.scrollTop;
     if (band.hidden) return;
     const top = PADDING + (Number(band.dataset.line) - 1) * LINE_HEIGHT - area.scrollTop;
     band.style.top = `${top}px`;
-    const isLow = top > area.offsetHeight / 2;
+    const isLow = top + LINE_HEIGHT + reason.offsetHeight > area.clientHeight;
     reason.style.top = isLow ? "auto" : `${top + LINE_HEIGHT + 2}px`;
     reason.style.bottom = isLow ? `${area.offsetHeight - top + 2}px` : "auto";
   }
@@ -45,6 +46,7 @@
     area.setAttribute("aria-invalid", "true");
     area.scrollTop = Math.max(0, PADDING + (refused.line - 1) * LINE_HEIGHT - area.clientHeight / 3);
     follow(parts);
+    reason.scrollIntoView({ block: "nearest" });
   }
 
   function set(parts, script) {

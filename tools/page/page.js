@@ -9,10 +9,19 @@
   const MOST_HEARD = 30;
   const MOST_KEPT = 200;
   const MANY = 2000;
+  const DRAWN_AFTER = 150;
+  const NARROW = 820;
+  const FIRST = [
+    "# A text is written to a tag. Move the slider: the tag is pulled away at each place, and read again.",
+    "place t2 01020304 16 000000000000000000000000E11006000303D00000FE0000",
+    "write 01020304 D101085402656E48656C6C6F",
+    "read 01020304",
+    "",
+  ].join("\n");
   const NAMES = { B: "break", D: "damage", L: "lose" };
 
   const at = (id) => document.getElementById(id);
-  const { answered, ask, eachPiece, eachLine } = benchPage;
+  const { sentence, answered, ask, eachPiece, eachLine } = benchPage;
   const area = at("script");
   const saved = at("saved") ? JSON.parse(at("saved").textContent) : null;
 
@@ -26,8 +35,8 @@
     return made;
   }
 
-  function say(sentence) {
-    at("said").textContent = sentence;
+  function say(told) {
+    at("said").textContent = told;
   }
 
   /* What a script shows; asked once for each. */
@@ -51,7 +60,7 @@
     const entries = shown.data ? shown.data.entries : [];
     const frames = entries.reduce((sum, entry) => sum + entry.frames.filter((frame) => frame.mark !== "!").length, 0);
     const size = `${count(entries.length, "command")}, ${count(frames, "frame")}`;
-    if (shown.refused) return `Line ${shown.refused.line} is refused: ${shown.refused.reason} Before it: ${size}.`;
+    if (shown.refused) return `Line ${shown.refused.line} is refused: ${sentence(shown.refused.reason)} Before it: ${size}.`;
     if (shown.status === 0) return `Every line was obeyed: ${size}.`;
     return `The run ended with status ${shown.status}: ${size}.`;
   }
@@ -66,7 +75,7 @@
   function tell(shown, place) {
     const parts = [make("p", shown.status === 0 ? "" : "bad", outcome(shown))];
     if (place) parts.unshift(make("p", "", `Shown is the run of place ${place.at}, with its own line of fates.`));
-    if (shown.note) parts.push(make("p", "note", shown.note));
+    if (shown.note) parts.push(make("p", "note", sentence(shown.note)));
     parts.push(make("p", "heard", heard(shown)));
     at("result").replaceChildren(...parts);
   }
@@ -81,13 +90,20 @@
     }
     const options = saved ? {} : { onFrame: askFate };
     const isLarge = data.entries.reduce((sum, entry) => sum + entry.frames.length, 0) > MANY;
-    drawLadder(at("ladder"), data, { ...options, folded: isLarge || Boolean(place) });
-    if (place) showPlace(place);
+    drawLadder(at("ladder"), data, { ...options, all: !isLarge, folded: isLarge || Boolean(place) });
+    if (place) openLast(place, isLarge);
     if (state.focus) focusAgain();
   }
 
-  function showPlace(place) {
-    [...at("ladder").querySelectorAll(".fold")].slice(-2).forEach((button) => button.click());
+  function openLast(place, isLarge) {
+    const last = [...at("ladder").querySelectorAll(".fold")].slice(place.accepted ? -1 : -2);
+    last.forEach((button) => button.click());
+    if (last.length && isLarge) last[0].scrollIntoView({ block: "nearest" });
+    setTimeout(() => showHit(place), isLarge ? DRAWN_AFTER : 0);
+  }
+
+  function showHit(place) {
+    if (state.chosen !== place) return;
     const hit = [...at("ladder").querySelectorAll(`.piece .fate-${NAMES[place.fate]}`)].pop();
     if (!hit) return;
     hit.classList.add("here");
@@ -133,7 +149,7 @@
       if (signal.aborted) return;
       if (told.at) slider.add(told);
       else if (told.kind || told.none) slider.begin(told);
-      else if (told.ended) slider.end(told.ended);
+      else if (told.done || told.ended) slider.end(told.ended);
     });
   }
 
@@ -154,11 +170,20 @@
     at("result").replaceChildren(make("p", "", "The answers alone are below."));
   }
 
+  /* What a run told comes into view, where it isn't in it. */
+  function bringIn(element) {
+    const { top } = element.getBoundingClientRect();
+    if (top < 0 || top > innerHeight - 240) element.scrollIntoView({ block: "start" });
+  }
+
   async function runWhole(script, signal) {
     const shown = await shownOf(script, signal);
     if (signal.aborted) return;
+    const isFirst = !state.base;
     Object.assign(state, { base: script, baseShown: shown });
+    const hasFocus = Boolean(state.focus);
     present(script, shown);
+    if (!isFirst && !hasFocus && !(shown.refused && innerWidth <= NARROW)) bringIn(at("result"));
     if (!shown.refused && shown.data) await slide(script, signal);
   }
 
@@ -170,7 +195,7 @@
     editor.unmark();
     slider.clear();
     say("");
-    document.body.setAttribute("aria-busy", "true");
+    document.body.dataset.busy = "true";
     try {
       const script = await wanted();
       at("result").replaceChildren(make("p", "", "Running .."));
@@ -179,7 +204,7 @@
     } catch (error) {
       if (!running.signal.aborted) at("result").replaceChildren(make("p", "bad", error.message));
     }
-    if (state.running === running) document.body.removeAttribute("aria-busy");
+    if (state.running === running) delete document.body.dataset.busy;
   }
 
   /* Links ----------------------------------------------------------------------------------------------------------- */
@@ -207,10 +232,10 @@
     return true;
   }
 
-  async function copy(text, sentence) {
+  async function copy(text, told) {
     try {
       await navigator.clipboard.writeText(text);
-      say(sentence);
+      say(told);
     } catch (error) {
       area.select();
       say("The browser doesn't let the page copy: the script is selected, so copy it yourself.");
@@ -280,13 +305,23 @@
     present(all.script, state.baseShown);
     if (!all.slide) return;
     slider.begin(all.slide.head);
-    (all.slide.rows || []).forEach((row, index) => slider.add({ ...row, shown: all.slides[index] }));
+    all.slide.rows.forEach((row, index) => slider.add({ ...row, shown: all.slides[index] }));
+    slider.end();
   }
 
   /* Examples, and the beginning ------------------------------------------------------------------------------------- */
 
+  /* What to look at: a paragraph for what the example is, one for the rest. Between grave accents is code. */
+  function paragraphs(about) {
+    return about.join(" ").split(/ (?=Look at: )/).map((text) => {
+      const made = make("p", "");
+      text.split("`").forEach((part, index) => made.append(index % 2 ? make("code", "", part) : part));
+      return made;
+    });
+  }
+
   function showExample(example) {
-    at("about").textContent = example.about.map((line) => line.replace(/^# ?/, "")).join("\n");
+    at("about").replaceChildren(...paragraphs(example.about));
     at("about").hidden = false;
     editor.set(example.script);
     run();
@@ -301,7 +336,6 @@
       const chosen = examples.find((example) => example.name === at("example").value);
       if (chosen) showExample(chosen);
     });
-    return examples;
   }
 
   function onEdit() {
@@ -325,13 +359,10 @@
   async function start() {
     listen();
     if (saved) return showSaved();
-    const examples = await offerExamples();
-    const isOpened = await openAddress();
-    const first = examples.find((example) => example.name.startsWith("write-broken-off")) || examples[0];
-    if (!isOpened && first) {
-      at("example").value = first.name;
-      showExample(first);
-    }
+    await offerExamples();
+    if (await openAddress()) return undefined;
+    editor.set(FIRST);
+    await run();
     return undefined;
   }
 

@@ -42,13 +42,21 @@
 
   const className = (kind) => `cell-${kind.replace(" ", "-")}`;
 
-  function cell(view, at, fate) {
-    const kind = kindOf(view, view.slides.get(`${at}${fate}`));
-    const isHere = at === view.at && fate === view.fate;
-    const made = make("span", `cell ${className(kind)}${isHere ? " here" : ""}`);
-    made.dataset.at = at;
-    made.dataset.fate = fate;
-    if (view.places <= MOST_GLYPHS) made.textContent = KINDS[kind].glyph;
+  /* The places of a row in stretches: each by itself, or where there are many, neighbours of one kind together. */
+  function stretches(view, fate) {
+    const made = [];
+    for (let at = 1; at <= view.places; at += 1) {
+      const kind = kindOf(view, view.slides.get(`${at}${fate}`));
+      const last = made[made.length - 1];
+      if (last && last.kind === kind && view.places > MOST_GLYPHS) last.count += 1;
+      else made.push({ kind, count: 1 });
+    }
+    return made;
+  }
+
+  function cell(view, { kind, count }) {
+    const made = make("span", `cell ${className(kind)}`, view.places <= MOST_GLYPHS ? KINDS[kind].glyph : "");
+    made.style.flexGrow = String(count);
     return made;
   }
 
@@ -56,7 +64,8 @@
     const made = make("div", "row");
     if (view.fates.length > 1) made.append(make("span", "row-name", FATES[fate]));
     const cells = make("div", "cells");
-    for (let at = 1; at <= view.places; at += 1) cells.append(cell(view, at, fate));
+    cells.dataset.fate = fate;
+    cells.append(...stretches(view, fate).map((stretch) => cell(view, stretch)), make("span", "here"));
     made.append(cells);
     return made;
   }
@@ -85,7 +94,7 @@
     if (view.at === 0) return `${what}: this is the run as the script says it.`;
     const start = `Transmission ${view.at} of ${view.places} is ${FATES[view.fate]}`;
     const slide = view.slides.get(`${view.at}${view.fate}`);
-    if (!slide) return `${start}: not run yet.`;
+    if (!slide) return view.isDone ? `${start}: left out, since there are so many places.` : `${start}: not run yet.`;
     const kind = kindOf(view, slide);
     const answer = `the ${view.kind} answers "${slide.answer}"`;
     if (view.kind === "put") return `${start}: ${answer}. The message is ${KINDS[kind].label}. ${inbox(view, slide)}`;
@@ -97,7 +106,7 @@
     const { parts } = view;
     parts.strip.replaceChildren(...view.fates.map((fate) => row(view, fate)));
     parts.numbers.replaceChildren(...numbers(view));
-    tell(view);
+    mark(view);
   }
 
   function tell(view) {
@@ -106,11 +115,23 @@
     view.parts.range.setAttribute("aria-valuetext", sentence);
   }
 
+  /* The frame around the chosen place. */
   function mark(view) {
-    for (const one of view.parts.strip.querySelectorAll(".here")) one.classList.remove("here");
-    const here = view.parts.strip.querySelector(`[data-at="${view.at}"][data-fate="${view.fate}"]`);
-    if (here) here.classList.add("here");
+    for (const cells of view.parts.strip.querySelectorAll(".cells")) {
+      const here = cells.querySelector(".here");
+      here.hidden = view.at === 0 || cells.dataset.fate !== view.fate;
+      here.style.left = `${(100 * (view.at - 1)) / view.places}%`;
+      here.style.width = `max(6px, ${100 / view.places}%)`;
+    }
     tell(view);
+  }
+
+  function onClick(view, event) {
+    const cells = event.target.closest(".cells");
+    if (!cells) return;
+    const box = cells.getBoundingClientRect();
+    const at = Math.ceil(((event.clientX - box.left) / box.width) * view.places);
+    move(view, Math.max(1, Math.min(view.places, at)), cells.dataset.fate);
   }
 
   function move(view, at, fate) {
@@ -142,7 +163,7 @@
     clear(view);
     view.parts.section.hidden = false;
     if (first.none) {
-      view.parts.about.textContent = first.none;
+      view.parts.about.textContent = benchPage.sentence(first.none);
       view.parts.section.classList.add("none");
       return;
     }
@@ -151,8 +172,9 @@
     Object.assign(view, { kind, places, fates: kind === "put" ? ["B", "D", "L"] : ["B"] });
     Object.assign(parts.range, { min: 0, max: places, value: 0, disabled: false });
     const what = kind === "write" ? "the tag is pulled away, and read again" : "the frame is hit, and the inbox is told";
-    parts.about.textContent = `The ${kind} of line ${first.line} has ${places} transmissions. At each of them ${what}.`;
-    if (first.note) parts.about.append(` ${first.note}`);
+    parts.about.textContent = `The ${kind} of line ${first.line} has ${places} transmissions where all pass.`;
+    parts.about.append(` At each of them ${what}.`);
+    if (first.note) parts.about.append(` ${benchPage.sentence(first.note)}`);
     choice(view);
     draw(view);
   }
@@ -167,9 +189,16 @@
     }, DRAW_AFTER);
   }
 
+  /* No more places come; why, where that is told. */
+  function end(view, why) {
+    view.isDone = true;
+    if (why) view.parts.about.append(` ${benchPage.sentence(why)}`);
+    if (view.kind) draw(view);
+  }
+
   function clear(view) {
     clearTimeout(view.timer);
-    Object.assign(view, { slides: new Map(), kind: "", places: 0, at: 0, fate: "B", fates: ["B"] });
+    Object.assign(view, { slides: new Map(), kind: "", places: 0, at: 0, fate: "B", fates: ["B"], isDone: false });
     view.parts.section.hidden = true;
     view.parts.section.classList.remove("none");
     for (const part of [view.parts.strip, view.parts.numbers, view.parts.choice]) part.replaceChildren();
@@ -181,14 +210,11 @@
     const view = { parts, show };
     clear(view);
     parts.range.addEventListener("input", () => move(view, Number(parts.range.value), view.fate));
-    parts.strip.addEventListener("click", (event) => {
-      const { at, fate } = event.target.dataset;
-      if (at) move(view, Number(at), fate);
-    });
+    parts.strip.addEventListener("click", (event) => onClick(view, event));
     return {
       begin: (first) => begin(view, first),
       add: (slide) => add(view, slide),
-      end: (sentence) => parts.about.append(` ${sentence}`),
+      end: (why) => end(view, why),
       clear: () => clear(view),
     };
   };
