@@ -29,7 +29,8 @@ class Limits:
         return f"the program was ended after {self.seconds:g} seconds"
 
     def too_much(self) -> str:
-        return f"the program was ended after {self.size >> 20 or self.size} {'MB' if self.size >> 20 else 'bytes'} of output"
+        size = f"{self.size >> 20} MB" if self.size >> 20 else f"{self.size} bytes"
+        return f"the program was ended after {size} of output"
 
 
 @dataclass(frozen=True)

@@ -28,7 +28,6 @@ TICK = 0.2
 ENDED = re.compile(rb"run=ended status=([0-9]+)")
 
 
-
 class Gone(Exception):
     """Nobody waits for this run any longer, or the server ends."""
 

@@ -94,6 +94,7 @@ class Handler(BaseHTTPRequestHandler):
     server_version = "nfc-page"
     sys_version = ""
     timeout = PATIENCE
+    disable_nagle_algorithm = True
     has_begun = False
     server: Server
 

@@ -91,7 +91,8 @@ class Serving(unittest.TestCase):
     def begin(self, name: str, script: str) -> socket.socket:
         """A request whose answer isn't waited for."""
         body = json.dumps({"script": script}).encode()
-        head = f"POST /{self.token}/{name} HTTP/1.1\r\nHost: {ADDRESS}:{self.port}\r\nContent-Length: {len(body)}\r\n\r\n"
+        lines = (f"POST /{self.token}/{name} HTTP/1.1", f"Host: {ADDRESS}:{self.port}", f"Content-Length: {len(body)}")
+        head = "".join(f"{line}\r\n" for line in (*lines, ""))
         line = socket.create_connection((ADDRESS, self.port), timeout=20)
         line.sendall(head.encode() + body)
         return line

@@ -186,7 +186,8 @@ class Ended(Serving):
         with mock.patch.dict(os.environ, {"BROWSER": str(opened)}):
             environment = {**os.environ, bench.VARIABLE: str(self.stand_in("echo 1 ok\n"))}
             words = [sys.executable, str(PROGRAM), "page"]
-            process = subprocess.Popen(words, env=environment, text=True, stdout=subprocess.PIPE, stderr=subprocess.DEVNULL)
+            output = {"stdout": subprocess.PIPE, "stderr": subprocess.DEVNULL}
+            process = subprocess.Popen(words, env=environment, text=True, **output)
         self.addCleanup(process.communicate)
         self.addCleanup(process.kill)
         address = process.stdout.readline()

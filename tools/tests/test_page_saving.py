@@ -56,8 +56,8 @@ class Held(unittest.TestCase):
 
     def test_a_put_has_its_fates_in_order(self) -> None:
         data = held(file_of(b"place peer 08010203 3 128 1 1024\nlink 08010203 128 1\nput D1\n"))
-        rows = data["slide"]["rows"]
-        self.assertEqual([(row["at"], row["fate"]) for row in rows], [(at, fate) for at in range(1, 5) for fate in "DLB"])
+        order = [(row["at"], row["fate"]) for row in data["slide"]["rows"]]
+        self.assertEqual(order, [(at, fate) for at in range(1, 5) for fate in "DLB"])
         self.assertEqual(len(data["slides"]), 12)
 
     def test_a_script_without_a_slider(self) -> None:

@@ -50,7 +50,8 @@ class Refused(Serving):
 
     def test_nothing_of_the_disk(self) -> None:
         readme = (ROOT / "README.md").read_bytes()[:40]
-        for name in ("../README.md", "..%2fREADME.md", "README.md", "page.py", "server.py", "/etc/passwd", "..", ".", "%00"):
+        names = ("../README.md", "..%2fREADME.md", "README.md", "page.py", "server.py", "/etc/passwd", "..", ".", "%00")
+        for name in names:
             for path in (f"/{self.token}/{name}", name, f"/{name}", f"/{self.token}/../{self.token}/{name}"):
                 answer = self.ask("GET", path)
                 self.assertEqual(answer.status, 404, path)
@@ -59,7 +60,8 @@ class Refused(Serving):
     def test_other_names_and_other_sites(self) -> None:
         page = f"/{self.token}/"
         host, origin = "this Host isn't the page's", "this Origin isn't the page's"
-        for name in ("example.org", f"example.org:{self.port}", ADDRESS, f"{ADDRESS}:1", f"{ADDRESS}:{self.port}.example.org"):
+        here = f"{ADDRESS}:{self.port}"
+        for name in ("example.org", f"example.org:{self.port}", ADDRESS, f"{ADDRESS}:1", f"{here}.example.org"):
             self.refuses(403, host, "GET", page, Host=name)
             self.refuses(403, host, "POST", f"{page}run", b'{"script": "find"}', Host=name)
         for site in ("https://example.org", "null", f"https://{ADDRESS}:{self.port}", f"http://{ADDRESS}:{self.port}1"):
@@ -102,7 +104,9 @@ class Refused(Serving):
             self.refuses(400, "the form is one of run, run quiet", "POST", f"/{self.token}/run", body)
 
     def test_what_is_no_request(self) -> None:
-        for text in (b"hello\r\n\r\n", b"\0\1\2\r\n\r\n", b"GET / HTTP/9.9\r\n\r\n", b"GET /" + b"x" * 70000 + b"\r\n\r\n"):
+        long = b"GET /" + b"x" * 70000
+        for begun in (b"hello", b"\0\1\2", b"GET / HTTP/9.9", long):
+            text = begun + b"\r\n\r\n"
             with self.subTest(text[:20]), closing(self.begin("examples", "")) as line:
                 line.sendall(text)
                 answer = b"".join(iter(lambda: line.recv(1 << 16), b""))

@@ -99,7 +99,8 @@ class OfAPut(unittest.TestCase):
     def test_each_fate_at_each_place(self) -> None:
         rows = rows_of(f"{PEER}put D1\n")
         self.assertEqual(rows[0], {"kind": "put", "places": 4, "line": 3, "runs": 12, "note": None})
-        self.assertEqual({(row["at"], row["fate"]) for row in places(rows)}, {(at, f) for at in range(1, 5) for f in "DLB"})
+        found = {(row["at"], row["fate"]) for row in places(rows)}
+        self.assertEqual(found, {(at, fate) for at in range(1, 5) for fate in "DLB"})
         by_break = [(row["told"], row["accepted"]) for row in places(rows) if row["fate"] == "B"]
         self.assertEqual(by_break, [("not accepted", [])] * 3 + [("accepted", ["1:D1"])])
         others = {(row["told"], tuple(row["accepted"])) for row in places(rows) if row["fate"] != "B"}
