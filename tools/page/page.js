@@ -1,7 +1,7 @@
 /* The page: a script at the left, what goes over the air at the right, the slider below.
 
-   A saved file holds its runs in the element "saved": there nothing is asked of a server, and no script is run. All that
-   a script or a report says becomes text and never markup. */
+   A saved file holds its runs in the element "saved": there nothing is asked of a server, and no script is run. All
+   that a script or a report says becomes text and never markup. */
 
 (() => {
   "use strict";
@@ -50,7 +50,7 @@
     return state.kept.get(script);
   }
 
-  /* What a run tells ------------------------------------------------------------------------------------------------ */
+  /* What a run tells ----------------------------------------------------------------------------------------------- */
 
   function count(number, name) {
     return number === 1 ? `1 ${name}` : `${number} ${name}s`;
@@ -60,7 +60,8 @@
     const entries = shown.data ? shown.data.entries : [];
     const frames = entries.reduce((sum, entry) => sum + entry.frames.filter((frame) => frame.mark !== "!").length, 0);
     const size = `${count(entries.length, "command")}, ${count(frames, "frame")}`;
-    if (shown.refused) return `Line ${shown.refused.line} is refused: ${sentence(shown.refused.reason)} Before it: ${size}.`;
+    const { refused } = shown;
+    if (refused) return `Line ${refused.line} is refused: ${sentence(refused.reason)} Before it: ${size}.`;
     if (shown.status === 0) return `Every line was obeyed: ${size}.`;
     return `The run ended with status ${shown.status}: ${size}.`;
   }
@@ -118,7 +119,7 @@
     picture(shown.data, place);
   }
 
-  /* Running --------------------------------------------------------------------------------------------------------- */
+  /* Running -------------------------------------------------------------------------------------------------------- */
 
   const editor = benchPage.editor({ area, numbers: at("line-numbers"), band: at("band"), reason: at("reason") });
   const menu = benchPage.menu(at("menu"), choose);
@@ -207,10 +208,16 @@
     if (state.running === running) delete document.body.dataset.busy;
   }
 
-  /* Links ----------------------------------------------------------------------------------------------------------- */
+  /* Links ---------------------------------------------------------------------------------------------------------- */
 
+  /* The address keeps the script, where the browser takes so long an address. */
   async function keep(script) {
-    history.replaceState(null, "", `#${await benchPage.pack(script)}`);
+    const fragment = await benchPage.pack(script);
+    try {
+      history.replaceState(null, "", `#${fragment}`);
+    } catch (error) {
+      say("The script is too long to stand in the address.");
+    }
   }
 
   async function open(fragment) {
@@ -248,7 +255,7 @@
     await copy(link, "The link is copied. Who runs the page too pastes it in the place of the script, and runs it.");
   }
 
-  /* A frame's fate -------------------------------------------------------------------------------------------------- */
+  /* A frame's fate ------------------------------------------------------------------------------------------------- */
 
   /* Later, since the key that asked would otherwise choose in the menu. */
   function askFate(frame, entry) {
@@ -277,7 +284,7 @@
     if (row && row.tabIndex === 0) row.focus({ preventScroll: false });
   }
 
-  /* Saving, and a saved file ---------------------------------------------------------------------------------------- */
+  /* Saving, and a saved file --------------------------------------------------------------------------------------- */
 
   async function save() {
     say("The file is made ..");
@@ -302,14 +309,15 @@
     editor.set(all.script);
     Object.assign(state, { base: all.script, baseShown: await benchPage.opened(all.shown) });
     if (all.left_out) say(all.left_out);
-    present(all.script, state.baseShown);
+    if (state.baseShown) present(all.script, state.baseShown);
+    else at("result").replaceChildren(make("p", "", all.left_out));
     if (!all.slide) return;
     slider.begin(all.slide.head);
     all.slide.rows.forEach((row, index) => slider.add({ ...row, shown: all.slides[index] }));
     slider.end();
   }
 
-  /* Examples, and the beginning ------------------------------------------------------------------------------------- */
+  /* Examples, and the beginning ------------------------------------------------------------------------------------ */
 
   /* What to look at: a paragraph for what the example is, one for the rest. Between grave accents is code. */
   function paragraphs(about) {
@@ -343,6 +351,12 @@
     at("example").value = "";
   }
 
+  /* Past the frames, of which there may be many. */
+  function goTo(element) {
+    element.focus();
+    element.scrollIntoView({ block: "nearest" });
+  }
+
   function listen() {
     area.addEventListener("input", onEdit);
     area.addEventListener("keydown", (event) => {
@@ -352,7 +366,10 @@
     at("save").addEventListener("click", save);
     at("copy").addEventListener("click", () => copy(area.value, "The script is copied."));
     at("link").addEventListener("click", copyLink);
-    window.addEventListener("hashchange", openAddress);
+    if (!saved) window.addEventListener("hashchange", openAddress);
+    for (const skip of document.querySelectorAll(".skip")) {
+      skip.addEventListener("click", () => goTo(at(skip.dataset.to)));
+    }
     window.addEventListener("beforeprint", () => { at("printed").textContent = area.value; });
   }
 
