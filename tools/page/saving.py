@@ -67,7 +67,7 @@ def the_slide(slider: Slider, script: bytes, gone: Callable[[], bool]) -> dict[s
         return {"head": head, "rows": [], "done": {}}
     fates = FATES[head["kind"]]
     ordered = sorted(rows[:-1], key=lambda row: (row["at"], fates.index(row["fate"])))
-    return {"head": head, "rows": ordered, "done": rows[-1]["done"]}
+    return {"head": head, "rows": ordered, "done": rows[-1].get("done", {})}
 
 
 def fitting(part: dict[str, Any], size: int, name: str, left_out: list[str]) -> tuple[dict[str, Any] | None, int]:
@@ -129,7 +129,7 @@ def packed_shown(slider: Slider, script: bytes, gone: Callable[[], bool]) -> dic
 def packed(value: Any) -> dict[str, str]:
     """A value as JSON, in the form that the browser's DecompressionStream unpacks."""
     text = json.dumps(value, separators=(",", ":")).encode()
-    return {"z": base64.b64encode(zlib.compress(text, 9)).decode()}
+    return {"z": base64.b64encode(zlib.compress(text)).decode()}
 
 
 def packed_size(value: Any) -> int:

@@ -15,7 +15,7 @@ from typing import Any, Callable, Iterator
 
 from frames.words import hexadecimal
 from page.cache import Cache
-from page.running import Ran, Runner, never
+from page.running import NoProgram, Ran, Runner, never
 from script.fates import Transmissions
 from script.refusal import MOST_LINES, Line, lines_of, read_script
 
@@ -93,6 +93,12 @@ class Slider:
             return
         places = slide.places()
         yield head(slide, places)
+        try:
+            yield from self.told(slide, places, gone)
+        except NoProgram as problem:
+            yield {"ended": str(problem)}
+
+    def told(self, slide: Slide, places: list[Place], gone: Callable[[], bool]) -> Iterator[dict[str, Any]]:
         base = self.last_answer(slide.script("B") if slide.kind == "write" else inbox_before(slide), gone)
         counts: Counter[str] = Counter(dict.fromkeys(TOLD[slide.kind], 0))
         for place, answers in self.answers(places, gone):
