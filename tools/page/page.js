@@ -61,7 +61,7 @@
     const frames = entries.reduce((sum, entry) => sum + entry.frames.filter((frame) => frame.mark !== "!").length, 0);
     const size = `${count(entries.length, "command")}, ${count(frames, "frame")}`;
     const { refused } = shown;
-    if (refused) return `Line ${refused.line} is refused: ${sentence(refused.reason)} Before it: ${size}.`;
+    if (refused) return `Line ${refused.line} is refused: ${refused.reason.replace(/\.?$/, ".")} Before it: ${size}.`;
     if (shown.status === 0) return `Every line was obeyed: ${size}.`;
     return `The run ended with status ${shown.status}: ${size}.`;
   }
