@@ -21,7 +21,8 @@ from types import FrameType
 from commands.given import BadInput, Words, content_of
 from commands.run import NO_PROGRAM
 from page.cache import Cache
-from page.running import NoProgram, Runner
+from page.program import NoProgram
+from page.running import Runner
 from page.saving import saved_page
 from page.server import MOST_BODY, Server
 from page.sliding import Slider

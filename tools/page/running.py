@@ -9,85 +9,28 @@ from __future__ import annotations
 import os
 import re
 import selectors
-import shutil
 import signal
 import subprocess
 import tempfile
 import time
 from contextlib import contextmanager, suppress
 from dataclasses import dataclass, field
-from pathlib import Path
 from threading import BoundedSemaphore, Lock
 from typing import Callable, Iterator
 
-import bench
 from commands.given import REPORT_LINE
+from page.program import Limits, NoProgram, Program, found
 
 FORMS = {"run": ("run",), "run quiet": ("run", "quiet")}
 AT_ONCE = 4
 PIECE = 1 << 16
 TICK = 0.2
-SOURCE = bench.ROOT / "crates" / "nfc_bench"
 ENDED = re.compile(rb"run=ended status=([0-9]+)")
 
-NOT_BUILT = "The built program isn't there: `rt run` in crates/nfc_bench proves and builds it."
-UNPROVED = f"{NOT_BUILT} Meanwhile `rt try` runs it without proof, half a minute each time."
-
-
-class NoProgram(Exception):
-    """There is nothing to run."""
 
 
 class Gone(Exception):
     """Nobody waits for this run any longer, or the server ends."""
-
-
-@dataclass(frozen=True)
-class Limits:
-    """How long a run may take, and how many bytes it may write."""
-
-    seconds: float = 20
-    size: int = 64 << 20
-
-    def too_long(self) -> str:
-        return f"the program was ended after {self.seconds:g} seconds"
-
-    def too_much(self) -> str:
-        return f"the program was ended after {self.size >> 20 or self.size} {'MB' if self.size >> 20 else 'bytes'} of output"
-
-
-@dataclass(frozen=True)
-class Program:
-    """What is run: the words before those of a form, where, within which limits, and what a reader is told of it."""
-
-    words: tuple[str, ...]
-    limits: Limits = Limits()
-    folder: Path | None = None
-    note: str | None = None
-
-    @property
-    def is_tried(self) -> bool:
-        return self.note is not None
-
-    @property
-    def build(self) -> tuple[object, ...]:
-        """Which build of which program it is: another one may answer otherwise."""
-        try:
-            stands = os.stat(self.words[0])
-        except OSError as problem:
-            raise NoProgram(f"The program can't be started: {problem.strerror}.") from None
-        return *self.words, stands.st_mtime_ns, stands.st_size
-
-
-def found() -> Program:
-    """The built program, or else `rt try`, where it is on the path and the program's source is here."""
-    built = bench.program()
-    if built is not None:
-        return Program((str(built),))
-    tool = shutil.which("rt")
-    if tool is None or not SOURCE.is_dir():
-        raise NoProgram(NOT_BUILT)
-    return Program((tool, "try", "--"), Limits(seconds=180), SOURCE, UNPROVED)
 
 
 @dataclass

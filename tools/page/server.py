@@ -14,17 +14,13 @@ import socket
 import time
 from contextlib import closing, suppress
 from http.server import BaseHTTPRequestHandler, ThreadingHTTPServer
-from typing import Any, Callable, Generator
+from typing import Any, Callable
 
-import bench
-from page.cache import Cache
+from page.answering import HTML, JSON, POSTED, TEXT, Answers, Pieces, Refusal, as_json, examples
 from page.parts import FRAME, SCRIPTS, STYLES, joined
-from page.running import FORMS, Gone, NoProgram, Runner
-from page.saving import saved_page
-from page.shown import shown
-from page.sliding import Slider
+from page.program import NoProgram
+from page.running import Gone, Runner
 
-EXAMPLES = bench.ROOT / "examples"
 ADDRESS = "127.0.0.1"
 NAMES = (ADDRESS, "localhost")
 MOST_BODY = 1_000_000
@@ -33,10 +29,6 @@ PATIENCE = 30
 DRAINING = 5
 PIECE = 1 << 16
 
-TEXT = "text/plain; charset=utf-8"
-HTML = "text/html; charset=utf-8"
-JSON = "application/json"
-ROWS = "application/x-ndjson"
 FILES = {
     "": (HTML, FRAME),
     "page.js": ("text/javascript; charset=utf-8", SCRIPTS),
@@ -63,14 +55,6 @@ HEADERS = {
 }
 
 
-class Refusal(Exception):
-    """A request that isn't obeyed: its status, and why, in one sentence."""
-
-    def __init__(self, status: int, why: str) -> None:
-        super().__init__(why)
-        self.status = status
-
-
 class Server(ThreadingHTTPServer):
     """Listens, with a token that only the printed address has."""
 
@@ -81,7 +65,7 @@ class Server(ThreadingHTTPServer):
     def __init__(self, port: int, runner: Runner) -> None:
         super().__init__((ADDRESS, port), Handler)
         self.runner = runner
-        self.slider = Slider(runner, Cache())
+        self.answers = Answers(runner)
         self.token = secrets.token_hex(16)
         self.hosts = {f"{name}:{self.server_port}" for name in NAMES}
 
@@ -170,7 +154,11 @@ class Handler(BaseHTTPRequestHandler):
     def post(self, name: str) -> None:
         if name not in POSTED:
             raise Refusal(405 if name in FILES or name == "examples" else 404, "nothing is posted to this address")
-        POSTED[name](self, self.asked())
+        answer = POSTED[name](self.server.answers, self.asked(), self.is_gone)
+        if isinstance(answer.body, bytes):
+            self.answer(200, answer.kind, answer.body, **answer.headers)
+        else:
+            self.stream(answer.kind, answer.body)
 
     def asked(self) -> dict[str, Any]:
         """The request's body."""
@@ -201,7 +189,7 @@ class Handler(BaseHTTPRequestHandler):
             self.send_header(name, value)
         self.end_headers()
 
-    def stream(self, kind: str, pieces: Generator[bytes, None, None]) -> None:
+    def stream(self, kind: str, pieces: Pieces) -> None:
         """An answer whose pieces go out as they come. Where nothing can run, that is told before anything is sent."""
         with closing(pieces):
             first = next(pieces, b"")
@@ -246,66 +234,3 @@ class Handler(BaseHTTPRequestHandler):
 
     def log_message(self, *_: Any) -> None:
         """Nothing is written of requests."""
-
-
-def as_json(value: Any) -> bytes:
-    return json.dumps(value, separators=(",", ":")).encode()
-
-
-def examples() -> list[dict[str, Any]]:
-    """The scripts of examples/, each with the three lines on what to look at."""
-    found = []
-    for path in sorted(EXAMPLES.glob("*.script")):
-        script = path.read_text("utf-8")
-        about = [line.removeprefix("#").strip() for line in script.split("\n")[:3] if line.startswith("#")]
-        found.append({"name": path.stem, "about": about, "script": script})
-    return found
-
-
-def script_of(asked: dict[str, Any]) -> bytes:
-    """The script as bytes. Those that are no text may be sent as Python escapes them, each as one lone surrogate."""
-    script = asked.get("script")
-    if not isinstance(script, str):
-        raise Refusal(400, "the request has no script")
-    try:
-        return script.encode("utf-8", "surrogateescape")
-    except UnicodeEncodeError:
-        raise Refusal(400, "the script is no text") from None
-
-
-def post_run(handler: Handler, asked: dict[str, Any]) -> None:
-    form = asked.get("form", "run")
-    if not isinstance(form, str) or form not in FORMS:
-        raise Refusal(400, f"the form is one of {', '.join(FORMS)}")
-    run = handler.server.runner.run(form, script_of(asked), handler.is_gone)
-
-    def pieces() -> Generator[bytes, None, None]:
-        yield from run.pieces
-        if run.ended:
-            yield f"ended: {run.ended}\n".encode()
-
-    handler.stream(TEXT, pieces())
-
-
-def post_shown(handler: Handler, asked: dict[str, Any]) -> None:
-    handler.answer(200, JSON, as_json(shown(handler.server.runner, script_of(asked), handler.is_gone)))
-
-
-def post_slide(handler: Handler, asked: dict[str, Any]) -> None:
-    rows = handler.server.slider.rows(script_of(asked), handler.is_gone)
-    with closing(rows):
-        handler.stream(ROWS, (as_json(row) + b"\n" for row in rows))
-
-
-def post_save(handler: Handler, asked: dict[str, Any]) -> None:
-    text = saved_page(handler.server.slider, script_of(asked), gone=handler.is_gone)
-    name = 'attachment; filename="nfc-page.html"'
-    handler.answer(200, HTML, text.encode(), **{"Content-Disposition": name})
-
-
-POSTED: dict[str, Callable[[Handler, dict[str, Any]], None]] = {
-    "run": post_run,
-    "shown": post_shown,
-    "slide": post_slide,
-    "save": post_save,
-}

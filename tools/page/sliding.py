@@ -15,7 +15,9 @@ from typing import Any, Callable, Iterator
 
 from frames.words import hexadecimal
 from page.cache import Cache
-from page.running import NoProgram, Ran, Runner, never
+from page.program import NoProgram
+from page.running import Ran, Runner, never
+from page.telling import accepted, message_told, put_told
 from script.fates import Transmissions
 from script.refusal import MOST_LINES, Line, lines_of, read_script
 
@@ -23,7 +25,6 @@ LETTERS = 4000
 MOST_RUNS = 1000
 MOST_TEXT = 16_000_000
 WORKERS = 3
-NOTHING = "-"
 FATES = {"write": "B", "put": "DLB"}
 TOLD = {"write": ("old", "empty", "new"), "put": ("told", "accepted", "not accepted")}
 
@@ -232,35 +233,6 @@ def row_of(slide: Slide, place: Place, base: str, answer: str, behind: str) -> d
     if slide.kind == "write":
         return row | {"told": message_told(behind, base, slide.line.values[1])}
     return row | {"told": put_told(answer, behind, base), "accepted": accepted(behind)}
-
-
-def message_told(answer: str, before: str, written: bytes) -> str:
-    """Which message a read told: the old one, the one that was written, the empty one; any other answer as it is."""
-    message = message_of(answer)
-    if message is None:
-        return answer
-    if message == message_of(before):
-        return "old"
-    if message == (hexadecimal(written) or NOTHING):
-        return "new"
-    return "empty" if message == NOTHING else answer
-
-
-def message_of(answer: str) -> str | None:
-    words = answer.split(" ")
-    return words[1] if len(words) == 3 and words[0] == "message" else None
-
-
-def put_told(answer: str, behind: str, before: str) -> str:
-    is_accepted = len(accepted(behind)) > len(accepted(before))
-    if answer == "success":
-        return "told" if is_accepted else "told, and not accepted"
-    return "accepted" if is_accepted else "not accepted"
-
-
-def accepted(inbox: str) -> list[str]:
-    """The messages of an inbox's answer, each with its link."""
-    return inbox.split(" ")[2:] if inbox.startswith("inbox ") else []
 
 
 def text_of(script: bytes) -> str:

@@ -16,7 +16,8 @@ from threading import Thread
 from typing import Any
 
 import bench
-from page.running import Limits, Program, Runner
+from page.program import Limits, Program
+from page.running import Runner
 from page.server import ADDRESS, Server
 
 ONE_TAG = b"place t2 01020304 16 000000000000000000000000E11006000303D00000FE\n"

@@ -15,7 +15,8 @@ from http.client import HTTPConnection
 from unittest import mock
 
 import bench
-from page.running import AT_ONCE, Limits
+from page.program import Limits
+from page.running import AT_ONCE
 from tests.calling import PROGRAM
 from tests.serving import ADDRESS, FLOODING, SLEEPING, WRITE, Serving, asked, is_there, needs_program
 

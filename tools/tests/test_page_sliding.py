@@ -10,7 +10,8 @@ from unittest import mock
 from page import sliding
 from page.cache import Cache
 from page.running import Runner
-from page.sliding import Slider, message_told, put_told
+from page.sliding import Slider
+from page.telling import message_told, put_told
 from tests.calling import ROOT
 from tests.serving import WRITE, Serving, needs_program
 
