@@ -273,6 +273,28 @@ class Page(unittest.TestCase):
                 self.opened(script)
                 self.assertIn(sentence, self.browser.value(text("result")))
 
+    def test_a_large_report_is_drawn_as_far_as_it_is_looked_at(self):
+        message = "03FF02BC" + "42" * 700 + "FE"
+        reads = "read 01020304\n" * 60
+        self.opened(f"place t2 01020304 231 000000000000000000000000E1106D00{message}\n{reads}")
+        frames = self.browser.value(f"{text('report')}.split('\\n').length") - 62
+        self.assertGreater(frames, 5000)
+        folded = "document.querySelectorAll('#ladder [aria-expanded=\"false\"]').length"
+        self.assertEqual(self.browser.value(folded), 60)
+        self.browser.value("document.querySelector('#ladder .buttons .all').click()")
+        self.browser.value("new Promise((done) => setTimeout(done, 300))")
+        self.assertLess(self.browser.value("document.querySelectorAll('#ladder .piece .frame').length"), 2000)
+
+    def test_a_server_that_is_gone_is_told(self):
+        self.opened(WRITE)
+        self.browser.call("Network.enable")
+        offline = {"latency": 0, "downloadThroughput": -1, "uploadThroughput": -1}
+        self.browser.call("Network.emulateNetworkConditions", offline=True, **offline)
+        self.opened(f"{WRITE}find\n")
+        self.browser.call("Network.emulateNetworkConditions", offline=False, **offline)
+        self.assertIn("The server doesn't answer", self.browser.value(text("result")))
+        self.browser.problems.clear()
+
     def test_answers_alone(self):
         self.opened(WRITE)
         self.browser.value("document.getElementById('form').value = 'run quiet'")
