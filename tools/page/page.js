@@ -39,7 +39,7 @@
     at("said").textContent = told;
   }
 
-  /* What a script shows; asked once for each. */
+  /* What a script shows. Each is asked once; a script that is run is asked anew. */
   function shownOf(script, signal) {
     if (!state.kept.has(script)) {
       if (state.kept.size >= MOST_KEPT) state.kept.delete(state.kept.keys().next().value);
@@ -85,8 +85,9 @@
   function picture(data, place) {
     state.data = data;
     at("hint").hidden = !data || Boolean(saved);
+    at("ladder").hidden = !data;
     if (!data) {
-      at("ladder").replaceChildren();
+      drawLadder(at("ladder"), { title: "", devices: [], entries: [] });
       return;
     }
     const options = saved ? {} : { onFrame: askFate };
@@ -145,13 +146,18 @@
     }
   }
 
+  function takeRow(told) {
+    if (told.at) slider.add(told);
+    else if (told.kind || told.none) slider.begin(told);
+    else if (told.done || told.ended) slider.end(told.ended);
+  }
+
   async function slide(script, signal) {
-    await eachLine(await ask("slide", { script }, signal), (told) => {
-      if (signal.aborted) return;
-      if (told.at) slider.add(told);
-      else if (told.kind || told.none) slider.begin(told);
-      else if (told.done || told.ended) slider.end(told.ended);
-    });
+    try {
+      await eachLine(await ask("slide", { script }, signal), (told) => signal.aborted || takeRow(told));
+    } catch (error) {
+      if (!signal.aborted) slider.begin({ none: error.message });
+    }
   }
 
   /* The script that is asked for, also out of a link that was pasted in its place; an empty one has a sentence. */
@@ -178,6 +184,7 @@
   }
 
   async function runWhole(script, signal) {
+    state.kept.delete(script);
     const shown = await shownOf(script, signal);
     if (signal.aborted) return;
     const isFirst = !state.base;
@@ -186,6 +193,13 @@
     present(script, shown);
     if (!isFirst && !hasFocus && !(shown.refused && innerWidth <= NARROW)) bringIn(at("result"));
     if (!shown.refused && shown.data) await slide(script, signal);
+  }
+
+  /* In the place of what was shown before. */
+  function fail(why) {
+    at("report").textContent = "";
+    picture(null);
+    at("result").replaceChildren(make("p", "bad", why));
   }
 
   async function run() {
@@ -203,7 +217,7 @@
       await keep(script);
       await (at("form").value === "run" ? runWhole : runQuiet)(script, running.signal);
     } catch (error) {
-      if (!running.signal.aborted) at("result").replaceChildren(make("p", "bad", error.message));
+      if (!running.signal.aborted) fail(error.message);
     }
     if (state.running === running) delete document.body.dataset.busy;
   }
@@ -234,7 +248,7 @@
       await open(location.hash.slice(1));
       await run();
     } catch (error) {
-      at("result").replaceChildren(make("p", "bad", error.message));
+      fail(error.message);
     }
     return true;
   }
@@ -383,5 +397,5 @@
     return undefined;
   }
 
-  start().catch((error) => at("result").replaceChildren(make("p", "bad", error.message)));
+  start().catch((error) => fail(error.message));
 })();

@@ -272,6 +272,8 @@ class Page(unittest.TestCase):
             with self.subTest(sentence):
                 self.opened(script)
                 self.assertIn(sentence, self.browser.value(text("result")))
+        self.opened("")
+        self.assertTrue(self.browser.value("document.getElementById('ladder').hidden"))
 
     def test_a_large_report_is_drawn_as_far_as_it_is_looked_at(self):
         message = "03FF02BC" + "42" * 700 + "FE"
