@@ -131,6 +131,16 @@ class Page(unittest.TestCase):
         self.slide_to(0)
         self.browser.until(f"{text('report')} === {json.dumps(report_of(WRITE))}")
 
+    def test_many_places_stand_in_stretches_and_are_chosen_by_a_click(self):
+        tag = "place t2 01020304 40 000000000000000000000000E11012000303D00000FE"
+        self.opened(f"{tag}\nwrite 01020304 gen:75:1\n")
+        places = int(self.browser.value("document.getElementById('place').max"))
+        self.assertGreater(places, 64)
+        self.assertEqual(self.kinds(), ["old", "empty", "new"])
+        self.browser.click("document.querySelector('.cell-new')")
+        self.browser.until(f"{text('told')}.startsWith('Transmission {places} of {places} is broken off')")
+        self.browser.until("document.querySelectorAll('#ladder .fate-break.here').length === 1")
+
     def test_a_put_tells_what_was_accepted_against_what_was_told(self):
         self.opened(PUT)
         names = ("told", "accepted", "not accepted")
