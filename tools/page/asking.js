@@ -4,6 +4,7 @@
   "use strict";
 
   const MOST_BYTES = 1000000;
+  const TOO_LONG = "The script is too long: at most 1,000,000 bytes are sent.";
 
   /* A text of the server as a sentence: a capital letter and a full stop. */
   function sentence(text) {
@@ -26,7 +27,7 @@
 
   async function ask(word, given, signal) {
     const body = JSON.stringify(given);
-    if (new Blob([body]).size > MOST_BYTES) throw new Error("The script is too long: at most 1,000,000 bytes are sent.");
+    if (new Blob([body]).size > MOST_BYTES) throw new Error(TOO_LONG);
     const headers = { "Content-Type": "application/json" };
     return answered(word, { method: "POST", headers, body, signal });
   }

@@ -1,7 +1,7 @@
 /* The page: a script at the left, what goes over the air at the right, the slider below.
 
-   A saved file holds its runs in the element "saved": there nothing is asked of a server, and no script is run. All that
-   a script or a report says becomes text and never markup. */
+   A saved file holds its runs in the element "saved": there nothing is asked of a server, and no script is run. All
+   that a script or a report says becomes text and never markup. */
 
 (() => {
   "use strict";
@@ -39,7 +39,7 @@
     at("said").textContent = told;
   }
 
-  /* What a script shows; asked once for each. */
+  /* What a script shows. Each is asked once; a script that is run is asked anew. */
   function shownOf(script, signal) {
     if (!state.kept.has(script)) {
       if (state.kept.size >= MOST_KEPT) state.kept.delete(state.kept.keys().next().value);
@@ -50,7 +50,7 @@
     return state.kept.get(script);
   }
 
-  /* What a run tells ------------------------------------------------------------------------------------------------ */
+  /* What a run tells ----------------------------------------------------------------------------------------------- */
 
   function count(number, name) {
     return number === 1 ? `1 ${name}` : `${number} ${name}s`;
@@ -60,7 +60,8 @@
     const entries = shown.data ? shown.data.entries : [];
     const frames = entries.reduce((sum, entry) => sum + entry.frames.filter((frame) => frame.mark !== "!").length, 0);
     const size = `${count(entries.length, "command")}, ${count(frames, "frame")}`;
-    if (shown.refused) return `Line ${shown.refused.line} is refused: ${sentence(shown.refused.reason)} Before it: ${size}.`;
+    const { refused } = shown;
+    if (refused) return `Line ${refused.line} is refused: ${refused.reason.replace(/\.?$/, ".")} Before it: ${size}.`;
     if (shown.status === 0) return `Every line was obeyed: ${size}.`;
     return `The run ended with status ${shown.status}: ${size}.`;
   }
@@ -84,8 +85,9 @@
   function picture(data, place) {
     state.data = data;
     at("hint").hidden = !data || Boolean(saved);
+    at("ladder").hidden = !data;
     if (!data) {
-      at("ladder").replaceChildren();
+      drawLadder(at("ladder"), { title: "", devices: [], entries: [] });
       return;
     }
     const options = saved ? {} : { onFrame: askFate };
@@ -118,7 +120,7 @@
     picture(shown.data, place);
   }
 
-  /* Running --------------------------------------------------------------------------------------------------------- */
+  /* Running -------------------------------------------------------------------------------------------------------- */
 
   const editor = benchPage.editor({ area, numbers: at("line-numbers"), band: at("band"), reason: at("reason") });
   const menu = benchPage.menu(at("menu"), choose);
@@ -144,13 +146,18 @@
     }
   }
 
+  function takeRow(told) {
+    if (told.at) slider.add(told);
+    else if (told.kind || told.none) slider.begin(told);
+    else if (told.done || told.ended) slider.end(told.ended);
+  }
+
   async function slide(script, signal) {
-    await eachLine(await ask("slide", { script }, signal), (told) => {
-      if (signal.aborted) return;
-      if (told.at) slider.add(told);
-      else if (told.kind || told.none) slider.begin(told);
-      else if (told.done || told.ended) slider.end(told.ended);
-    });
+    try {
+      await eachLine(await ask("slide", { script }, signal), (told) => signal.aborted || takeRow(told));
+    } catch (error) {
+      if (!signal.aborted) slider.begin({ none: error.message });
+    }
   }
 
   /* The script that is asked for, also out of a link that was pasted in its place; an empty one has a sentence. */
@@ -177,6 +184,7 @@
   }
 
   async function runWhole(script, signal) {
+    state.kept.delete(script);
     const shown = await shownOf(script, signal);
     if (signal.aborted) return;
     const isFirst = !state.base;
@@ -185,6 +193,13 @@
     present(script, shown);
     if (!isFirst && !hasFocus && !(shown.refused && innerWidth <= NARROW)) bringIn(at("result"));
     if (!shown.refused && shown.data) await slide(script, signal);
+  }
+
+  /* In the place of what was shown before. */
+  function fail(why) {
+    at("report").textContent = "";
+    picture(null);
+    at("result").replaceChildren(make("p", "bad", why));
   }
 
   async function run() {
@@ -202,15 +217,21 @@
       await keep(script);
       await (at("form").value === "run" ? runWhole : runQuiet)(script, running.signal);
     } catch (error) {
-      if (!running.signal.aborted) at("result").replaceChildren(make("p", "bad", error.message));
+      if (!running.signal.aborted) fail(error.message);
     }
     if (state.running === running) delete document.body.dataset.busy;
   }
 
-  /* Links ----------------------------------------------------------------------------------------------------------- */
+  /* Links ---------------------------------------------------------------------------------------------------------- */
 
+  /* The address keeps the script, where the browser takes so long an address. */
   async function keep(script) {
-    history.replaceState(null, "", `#${await benchPage.pack(script)}`);
+    const fragment = await benchPage.pack(script);
+    try {
+      history.replaceState(null, "", `#${fragment}`);
+    } catch (error) {
+      say("The script is too long to stand in the address.");
+    }
   }
 
   async function open(fragment) {
@@ -227,7 +248,7 @@
       await open(location.hash.slice(1));
       await run();
     } catch (error) {
-      at("result").replaceChildren(make("p", "bad", error.message));
+      fail(error.message);
     }
     return true;
   }
@@ -248,7 +269,7 @@
     await copy(link, "The link is copied. Who runs the page too pastes it in the place of the script, and runs it.");
   }
 
-  /* A frame's fate -------------------------------------------------------------------------------------------------- */
+  /* A frame's fate ------------------------------------------------------------------------------------------------- */
 
   /* Later, since the key that asked would otherwise choose in the menu. */
   function askFate(frame, entry) {
@@ -277,7 +298,7 @@
     if (row && row.tabIndex === 0) row.focus({ preventScroll: false });
   }
 
-  /* Saving, and a saved file ---------------------------------------------------------------------------------------- */
+  /* Saving, and a saved file --------------------------------------------------------------------------------------- */
 
   async function save() {
     say("The file is made ..");
@@ -302,14 +323,15 @@
     editor.set(all.script);
     Object.assign(state, { base: all.script, baseShown: await benchPage.opened(all.shown) });
     if (all.left_out) say(all.left_out);
-    present(all.script, state.baseShown);
+    if (state.baseShown) present(all.script, state.baseShown);
+    else at("result").replaceChildren(make("p", "", all.left_out));
     if (!all.slide) return;
     slider.begin(all.slide.head);
     all.slide.rows.forEach((row, index) => slider.add({ ...row, shown: all.slides[index] }));
     slider.end();
   }
 
-  /* Examples, and the beginning ------------------------------------------------------------------------------------- */
+  /* Examples, and the beginning ------------------------------------------------------------------------------------ */
 
   /* What to look at: a paragraph for what the example is, one for the rest. Between grave accents is code. */
   function paragraphs(about) {
@@ -343,6 +365,12 @@
     at("example").value = "";
   }
 
+  /* Past the frames, of which there may be many. */
+  function goTo(element) {
+    element.focus();
+    element.scrollIntoView({ block: "nearest" });
+  }
+
   function listen() {
     area.addEventListener("input", onEdit);
     area.addEventListener("keydown", (event) => {
@@ -352,7 +380,10 @@
     at("save").addEventListener("click", save);
     at("copy").addEventListener("click", () => copy(area.value, "The script is copied."));
     at("link").addEventListener("click", copyLink);
-    window.addEventListener("hashchange", openAddress);
+    if (!saved) window.addEventListener("hashchange", openAddress);
+    for (const skip of document.querySelectorAll(".skip")) {
+      skip.addEventListener("click", () => goTo(at(skip.dataset.to)));
+    }
     window.addEventListener("beforeprint", () => { at("printed").textContent = area.value; });
   }
 
@@ -366,5 +397,5 @@
     return undefined;
   }
 
-  start().catch((error) => at("result").replaceChildren(make("p", "bad", error.message)));
+  start().catch((error) => fail(error.message));
 })();

@@ -94,11 +94,13 @@
     if (view.at === 0) return `${what}: this is the run as the script says it.`;
     const start = `Transmission ${view.at} of ${view.places} is ${FATES[view.fate]}`;
     const slide = view.slides.get(`${view.at}${view.fate}`);
-    if (!slide) return view.isDone ? `${start}: left out, since there are so many places.` : `${start}: not run yet.`;
+    const missing = view.isDone ? "left out, since there are so many places" : "not run yet";
+    if (!slide) return `${start}: ${missing}.`;
     const kind = kindOf(view, slide);
     const answer = `the ${view.kind} answers "${slide.answer}"`;
     if (view.kind === "put") return `${start}: ${answer}. The message is ${KINDS[kind].label}. ${inbox(view, slide)}`;
-    const held = kind === "other" ? `tells "${slide.told}"` : `finds ${kind === "empty" ? "it " : ""}${KINDS[kind].label}`;
+    const found = `finds ${kind === "empty" ? "it " : ""}${KINDS[kind].label}`;
+    const held = kind === "other" ? `tells "${slide.told}"` : found;
     return `${start}: ${answer}, and the read behind it ${held}.`;
   }
 
@@ -171,7 +173,8 @@
     const { kind, places } = first;
     Object.assign(view, { kind, places, fates: kind === "put" ? ["B", "D", "L"] : ["B"] });
     Object.assign(parts.range, { min: 0, max: places, value: 0, disabled: false });
-    const what = kind === "write" ? "the tag is pulled away, and read again" : "the frame is hit, and the inbox is told";
+    const isWrite = kind === "write";
+    const what = isWrite ? "the tag is pulled away, and read again" : "the frame is hit, and the inbox is told";
     parts.about.textContent = `The ${kind} of line ${first.line} has ${places} transmissions where all pass.`;
     parts.about.append(` At each of them ${what}.`);
     if (first.note) parts.about.append(` ${benchPage.sentence(first.note)}`);

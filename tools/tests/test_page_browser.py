@@ -86,7 +86,8 @@ class Page(unittest.TestCase):
         )
 
     def numbers(self) -> dict[str, int]:
-        told = "[...document.querySelectorAll('#numbers li')].map((one) => [one.dataset.kind, one.querySelector('b').textContent])"
+        items = "[...document.querySelectorAll('#numbers li')]"
+        told = f"{items}.map((one) => [one.dataset.kind, one.querySelector('b').textContent])"
         return {kind: int(count) for kind, count in self.browser.value(told)}
 
     def kinds(self, fate: str = "B") -> list[str]:
@@ -130,6 +131,16 @@ class Page(unittest.TestCase):
         self.slide_to(0)
         self.browser.until(f"{text('report')} === {json.dumps(report_of(WRITE))}")
 
+    def test_many_places_stand_in_stretches_and_are_chosen_by_a_click(self):
+        tag = "place t2 01020304 40 000000000000000000000000E11012000303D00000FE"
+        self.opened(f"{tag}\nwrite 01020304 gen:75:1\n")
+        places = int(self.browser.value("document.getElementById('place').max"))
+        self.assertGreater(places, 64)
+        self.assertEqual(self.kinds(), ["old", "empty", "new"])
+        self.browser.click("document.querySelector('.cell-new')")
+        self.browser.until(f"{text('told')}.startsWith('Transmission {places} of {places} is broken off')")
+        self.browser.until("document.querySelectorAll('#ladder .fate-break.here').length === 1")
+
     def test_a_put_tells_what_was_accepted_against_what_was_told(self):
         self.opened(PUT)
         names = ("told", "accepted", "not accepted")
@@ -147,8 +158,9 @@ class Page(unittest.TestCase):
         self.assertTrue(reason.startswith("✗ Line 7: "), reason)
         why = subprocess.run([sys.executable, NFC, "why"], input=script, capture_output=True, text=True, timeout=60)
         self.assertIn(reason.split("\n")[0].removeprefix("✗ Line 7: ").strip(), why.stdout.replace("\n", " "))
-        place = "document.getElementById('band').getBoundingClientRect().top - document.getElementById('script').getBoundingClientRect().top"
-        self.assertAlmostEqual(self.browser.value(place) + self.browser.value("document.getElementById('script').scrollTop"), 126, delta=1)
+        top = "(one) => document.getElementById(one).getBoundingClientRect().top"
+        place = f"(({top})('band')) - (({top})('script')) + document.getElementById('script').scrollTop"
+        self.assertAlmostEqual(self.browser.value(place), 6 + 6 * 20, delta=1)
         self.assertEqual(self.browser.value("document.getElementById('script').getAttribute('aria-invalid')"), "true")
         self.type(script)
         self.assertTrue(self.browser.value("document.getElementById('reason').hidden"))
@@ -179,6 +191,27 @@ class Page(unittest.TestCase):
         self.browser.until(f"{text('report')} === {json.dumps(report_of(wanted))}")
         self.settled()
         self.assertTrue(self.browser.value("document.activeElement.classList.contains('fate-damage')"))
+
+    def test_a_frame_of_a_place_gives_that_place_s_script(self):
+        self.opened(WRITE)
+        self.slide_to(4)
+        self.browser.until("document.querySelectorAll('#ladder .fate-break.here').length === 1")
+        self.browser.click("document.querySelector('#ladder .fate-break.here')")
+        self.browser.until("document.querySelectorAll('#menu button').length === 4")
+        self.browser.click("document.querySelector('#menu [data-fate=\"damage\"]')")
+        wanted = f"{TAG}fates PPPD\nwrite 01020304 D101015401\nread 01020304\n"
+        self.browser.until(f"document.getElementById('script').value === {json.dumps(wanted)}")
+        self.settled()
+        self.assertEqual(self.browser.value(text("report")), report_of(wanted))
+
+    def test_a_changed_script_is_run_before_its_frames_are_chosen(self):
+        self.opened(WRITE)
+        self.type(f"{WRITE}find\n")
+        self.browser.click("document.querySelectorAll('#ladder .piece .frame')[3]")
+        self.browser.until("document.querySelectorAll('#menu button').length === 4")
+        self.browser.click("document.querySelector('#menu [data-fate=\"lose\"]')")
+        self.browser.until(f"{text('said')}.startsWith('The script was changed since this run')")
+        self.assertEqual(self.browser.value("document.getElementById('script').value"), f"{WRITE}find\n")
 
     def test_a_saved_file_opens_from_disk(self):
         with tempfile.TemporaryDirectory() as folder:
@@ -249,6 +282,30 @@ class Page(unittest.TestCase):
             with self.subTest(sentence):
                 self.opened(script)
                 self.assertIn(sentence, self.browser.value(text("result")))
+        self.opened("")
+        self.assertTrue(self.browser.value("document.getElementById('ladder').hidden"))
+
+    def test_a_large_report_is_drawn_as_far_as_it_is_looked_at(self):
+        message = "03FF02BC" + "42" * 700 + "FE"
+        reads = "read 01020304\n" * 60
+        self.opened(f"place t2 01020304 231 000000000000000000000000E1106D00{message}\n{reads}")
+        frames = self.browser.value(f"{text('report')}.split('\\n').length") - 62
+        self.assertGreater(frames, 5000)
+        folded = "document.querySelectorAll('#ladder [aria-expanded=\"false\"]').length"
+        self.assertEqual(self.browser.value(folded), 60)
+        self.browser.value("document.querySelector('#ladder .buttons .all').click()")
+        self.browser.value("new Promise((done) => setTimeout(done, 300))")
+        self.assertLess(self.browser.value("document.querySelectorAll('#ladder .piece .frame').length"), 2000)
+
+    def test_a_server_that_is_gone_is_told(self):
+        self.opened(WRITE)
+        self.browser.call("Network.enable")
+        offline = {"latency": 0, "downloadThroughput": -1, "uploadThroughput": -1}
+        self.browser.call("Network.emulateNetworkConditions", offline=True, **offline)
+        self.opened(f"{WRITE}find\n")
+        self.browser.call("Network.emulateNetworkConditions", offline=False, **offline)
+        self.assertIn("The server doesn't answer", self.browser.value(text("result")))
+        self.browser.problems.clear()
 
     def test_answers_alone(self):
         self.opened(WRITE)
@@ -274,7 +331,8 @@ class Page(unittest.TestCase):
 FATES = """
 const page = require(process.argv[1]);
 const frame = (fate) => ({ mark: ">", fate });
-const entry = (line, count) => ({ line: String(line), frames: [{ mark: "!" }, ...Array.from({ length: count }, frame)] });
+const frames = (count) => [{ mark: "!" }, ...Array.from({ length: count }, frame)];
+const entry = (line, count) => ({ line: String(line), frames: frames(count) });
 for (const [script, counts, line, place, fate] of JSON.parse(require("fs").readFileSync(0, "utf8"))) {
   const entries = counts.map(([line, count]) => entry(line, count));
   const one = entries.find((entry) => entry.line === String(line));
