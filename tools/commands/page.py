@@ -15,11 +15,12 @@ from __future__ import annotations
 import signal
 import sys
 import webbrowser
-from threading import Thread
+from threading import Event, Thread, current_thread, main_thread
 from types import FrameType
 
 from commands.given import BadInput, Words, content_of
 from commands.run import NO_PROGRAM
+from page.answering import program_note
 from page.cache import Cache
 from page.program import NoProgram
 from page.running import Runner
@@ -27,7 +28,7 @@ from page.saving import saved_page
 from page.server import MOST_BODY, Server
 from page.sliding import Slider
 
-ENDS = (signal.SIGTERM, signal.SIGHUP)
+ENDS = (signal.SIGINT, signal.SIGTERM, signal.SIGHUP)
 
 
 def main(words: list[str]) -> int:
@@ -52,14 +53,12 @@ def save(script: bytes, name: str | None) -> int:
         raise BadInput("name the file with -o")
     if len(script) > MOST_BODY:
         raise BadInput(f"the script has {len(script)} bytes, and the page takes at most {MOST_BODY}")
-    runner = Runner()
+    left = ended_by_signals()
     try:
-        text = saved_page(Slider(runner, Cache()), script)
+        text = saved_page(Slider(Runner(), Cache()), script, gone=left.is_set)
     except NoProgram as problem:
         print(f"nfc page: {problem}", file=sys.stderr)
         return NO_PROGRAM
-    finally:
-        runner.stop()
     with open(name, "w", encoding="utf-8") as file:
         file.write(text)
     return 0
@@ -67,15 +66,15 @@ def save(script: bytes, name: str | None) -> int:
 
 def serve(port: int, opens: bool) -> int:
     """Serves until Ctrl-C, or until it is told to end."""
-    for ends in ENDS:
-        signal.signal(ends, interrupted)
+    ended_by_signals()
+    runner = Runner()
     try:
-        server = Server(port, Runner())
+        server = Server(port, runner)
     except OSError as problem:
         raise BadInput(f"port {port}: {problem.strerror}") from None
     try:
         print(server.address, flush=True)
-        print("Ctrl-C ends it.", file=sys.stderr)
+        print(" ".join(filter(None, (program_note(runner), "Ctrl-C ends it."))), file=sys.stderr)
         if opens:
             Thread(target=webbrowser.open, args=(server.address,), daemon=True).start()
         server.serve_forever(poll_interval=0.1)
@@ -86,5 +85,15 @@ def serve(port: int, opens: bool) -> int:
     return 0
 
 
-def interrupted(_signal: int, _frame: FrameType | None) -> None:
-    raise KeyboardInterrupt
+def ended_by_signals() -> Event:
+    """Lets the other signals that ask a program to end do what Ctrl-C does. What runs meanwhile is told by an event."""
+    left = Event()
+
+    def interrupted(_signal: int, _frame: FrameType | None) -> None:
+        left.set()
+        raise KeyboardInterrupt
+
+    if current_thread() is main_thread():
+        for ends in ENDS:
+            signal.signal(ends, interrupted)
+    return left

@@ -9,6 +9,7 @@ from typing import Any, Callable, Generator
 
 import bench
 from page.cache import Cache
+from page.program import NoProgram
 from page.running import FORMS, Runner
 from page.saving import saved_page
 from page.shown import shown
@@ -48,6 +49,13 @@ class Answers:
         self.runner = runner
         self.slider = Slider(runner, Cache())
 
+    def examples(self) -> list[dict[str, Any]]:
+        return examples()
+
+    def program(self) -> dict[str, str | None]:
+        """What is to be told of the program before anything is run."""
+        return {"note": program_note(self.runner)}
+
     def run(self, asked: dict[str, Any], gone: Gone) -> Answer:
         form, script = form_of(asked), script_of(asked)
         run = self.runner.run(form, script, gone)
@@ -85,6 +93,9 @@ POSTED: dict[str, Callable[[Answers, dict[str, Any], Gone], Answer]] = {
 }
 
 
+GOT: dict[str, Callable[[Answers], Any]] = {"examples": Answers.examples, "program": Answers.program}
+
+
 def as_json(value: Any) -> bytes:
     return json.dumps(value, separators=(",", ":")).encode()
 
@@ -97,6 +108,14 @@ def examples() -> list[dict[str, Any]]:
         about = [line.removeprefix("#").strip() for line in script.split("\n")[:3] if line.startswith("#")]
         found.append({"name": path.stem, "about": about, "script": script})
     return found
+
+
+def program_note(runner: Runner) -> str | None:
+    """Which command builds the program, where it isn't built; none where it is."""
+    try:
+        return runner.find().note
+    except NoProgram as problem:
+        return str(problem)
 
 
 def form_of(asked: dict[str, Any]) -> str:

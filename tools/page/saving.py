@@ -10,8 +10,11 @@ import base64
 import json
 import time
 import zlib
+from collections import Counter
 from concurrent.futures import ThreadPoolExecutor
+from contextlib import closing
 from dataclasses import dataclass
+from itertools import takewhile
 from typing import Any, Callable, Iterator
 
 from frames.words import counted
@@ -19,7 +22,7 @@ from page.file import as_json
 from page.parts import FRAME, SCRIPTS, STYLES, joined
 from page.running import never
 from page.shown import shown
-from page.sliding import FATES, WORKERS, Slider
+from page.sliding import FATES, WORKERS, Slider, coarse_to_fine
 
 STYLE = '<link rel="stylesheet" href="page.css">'
 SCRIPT = '<script src="page.js"></script>'
@@ -44,14 +47,18 @@ def saved_page(slider: Slider, script: bytes, room: Room = Room(), gone: Callabl
 
 def saved(slider: Slider, script: bytes, room: Room, gone: Callable[[], bool]) -> dict[str, Any]:
     """What the file holds."""
-    until = time.monotonic() + room.seconds
+    begun = time.monotonic()
     left_out: list[str] = []
     text = script.decode("utf-8", "surrogateescape")
     size = int(room.size * SPARED) - len(with_data("")) - packed_size(text)
     own, size = fitting(packed_shown(slider, script, gone), size, "the script's own report", left_out)
-    slide, size = fitting(the_slide(slider, script, gone), size, "the slider", left_out)
+    slide = the_slide(slider, script, begun + room.seconds / 2, gone)
+    missing = slide["head"].get("runs", 0) - len(slide["rows"])
+    if missing:
+        left_out.append(f"{counted(missing, 'place')} of the slider")
+    slide, size = fitting(slide, size, "the slider", left_out)
     rows = slide["rows"] if slide else []
-    slides = inside(slider, [row["script"] for row in rows], size, until, gone)
+    slides = inside(slider, [row["script"] for row in rows], size, begun + room.seconds, gone)
     missing = slides.count(None)
     if missing:
         left_out.append(f"the runs of {missing} of {counted(len(rows), 'place')}")
@@ -60,14 +67,14 @@ def saved(slider: Slider, script: bytes, room: Room, gone: Callable[[], bool]) -
     return {"script": text, "shown": own, "slide": slide, "slides": slides, "left_out": told}
 
 
-def the_slide(slider: Slider, script: bytes, gone: Callable[[], bool]) -> dict[str, Any]:
-    """What `/slide` answers, its rows in order."""
-    head, *rows = slider.rows(script, gone)
-    if "none" in head:
-        return {"head": head, "rows": [], "done": {}}
-    fates = FATES[head["kind"]]
-    ordered = sorted(rows[:-1], key=lambda row: (row["at"], fates.index(row["fate"])))
-    return {"head": head, "rows": ordered, "done": rows[-1].get("done", {})}
+def the_slide(slider: Slider, script: bytes, until: float, gone: Callable[[], bool]) -> dict[str, Any]:
+    """What `/slide` answers, its rows in order: those that come in time."""
+    with closing(slider.rows(script, gone)) as answers:
+        head = next(answers)
+        rows = [row for row in takewhile(lambda _: time.monotonic() < until, answers) if "at" in row]
+    fates = FATES.get(head.get("kind"), "")
+    rows.sort(key=lambda row: (row["at"], fates.index(row["fate"])))
+    return {"head": head, "rows": rows, "done": Counter(row["told"] for row in rows)}
 
 
 def fitting(part: dict[str, Any], size: int, name: str, left_out: list[str]) -> tuple[dict[str, Any] | None, int]:
@@ -104,18 +111,6 @@ def inside(
 def batches(places: list[int], size: int) -> Iterator[list[int]]:
     for start in range(0, len(places), size):
         yield places[start : start + size]
-
-
-def coarse_to_fine(count: int) -> list[int]:
-    """All numbers below `count`: the first and the last, then those between, ever closer together."""
-    if not count:
-        return []
-    step = 1 << (count - 1).bit_length()
-    order = {0: None, count - 1: None}
-    while step:
-        order.update(dict.fromkeys(range(0, count, step)))
-        step //= 2
-    return list(order)
 
 
 def encoded(script: str) -> bytes:

@@ -14,9 +14,10 @@ import socket
 import time
 from contextlib import closing, suppress
 from http.server import BaseHTTPRequestHandler, ThreadingHTTPServer
+from threading import BoundedSemaphore
 from typing import Any, Callable
 
-from page.answering import HTML, JSON, POSTED, TEXT, Answers, Pieces, Refusal, as_json, examples
+from page.answering import GOT, HTML, JSON, POSTED, TEXT, Answers, Pieces, Refusal, as_json
 from page.parts import FRAME, SCRIPTS, STYLES, joined
 from page.program import NoProgram
 from page.running import Gone, Runner
@@ -25,6 +26,7 @@ ADDRESS = "127.0.0.1"
 NAMES = (ADDRESS, "localhost")
 MOST_BODY = 1_000_000
 MOST_DRAINED = 8_000_000
+MOST_CONNECTIONS = 100
 PATIENCE = 30
 DRAINING = 5
 PIECE = 1 << 16
@@ -65,6 +67,7 @@ class Server(ThreadingHTTPServer):
     def __init__(self, port: int, runner: Runner) -> None:
         super().__init__((ADDRESS, port), Handler)
         self.runner = runner
+        self.places = BoundedSemaphore(MOST_CONNECTIONS)
         self.answers = Answers(runner)
         self.token = secrets.token_hex(16)
         self.hosts = {f"{name}:{self.server_port}" for name in NAMES}
@@ -78,6 +81,19 @@ class Server(ThreadingHTTPServer):
         self.socket.bind(self.server_address)
         self.server_address = self.socket.getsockname()
         self.server_name, self.server_port = self.server_address[:2]
+
+    def process_request(self, request: Any, client_address: Any) -> None:
+        """Takes a connection; above a number that no page needs it is closed."""
+        if self.places.acquire(blocking=False):
+            super().process_request(request, client_address)
+        else:
+            self.shutdown_request(request)
+
+    def process_request_thread(self, request: Any, client_address: Any) -> None:
+        try:
+            super().process_request_thread(request, client_address)
+        finally:
+            self.places.release()
 
     def handle_error(self, request: Any, client_address: Any) -> None:
         """A connection that fails concerns its client alone."""
@@ -142,8 +158,8 @@ class Handler(BaseHTTPRequestHandler):
         return parts[2]
 
     def get(self, name: str) -> None:
-        if name == "examples":
-            self.answer(200, JSON, as_json(examples()))
+        if name in GOT:
+            self.answer(200, JSON, as_json(GOT[name](self.server.answers)))
         elif name in FILES:
             kind, parts = FILES[name]
             self.answer(200, kind, joined(parts).encode())
@@ -154,7 +170,7 @@ class Handler(BaseHTTPRequestHandler):
 
     def post(self, name: str) -> None:
         if name not in POSTED:
-            raise Refusal(405 if name in FILES or name == "examples" else 404, "nothing is posted to this address")
+            raise Refusal(405 if name in FILES or name in GOT else 404, "nothing is posted to this address")
         answer = POSTED[name](self.server.answers, self.asked(), self.is_gone)
         if isinstance(answer.body, bytes):
             self.answer(200, answer.kind, answer.body, **answer.headers)
@@ -219,8 +235,9 @@ class Handler(BaseHTTPRequestHandler):
 
     def is_gone(self) -> bool:
         """Whether the client has closed its end."""
-        readable, _, _ = select.select([self.connection], [], [], 0)
-        if not readable:
+        waiting = select.poll()
+        waiting.register(self.connection, select.POLLIN)
+        if not waiting.poll(0):
             return False
         try:
             return not self.connection.recv(1, socket.MSG_PEEK)

@@ -139,8 +139,9 @@ class Slider:
             return left.is_set() or gone()
 
         pool = ThreadPoolExecutor(WORKERS)
+        ordered = [places[at] for at in coarse_to_fine(len(places))]
         try:
-            waiting = {pool.submit(self.two_answers, place.script, is_left): place for place in places}
+            waiting = {pool.submit(self.two_answers, place.script, is_left): place for place in ordered}
             for done in as_completed(waiting):
                 yield waiting[done], done.result()
         finally:
@@ -158,6 +159,21 @@ class Slider:
 
     def last_answer(self, script: bytes, gone: Callable[[], bool]) -> str:
         return self.two_answers(script, gone)[1]
+
+
+def coarse_to_fine(count: int) -> list[int]:
+    """All numbers below `count`: the first and the last, then those between, ever closer together.
+
+    Who stops in the middle has seen all of it, evenly.
+    """
+    if not count:
+        return []
+    step = 1 << (count - 1).bit_length()
+    order = {0: None, count - 1: None}
+    while step:
+        order.update(dict.fromkeys(range(0, count, step)))
+        step //= 2
+    return list(order)
 
 
 def last_command(script: bytes) -> tuple[list[Line], Line]:

@@ -167,6 +167,21 @@ class Ended(Serving):
                 for line in lines:
                     line.close()
 
+    def test_the_making_of_a_file_ends_by_a_signal_too(self) -> None:
+        script, target = self.folder / "script", self.folder / "one.html"
+        script.write_bytes(WRITE)
+        environment = {**os.environ, bench.VARIABLE: str(self.stand_in(SLEEPING))}
+        words = [sys.executable, str(PROGRAM), "page", str(script), "-o", str(target)]
+        process = subprocess.Popen(words, env=environment, text=True, stderr=subprocess.PIPE, start_new_session=True)
+        self.addCleanup(process.communicate)
+        self.addCleanup(process.kill)
+        pids = self.pids(2)
+        process.send_signal(signal.SIGINT)
+        _, errors = process.communicate(timeout=20)
+        self.assertEqual((process.returncode, errors), (130, ""))
+        self.assertEqual([pid for pid in pids if is_there(pid)], [])
+        self.assertFalse(target.exists())
+
     def test_it_serves(self) -> None:
         process = self.started("echo 1 ok\n")
         with closing(HTTPConnection(ADDRESS, self.port)) as connection:

@@ -18,8 +18,8 @@ import bench
 from page.cache import Cache
 from page.parts import SCRIPTS, STYLES, joined
 from page.running import Runner
-from page.saving import Room, coarse_to_fine, saved_page, with_data
-from page.sliding import Slider
+from page.saving import Room, saved_page, with_data
+from page.sliding import Slider, coarse_to_fine
 from tests.calling import ROOT, call
 from tests.serving import WRITE, Serving, needs_program
 
@@ -98,8 +98,8 @@ class LeftOut(unittest.TestCase):
 
     def test_runs_for_which_no_time_is_left(self) -> None:
         data = held(file_of(WRITE, Room(seconds=0)))
-        self.assertEqual(data["slides"], [None] * 18)
-        self.assertIn("the runs of 18 of 18 places", data["left_out"])
+        self.assertEqual((data["slide"]["rows"], data["slides"]), ([], []))
+        self.assertIn("18 places of the slider", data["left_out"])
 
     def test_no_room_at_all(self) -> None:
         data = held(file_of(WRITE, Room(size=len(with_data("")))))

@@ -205,6 +205,9 @@ class Reports(Serving):
         told = self.post("shown", script="").json
         self.assertEqual((told["status"], told["report"], told["note"]), (0, "", "The script is empty."))
 
+    def test_of_a_built_program_nothing_is_to_be_told(self) -> None:
+        self.assertEqual(self.ask("GET", f"/{self.token}/program").json, {"note": None})
+
     def test_fates_that_are_left_are_told(self) -> None:
         told = self.post("shown", script="find\nfates PL\n").json
         self.assertEqual(told["note"], "2 fates of line 2 still left.")
@@ -218,6 +221,7 @@ class NoProgram(Serving):
                 self.assertEqual(answer.status, 503, name)
                 self.assertIn("`rt run` in crates/nfc_bench", answer.text)
                 self.assertEqual(answer.text.count("\n"), 1)
+            self.assertIn("`rt run` in crates/nfc_bench", self.ask("GET", f"/{self.token}/program").json["note"])
 
     def test_meanwhile_the_tool_runs_it_where_it_is_there(self) -> None:
         self.stand_in("echo building >&2\necho \"$@\" > words\necho 1 ok\ncat > got\necho run=ended status=2\n", "rt")
@@ -226,6 +230,7 @@ class NoProgram(Serving):
             self.assertEqual(self.post("run", form="run quiet", script="find\n").text, "1 ok\n")
             self.assertEqual((self.folder / "words").read_text(), "try -- run quiet\n")
             self.assertEqual((self.folder / "got").read_text(), "find\n")
+            self.assertIn("half a minute", self.ask("GET", f"/{self.token}/program").json["note"])
             told = self.post("shown", script="find\n").json
             self.assertEqual((told["status"], told["report"]), (2, "1 ok\n"))
             self.assertIn("half a minute", told["note"])
