@@ -224,13 +224,12 @@
 
   /* Links ---------------------------------------------------------------------------------------------------------- */
 
-  /* The address keeps the script, where the browser takes so long an address. */
+  /* The address keeps the script, where the browser can pack it and takes so long an address. */
   async function keep(script) {
-    const fragment = await benchPage.pack(script);
     try {
-      history.replaceState(null, "", `#${fragment}`);
+      history.replaceState(null, "", `#${await benchPage.pack(script)}`);
     } catch (error) {
-      say("The script is too long to stand in the address.");
+      say("The address can't keep this script.");
     }
   }
 
