@@ -236,6 +236,9 @@ class Page(unittest.TestCase):
         self.slide_to(place)
         told = report_of(f"{TAG}fates {'P' * (place - 1)}B\nwrite 01020304 D101015401\nread 01020304\n")
         self.browser.until(f"{text('report')} === {json.dumps(told)}")
+        hit, slider = "document.querySelector('#ladder .here')", "document.getElementById('slider')"
+        edges = (f"{hit}.getBoundingClientRect().bottom", f"{slider}.getBoundingClientRect().top")
+        self.browser.until(f"{hit} && {' <= '.join(edges)}")
         self.assertEqual(self.browser.value("document.getElementById('script').value"), WRITE)
         self.assertTrue(self.browser.value("document.getElementById('script').readOnly"))
         self.assertTrue(self.browser.value("document.getElementById('run').hidden"))
