@@ -359,6 +359,13 @@
     });
   }
 
+  /* What is to be told before anything is run: that the program isn't built, and how it is. */
+  async function tellProgram() {
+    const { note } = await (await answered("program")).json();
+    at("program").textContent = sentence(note || "");
+    at("program").hidden = !note;
+  }
+
   function onEdit() {
     at("about").hidden = true;
     at("example").value = "";
@@ -389,6 +396,7 @@
   async function start() {
     listen();
     if (saved) return showSaved();
+    await tellProgram();
     await offerExamples();
     if (await openAddress()) return undefined;
     editor.set(FIRST);

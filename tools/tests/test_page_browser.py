@@ -3,6 +3,7 @@
 from __future__ import annotations
 
 import json
+import os
 import pathlib
 import random
 import shutil
@@ -28,6 +29,20 @@ def report_of(script: str) -> str:
     return ended.stdout.decode()
 
 
+def served(**environment: str) -> tuple[subprocess.Popen, str]:
+    """The page's server, and its address."""
+    words = [sys.executable, str(NFC), "page", "--no-open"]
+    pipes = {"stdout": subprocess.PIPE, "stderr": subprocess.DEVNULL}
+    server = subprocess.Popen(words, env={**os.environ, **environment}, text=True, **pipes)
+    return server, server.stdout.readline().strip()
+
+
+def end(server: subprocess.Popen) -> None:
+    server.terminate()
+    server.wait(20)
+    server.stdout.close()
+
+
 def text(one: str) -> str:
     return f"document.getElementById('{one}').textContent"
 
@@ -37,18 +52,10 @@ def text(one: str) -> str:
 class Page(unittest.TestCase):
     @classmethod
     def setUpClass(cls):
-        words = [sys.executable, str(NFC), "page", "--no-open"]
-        cls.server = subprocess.Popen(words, stdout=subprocess.PIPE, stderr=subprocess.DEVNULL, text=True)
-        cls.addClassCleanup(cls.end)
-        cls.address = cls.server.stdout.readline().strip()
+        server, cls.address = served()
+        cls.addClassCleanup(end, server)
         cls.browser = Chromium()
         cls.addClassCleanup(cls.browser.close)
-
-    @classmethod
-    def end(cls):
-        cls.server.terminate()
-        cls.server.wait(20)
-        cls.server.stdout.close()
 
     def setUp(self):
         self.browser.problems.clear()
@@ -229,6 +236,9 @@ class Page(unittest.TestCase):
         self.slide_to(place)
         told = report_of(f"{TAG}fates {'P' * (place - 1)}B\nwrite 01020304 D101015401\nread 01020304\n")
         self.browser.until(f"{text('report')} === {json.dumps(told)}")
+        hit, slider = "document.querySelector('#ladder .here')", "document.getElementById('slider')"
+        edges = (f"{hit}.getBoundingClientRect().bottom", f"{slider}.getBoundingClientRect().top")
+        self.browser.until(f"{hit} && {' <= '.join(edges)}")
         self.assertEqual(self.browser.value("document.getElementById('script').value"), WRITE)
         self.assertTrue(self.browser.value("document.getElementById('script').readOnly"))
         self.assertTrue(self.browser.value("document.getElementById('run').hidden"))
@@ -305,6 +315,16 @@ class Page(unittest.TestCase):
         self.opened(f"{WRITE}find\n")
         self.browser.call("Network.emulateNetworkConditions", offline=False, **offline)
         self.assertIn("The server doesn't answer", self.browser.value(text("result")))
+        self.browser.problems.clear()
+
+    def test_a_program_that_is_not_built_is_told(self):
+        server, address = served(NFC_BENCH="/nowhere/bench", PATH="/nowhere")
+        self.addCleanup(end, server)
+        self.browser.open(address)
+        self.browser.until("!document.getElementById('program').hidden")
+        self.assertIn("rt run", self.browser.value(text("program")))
+        self.settled()
+        self.assertIn("rt run", self.browser.value(text("result")))
         self.browser.problems.clear()
 
     def test_answers_alone(self):
