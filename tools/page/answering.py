@@ -61,8 +61,13 @@ class Answers:
         run = self.runner.run(form, script, gone)
 
         def pieces() -> Pieces:
-            yield from run.pieces
+            last = b"\n"
+            with closing(run.pieces):
+                for piece in run.pieces:
+                    last = piece[-1:] or last
+                    yield piece
             if run.ended:
+                yield b"" if last == b"\n" else b"\n"
                 yield f"ended: {run.ended}\n".encode()
 
         return Answer(TEXT, pieces())

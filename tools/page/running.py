@@ -13,10 +13,10 @@ import signal
 import subprocess
 import tempfile
 import time
-from contextlib import contextmanager, suppress
+from contextlib import closing, contextmanager, suppress
 from dataclasses import dataclass, field
 from threading import BoundedSemaphore, Lock
-from typing import Callable, Iterator
+from typing import Callable, Generator, Iterator
 
 from commands.given import REPORT_LINE
 from page.program import Limits, NoProgram, Program, found
@@ -25,6 +25,7 @@ FORMS = {"run": ("run",), "run quiet": ("run", "quiet")}
 AT_ONCE = 4
 PIECE = 1 << 16
 TICK = 0.2
+Pieces = Generator[bytes, None, None]
 ENDED = re.compile(rb"run=ended status=([0-9]+)")
 
 
@@ -36,7 +37,7 @@ class Gone(Exception):
 class Run:
     """One run: its pieces of output, and behind them its status and the sentence of a limit that ended it."""
 
-    pieces: Iterator[bytes] = field(default_factory=lambda: iter(()))
+    pieces: Pieces = field(init=False)
     status: int | None = None
     ended: str | None = None
     note: str | None = None
@@ -77,12 +78,11 @@ class Runner:
     def whole(self, form: str, script: bytes, gone: Callable[[], bool] = never) -> Ran:
         """A run from beginning to end."""
         run = self.run(form, script, gone)
-        output = b"".join(run.pieces)
+        with closing(run.pieces):
+            output = b"".join(run.pieces)
         return Ran(run.status, output, run.ended, run.note)
 
-    def pieces(
-        self, run: Run, program: Program, form: str, script: bytes, gone: Callable[[], bool]
-    ) -> Iterator[bytes]:
+    def pieces(self, run: Run, program: Program, form: str, script: bytes, gone: Callable[[], bool]) -> Pieces:
         with self.turn(gone), self.started(program, form, script) as process:
             deadline = time.monotonic() + program.limits.seconds
             for piece in within(program.limits, run, output_of(process, deadline, gone)):
@@ -193,16 +193,16 @@ def within(limits: Limits, run: Run, pieces: Iterator[bytes]) -> Iterator[bytes]
         run.ended = limits.too_long()
 
 
-def tried(run: Run, pieces: Iterator[bytes]) -> Iterator[bytes]:
+def tried(run: Run, pieces: Pieces) -> Pieces:
     """Of what `rt try` writes, the report's lines alone. The program's status is in a line of its own."""
-    status = None
+    status: int | None = None
     kept = b""
-    for piece in pieces:
-        *lines, kept = (kept + piece).split(b"\n")
-        for line in lines:
-            ended = ENDED.match(line)
-            status = int(ended[1]) if ended else status
-        yield b"".join(line + b"\n" for line in lines if REPORT_LINE.fullmatch(line.decode("ascii", "replace")))
+    with closing(pieces):
+        for piece in pieces:
+            *lines, kept = (kept + piece).split(b"\n")
+            yield b"".join(line + b"\n" for line in lines if REPORT_LINE.fullmatch(line.decode("ascii", "replace")))
+            ended = [int(line[1]) for line in map(ENDED.match, lines) if line]
+            status = ended[-1] if ended else status
     run.status = run.status if status is None else status
 
 

@@ -23,7 +23,7 @@ def shown(runner: Runner, script: bytes, gone: Callable[[], bool] = never) -> di
 def told(script: bytes, ran: Ran) -> dict[str, Any]:
     read = read_script(script)
     report = ran.output.decode("ascii", "replace")
-    lines = report.splitlines()
+    lines = report.split("\n")[:-1]
     data, too_large = drawn(lines, script)
     notes = [sentence(ran.ended), ran.note, nothing(script), too_large, *fates_told(read, lines)]
     return {

@@ -9,9 +9,10 @@ from __future__ import annotations
 
 from collections import Counter, deque
 from concurrent.futures import ThreadPoolExecutor, as_completed
+from contextlib import closing
 from dataclasses import dataclass
 from threading import Event
-from typing import Any, Callable, Iterator
+from typing import Any, Callable, Generator
 
 from frames.words import hexadecimal
 from page.cache import Cache
@@ -78,6 +79,10 @@ class Slide:
         return [self.place(at, fate) for at in self.chosen() for fate in FATES[self.kind]]
 
 
+Rows = Generator[dict[str, Any], None, None]
+Answered = Generator[tuple[Place, tuple[str, str]], None, None]
+
+
 class Slider:
     """Makes the answers of `/slide`, and keeps what each place told."""
 
@@ -85,7 +90,7 @@ class Slider:
         self.runner = runner
         self.cache = cache
 
-    def rows(self, script: bytes, gone: Callable[[], bool] = never) -> Iterator[dict[str, Any]]:
+    def rows(self, script: bytes, gone: Callable[[], bool] = never) -> Rows:
         """First how many there are, then what each place tells, as it comes, then how often each was told."""
         try:
             slide = self.slide(script, gone)
@@ -99,13 +104,14 @@ class Slider:
         except NoProgram as problem:
             yield {"ended": str(problem)}
 
-    def told(self, slide: Slide, places: list[Place], gone: Callable[[], bool]) -> Iterator[dict[str, Any]]:
+    def told(self, slide: Slide, places: list[Place], gone: Callable[[], bool]) -> Rows:
         base = self.last_answer(slide.script("B") if slide.kind == "write" else inbox_before(slide), gone)
         counts: Counter[str] = Counter(dict.fromkeys(TOLD[slide.kind], 0))
-        for place, answers in self.answers(places, gone):
-            row = row_of(slide, place, base, *answers)
-            counts[row["told"] if row["told"] in counts else "other"] += 1
-            yield row
+        with closing(self.answers(places, gone)) as answers:
+            for place, two in answers:
+                row = row_of(slide, place, base, *two)
+                counts[row["told"] if row["told"] in counts else "other"] += 1
+                yield row
         yield {"done": dict(counts)}
 
     def slide(self, script: bytes, gone: Callable[[], bool]) -> Slide:
@@ -131,7 +137,7 @@ class Slider:
             raise NoSlider(ran.ended)
         return ran.output
 
-    def answers(self, places: list[Place], gone: Callable[[], bool]) -> Iterator[tuple[Place, tuple[str, str]]]:
+    def answers(self, places: list[Place], gone: Callable[[], bool]) -> Answered:
         """What the last two commands of each place's script answer, several runs at a time."""
         left = Event()
 

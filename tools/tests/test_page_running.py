@@ -50,6 +50,14 @@ class Limited(Serving):
         self.assertEqual((len(report), told), (SMALL.size, "the program was ended after 300000 bytes of output\n"))
         self.assert_nothing_stays(1)
 
+    def test_a_line_that_is_cut_off_is_no_line(self) -> None:
+        self.serve_instead("echo $$ >> pids\nprintf '1 ok\\n2 found'\nexec sleep 300\n", SHORT)
+        answer = self.post("run", script="find\n")
+        self.assertEqual(answer.text, "1 ok\n2 found\nended: the program was ended after 0.6 seconds\n")
+        told = self.post("shown", script="find\n").json
+        self.assertEqual([entry["answer"] for entry in told["data"]["entries"]], ["ok"])
+        self.assert_nothing_stays(2)
+
     def test_a_slide_or_a_file_of_a_run_that_was_ended_says_so(self) -> None:
         self.serve_instead(SLEEPING, SHORT)
         rows = self.post("slide", script=WRITE.decode()).rows
