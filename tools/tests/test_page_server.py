@@ -6,10 +6,13 @@ import json
 import os
 import random
 import re
+import socket
+import time
 import unittest
 from concurrent.futures import ThreadPoolExecutor
 from contextlib import closing
 from pathlib import Path
+from threading import BoundedSemaphore
 from unittest import mock
 
 import bench
@@ -112,6 +115,18 @@ class Refused(Serving):
                 answer = b"".join(iter(lambda: line.recv(1 << 16), b""))
                 self.assertNotIn(b"Traceback", answer)
                 self.assertNotIn(b"<", answer)
+        self.assertEqual(self.ask("GET", f"/{self.token}/").status, 200)
+
+    def test_more_connections_than_a_page_needs(self) -> None:
+        self.server.places = BoundedSemaphore(3)
+        lines = [socket.create_connection((ADDRESS, self.port), timeout=20) for _ in range(4)]
+        self.assertEqual(lines[3].recv(1), b"")
+        for line in lines:
+            line.close()
+        until = time.monotonic() + 20
+        while not self.server.places.acquire(blocking=False) and time.monotonic() < until:
+            time.sleep(0.02)
+        self.server.places.release()
         self.assertEqual(self.ask("GET", f"/{self.token}/").status, 200)
 
 
