@@ -112,7 +112,8 @@ class Serving(unittest.TestCase):
         """So many processes were started, and soon none of them is there any more."""
         pids = self.pids(count)
         until = time.monotonic() + 20
-        while any(map(is_there, pids)) and time.monotonic() < until:
+        # the runner forgets a process a moment after it has ended
+        while (self.runner.processes or any(map(is_there, pids))) and time.monotonic() < until:
             time.sleep(0.02)
         self.assertEqual([pid for pid in pids if is_there(pid)], [])
         self.assertEqual(self.runner.processes, set())
