@@ -109,14 +109,19 @@ class Serving(unittest.TestCase):
         self.fail("the program didn't begin")
 
     def assert_nothing_stays(self, count: int) -> None:
-        """So many processes were started, and soon none of them is there any more."""
-        pids = self.pids(count)
+        """So many processes were started, and soon none of them is there any more, nor does the runner know of one."""
+        self.assert_gone(self.pids(count))
         until = time.monotonic() + 20
-        # the runner forgets a process a moment after it has ended
-        while (self.runner.processes or any(map(is_there, pids))) and time.monotonic() < until:
+        while self.runner.processes and time.monotonic() < until:
+            time.sleep(0.02)
+        self.assertEqual(self.runner.processes, set())
+
+    def assert_gone(self, pids: list[int]) -> None:
+        """Soon none of these processes is there any more: one that was killed may take a moment."""
+        until = time.monotonic() + 20
+        while any(map(is_there, pids)) and time.monotonic() < until:
             time.sleep(0.02)
         self.assertEqual([pid for pid in pids if is_there(pid)], [])
-        self.assertEqual(self.runner.processes, set())
 
 
 def asked(

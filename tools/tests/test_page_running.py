@@ -18,9 +18,9 @@ import bench
 from page.program import Limits
 from page.running import AT_ONCE
 from tests.calling import PROGRAM
-from tests.serving import ADDRESS, FLOODING, SLEEPING, WRITE, Serving, asked, is_there, needs_program
+from tests.serving import ADDRESS, FLOODING, SLEEPING, WRITE, Serving, asked, needs_program
 
-SHORT = Limits(seconds=0.6)
+SHORT = Limits(seconds=1.5)
 SMALL = Limits(size=300_000)
 
 
@@ -32,15 +32,15 @@ class Limited(Serving):
     def test_a_run_that_takes_long_is_ended(self) -> None:
         self.serve_instead(SLEEPING, SHORT)
         answer = self.post("run", script="find\n")
-        self.assertEqual(answer.text, "1 ok\nended: the program was ended after 0.6 seconds\n")
+        self.assertEqual(answer.text, "1 ok\nended: the program was ended after 1.5 seconds\n")
         told = self.post("shown", script="find\n").json
         self.assertEqual((told["status"], told["report"]), (None, "1 ok\n"))
-        self.assertEqual(told["note"], "The program was ended after 0.6 seconds.")
+        self.assertEqual(told["note"], "The program was ended after 1.5 seconds.")
         self.assert_nothing_stays(4)
 
     def test_one_that_closes_its_output_and_goes_on_is_ended(self) -> None:
         self.serve_instead("echo $$ >> pids\nexec sleep 300 >&-\n", SHORT)
-        self.assertEqual(self.post("run", script="").text, "ended: the program was ended after 0.6 seconds\n")
+        self.assertEqual(self.post("run", script="").text, "ended: the program was ended after 1.5 seconds\n")
         self.assert_nothing_stays(1)
 
     def test_one_that_writes_much_is_ended(self) -> None:
@@ -53,7 +53,7 @@ class Limited(Serving):
     def test_a_line_that_is_cut_off_is_no_line(self) -> None:
         self.serve_instead("echo $$ >> pids\nprintf '1 ok\\n2 found'\nexec sleep 300\n", SHORT)
         answer = self.post("run", script="find\n")
-        self.assertEqual(answer.text, "1 ok\n2 found\nended: the program was ended after 0.6 seconds\n")
+        self.assertEqual(answer.text, "1 ok\n2 found\nended: the program was ended after 1.5 seconds\n")
         told = self.post("shown", script="find\n").json
         self.assertEqual([entry["answer"] for entry in told["data"]["entries"]], ["ok"])
         self.assert_nothing_stays(2)
@@ -61,7 +61,7 @@ class Limited(Serving):
     def test_a_slide_or_a_file_of_a_run_that_was_ended_says_so(self) -> None:
         self.serve_instead(SLEEPING, SHORT)
         rows = self.post("slide", script=WRITE.decode()).rows
-        self.assertEqual(rows, [{"none": "the program was ended after 0.6 seconds"}])
+        self.assertEqual(rows, [{"none": "the program was ended after 1.5 seconds"}])
         self.assertEqual(self.post("save", script=WRITE.decode()).status, 200)
         self.assert_nothing_stays(6)
 
@@ -171,7 +171,7 @@ class Ended(Serving):
                 process.send_signal(number)
                 output, errors = process.communicate(timeout=20)
                 self.assertEqual((process.returncode, output, errors), (0, "", "Ctrl-C ends it.\n"))
-                self.assertEqual([pid for pid in pids if is_there(pid)], [])
+                self.assert_gone(pids)
                 for line in lines:
                     line.close()
 
@@ -187,7 +187,7 @@ class Ended(Serving):
         process.send_signal(signal.SIGINT)
         _, errors = process.communicate(timeout=20)
         self.assertEqual((process.returncode, errors), (130, ""))
-        self.assertEqual([pid for pid in pids if is_there(pid)], [])
+        self.assert_gone(pids)
         self.assertFalse(target.exists())
 
     def test_it_serves(self) -> None:
