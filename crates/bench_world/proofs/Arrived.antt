@@ -72,13 +72,13 @@ module _ (air : Air Device) (ends : Ends) (peers : Peers) (l : OpenLink) (settle
     subst (λ es. IsCounted first es k.initiator.core.number) events_are h.1,
   )
 
-  pub came_at : (w : WholeWorld) → seen device_linked peer_ends (world b) os [] ≡ w → (link : Option OpenLink) → Arrives first (drop (length air.trace) b.trace) end after.end → GoesOn link
-      → ArrivesAt l peers.numbers (state_at (bench air ends peers l settled)).world.fars w.fars events link
+  pub came_at : (w : WholeWorld) → seen device_linked peer_ends (world b) os [] ≡ w → (link : Option OpenLink) → Arrives first (drop (length air.trace) b.trace) (record { end = end; numbers = numbers }) after → GoesOn link
+      → ArrivesAt l peers.numbers numbers (state_at (bench air ends peers l settled)).world.fars w.fars events link
   came_at w is link arrives h = record {
     old = end;
     stood = end_is air ends peers l settled;
-    new = after.end;
-    arrives = subst (λ es. Arrives first es end after.end) events_are arrives;
+    new = after;
+    arrives = subst (λ es. Arrives first es (record { end = end; numbers = numbers }) after) events_are arrives;
     accepted = subst (λ (v : WholeWorld). OfEnd (λ e. e.service.accepted ≡ after.end.service.accepted) (end_numbered l.peer peers.numbers v.fars)) is
         (subst (OfEnd (λ e. e.service.accepted ≡ after.end.service.accepted)) (sym shown_then) (same_accepted (linked_at place b.listeners) after.end));
     going = subst (λ v. Going v link) is (goes_on link h);

@@ -8,7 +8,8 @@ use Rattle.bench_world.specs.declared.entry.Answer.{Answer}
 use Rattle.bench_world.specs.declared.entry.Entry.{Entry}
 use Rattle.bench_world.specs.Legal.{State, AnswerLaw, FrontOf, Joins, LegalStep, due, no_joins}
 use Rattle.bench_world.proofs.LinkKept.{keeps_so, open_on}
-use Rattle.bench_world.specs.Obeying.{Machines, untraced, state_at, IsSettled, ObeyedBy, IsCutOff, IsCutOffBy, Benched, Adds, Obeys, Spoils, LacksMemory, joins_for}
+use Rattle.bench_world.specs.Obeying.{Machines, untraced, state_at, IsSettled, ObeyedBy, IsCutOff, IsCutOffBy, Benched, Adds, Obeys, Spoils, LacksMemory}
+use Rattle.bench_world.proofs.Numbers.{none_for}
 
 -- what contracts see of a bench with this journal and these machines
 abbrev pub seen : List Entry → Machines → Bool → Benched
@@ -28,14 +29,6 @@ spoils old a b js ks c is same cut =
 as_obeys : (old new : Benched) (line : ℕ) (c : Command) → (c ≡ Skip → ⊥) → Adds old new line c → Obeys old new line c
 as_obeys old new line Skip other adds = absurd (other refl)
 as_obeys old new line c other adds = adds
-
--- where as many PDUs as fit are joined a command takes no numbers
-none_for : (c : Command) (joins : Joins) → joins ≡ no_joins → joins_for c joins ≡ no_joins
-none_for (Put message) joins e = e
-none_for (Get most key) joins e = e
-none_for (Lookup name) joins e = e
-none_for Unlink joins e = e
-none_for c joins e = refl
 
 pub cut_most : (a b : Machines) (c : Command) (joins : Joins) → joins ≡ no_joins → IsCutOffBy (joins_for c joins) a b c → IsCutOff a b c
 cut_most a b c joins most cut = subst (λ j. IsCutOffBy j a b c) (none_for c joins most) cut

@@ -144,7 +144,7 @@ module _ (air : Air Device) (ends : FarEnds) (peers : Peers) (l : OpenLink) (set
               let t = f.turns in
               let N = next air ends peers l settled c task is f.mid j f.half joins f.standing t in
               let P = plain air ends peers l settled c task is f.mid j f.half joins f.standing t in
-              halted air ends peers l settled N P c joins f.mid f.half t.notes t.going is.still is.accepts is.asks
+              halted air ends peers l settled N P c joins f.mid f.half t.notes t.going is.still is.accepts is.asks (is.takes joins)
               (same air ends peers l settled c task is f.mid j f.half joins f.standing t) sent listeners b (ap call_due_at t.stands ∙ due) fate left
               (slice_set ends spot (Some after.end)) (with_last_ended (accepted_by (get_or (slice_set ends spot (Some after.end)) spot None)) peers))
         ]

@@ -43,7 +43,7 @@ use Rattle.bench_devices.specs.Keeping.{AllStayDevices}
 use Rattle.bench_devices.proofs.EveryFrame.{devices_stay}
 use Rattle.bench_world.specs.World.{FarEnd, WholeWorld, bench_air, Stable, stable}
 use Rattle.bench_world.specs.declared.entry.Answer.{Answer as Told}
-use Rattle.bench_world.specs.Journal.{TakesNumbers}
+use Rattle.bench_world.proofs.Numbers.{UsesFars}
 use Rattle.bench_world.specs.Links.{OpenLink}
 use Rattle.bench_world.specs.Peers.{Peers}
 use Rattle.bench_world.specs.Legal.{State, Given, Joins, IsAskedBy, FrontOf, changed, due, begun, world_after, peers_after, link_after, state_after}
@@ -84,7 +84,7 @@ nothing_due (Request f x ∷ es) before each = absurd (let clash : Over ≡ Asks
 nothing_due (Answer g x ∷ es) before each = nothing_due es (before ++ Answer g x ∷ []) each
 nothing_due (Clash g x ∷ es) before each = nothing_due es (before ++ Clash g x ∷ []) each
 
-calm_due : (s : State) (g : Given) (c : Command) (es : List Event) → (TakesNumbers c → ⊥) → IsAskedBy s c g.asked → EachDue (due s g c) [] es → AreCalm devices device_linked es
+calm_due : (s : State) (g : Given) (c : Command) (es : List Event) → (UsesFars c → ⊥) → IsAskedBy s c g.asked → EachDue (due s g c) [] es → AreCalm devices device_linked es
 calm_due s g Find es quiet asked each = calm_finding es each
 calm_due s g (Read id) es quiet asked each = reads_calm (device_with (bytes_of id) s.world.field.listeners) g.asked id asked es each
 calm_due s g (Write id m) es quiet asked each = writes_calm (message_of m) (device_with (bytes_of id) s.world.field.listeners) g.asked id asked es each
@@ -96,7 +96,7 @@ calm_due s g Unlink es quiet asked each = absurd (quiet tt)
 calm_due s g c es quiet asked each = nothing_due es [] each
 
 -- any other that sends something begins with a reset
-begins_lit : (s : State) (g : Given) (c : Command) → (TakesNumbers c → ⊥) → (due s g c [] ≡ Over) ⊎ (due s g c [] ≡ LightUp)
+begins_lit : (s : State) (g : Given) (c : Command) → (UsesFars c → ⊥) → (due s g c [] ≡ Over) ⊎ (due s g c [] ≡ LightUp)
 begins_lit s g Find quiet = inr refl
 begins_lit s g (Read (A id)) quiet = inr refl
 begins_lit s g (Read (V id)) quiet = inr refl
@@ -109,25 +109,25 @@ begins_lit s g (Lookup name) quiet = absurd (quiet tt)
 begins_lit s g Unlink quiet = absurd (quiet tt)
 begins_lit s g c quiet = inl refl
 
-asks_no_first : (s : State) (g : Given) (c : Command) (f : Signal) → (TakesNumbers c → ⊥) → due s g c [] ≡ Asks f → ⊥
+asks_no_first : (s : State) (g : Given) (c : Command) (f : Signal) → (UsesFars c → ⊥) → due s g c [] ≡ Asks f → ⊥
 asks_no_first s g c f quiet e = elim (begins_lit s g c quiet) [
   | inl over ↦ (let clash : Over ≡ Asks f = sym over ∙ e in cc)
   | inr lit ↦ (let clash : LightUp ≡ Asks f = sym lit ∙ e in cc)
 ]
 
 -- So none hands anything over in them.
-pub none_hand : (s : State) (g : Given) (c : Command) (es : List Event) → (TakesNumbers c → ⊥) → IsAskedBy s c g.asked → EachDue (due s g c) [] es → back_of es ≡ backs.Nothing → (w : BenchWorld) → NoneHands devices w es
+pub none_hand : (s : State) (g : Given) (c : Command) (es : List Event) → (UsesFars c → ⊥) → IsAskedBy s c g.asked → EachDue (due s g c) [] es → back_of es ≡ backs.Nothing → (w : BenchWorld) → NoneHands devices w es
 none_hand s g c [] quiet asked each first w = tt
 none_hand s g c (Reset ∷ es) quiet asked each first w = ((unlinked_stay devices device_linked devices_link).1 w es (calm_due s g c (Reset ∷ es) quiet asked each)).none
 none_hand s g c (Request f x ∷ es) quiet asked each first w = absurd (asks_no_first s g c f quiet each.0)
 none_hand s g c (Answer f x ∷ es) quiet asked each first w = absurd cc
 none_hand s g c (Clash f x ∷ es) quiet asked each first w = absurd cc
 
-none_in_front : {told : Option Told} (s t : State) (g : Given) (c : Command) (es : List Event) → (TakesNumbers c → ⊥) → FrontOf s g c es told t → (w : BenchWorld) → NoneHands devices w es
+none_in_front : {told : Option Told} (s t : State) (g : Given) (c : Command) (es : List Event) → (UsesFars c → ⊥) → FrontOf s g c es told t → (w : BenchWorld) → NoneHands devices w es
 none_in_front s t g c es quiet front w =
     none_hand s g c es quiet front.asks front.each (ap back_of front.turns.made ∙ trace_first bench_air (begun s g.joins c) front.turns.moves) w
 
-does_quietly : {told : Option Told} (s t : State) (g : Given) (c : Command) (es : List Event) → (TakesNumbers c → ⊥) → FrontOf s g c es told t → (w : WholeWorld) → DoesQuietly devices device_linked peer_ends w es
+does_quietly : {told : Option Told} (s t : State) (g : Given) (c : Command) (es : List Event) → (UsesFars c → ⊥) → FrontOf s g c es told t → (w : WholeWorld) → DoesQuietly devices device_linked peer_ends w es
 does_quietly s t g c es quiet front w = quiet_fields devices device_linked peer_ends w es (none_in_front s t g c es quiet front w.field)
 
 -- A front over the field alone.
@@ -136,7 +136,7 @@ pub record OnField (s : State) (c : Command) (es : List Event) (t : State) : Typ
   pub field : t.world.field ≡ replay air (changed s c).world.field es
   pub queue : t.queue ≡ queue_after (changed s c).queue es
 
-pub on_field : {told : Option Told} (s t : State) (g : Given) (c : Command) (es : List Event) → (TakesNumbers c → ⊥) → FrontOf s g c es told t → OnField s c es t
+pub on_field : {told : Option Told} (s t : State) (g : Given) (c : Command) (es : List Event) → (UsesFars c → ⊥) → FrontOf s g c es told t → OnField s c es t
 on_field s t g c es quiet front =
     let q : DoesQuietly devices device_linked peer_ends (begun s g.joins c) es = does_quietly s t g c es quiet front (begun s g.joins c) in
     record {
@@ -146,11 +146,11 @@ on_field s t g c es quiet front =
     }
 
 -- the field of the state after a front
-pub field_after : {told : Option Told} (s t : State) (g : Given) (c : Command) (es : List Event) → (TakesNumbers c → ⊥) → FrontOf s g c es told t → (world_after s g.joins c es).field ≡ replay air (changed s c).world.field es
+pub field_after : {told : Option Told} (s t : State) (g : Given) (c : Command) (es : List Event) → (UsesFars c → ⊥) → FrontOf s g c es told t → (world_after s g.joins c es).field ≡ replay air (changed s c).world.field es
 field_after s t g c es quiet front = (does_quietly s t g c es quiet front (begun s g.joins c)).field
 
 -- So it leaves the links as the command itself does.
-same_peers : (s : State) (joins : Joins) (c : Command) (es : List Event) (told : Option Told) → (TakesNumbers c → ⊥) → peers_after s joins c es told ≡ (changed s c).peers
+same_peers : (s : State) (joins : Joins) (c : Command) (es : List Event) (told : Option Told) → (UsesFars c → ⊥) → peers_after s joins c es told ≡ (changed s c).peers
 same_peers s joins (Link id miu window) es told quiet = absurd (quiet tt)
 same_peers s joins (Put m) es told quiet = absurd (quiet tt)
 same_peers s joins (Get most key) es told quiet = absurd (quiet tt)
@@ -158,7 +158,7 @@ same_peers s joins (Lookup name) es told quiet = absurd (quiet tt)
 same_peers s joins Unlink es told quiet = absurd (quiet tt)
 same_peers s joins c es told quiet = refl
 
-same_link : (s : State) (joins : Joins) (c : Command) (es : List Event) (told : Option Told) → (TakesNumbers c → ⊥) → link_after s joins c es told ≡ (changed s c).link
+same_link : (s : State) (joins : Joins) (c : Command) (es : List Event) (told : Option Told) → (UsesFars c → ⊥) → link_after s joins c es told ≡ (changed s c).link
 same_link s joins (Link id miu window) es told quiet = absurd (quiet tt)
 same_link s joins (Put m) es told quiet = absurd (quiet tt)
 same_link s joins (Get most key) es told quiet = absurd (quiet tt)
@@ -166,7 +166,7 @@ same_link s joins (Lookup name) es told quiet = absurd (quiet tt)
 same_link s joins Unlink es told quiet = absurd (quiet tt)
 same_link s joins c es told quiet = refl
 
-pub links_stay : (s : State) (joins : Joins) (c : Command) (es : List Event) (told : Option Told) → (TakesNumbers c → ⊥)
+pub links_stay : (s : State) (joins : Joins) (c : Command) (es : List Event) (told : Option Told) → (UsesFars c → ⊥)
     → state_after s joins c es told ≡ record { world = world_after s joins c es; queue = queue_after (changed s c).queue es; peers = (changed s c).peers; link = (changed s c).link }
 links_stay s joins c es told quiet =
     let w : WholeWorld = world_after s joins c es in
@@ -174,7 +174,7 @@ links_stay s joins c es told quiet =
     ap (λ p. S p (link_after s joins c es told)) (same_peers s joins c es told quiet) ∙ ap (S (changed s c).peers) (same_link s joins c es told quiet)
 
 -- whichever numbers there are
-pub any_numbers : {told : Option Told} (s t : State) (g : Given) (c : Command) (es : List Event) → (TakesNumbers c → ⊥) → FrontOf s g c es told t → (ns ms : Joins) → state_after s ns c es told ≡ state_after s ms c es told
+pub any_numbers : {told : Option Told} (s t : State) (g : Given) (c : Command) (es : List Event) → (UsesFars c → ⊥) → FrontOf s g c es told t → (ns ms : Joins) → state_after s ns c es told ≡ state_after s ms c es told
 any_numbers {told} s t g c es quiet front ns ms =
     let q : DoesQuietly devices device_linked peer_ends (changed s c).world es = does_quietly s t g c es quiet front (changed s c).world in
     let S : WholeWorld → State = λ w. record { world = with_numbers w []; queue = queue_after (changed s c).queue es; peers = (changed s c).peers; link = (changed s c).link } in

@@ -211,7 +211,7 @@ module _ (air : Air Device) (ends : FarEnds) (peers : Peers) (settled : IsSettle
   got_none most key may = record {
     given = given_by joins;
     joined = refl;
-    front = subst (Front (Get most key)) (sym settled.idle.quiet) (record { accepted = may; asks = refl; turns = record { moves = []; made = refl }; fates = tt; each = tt; after = refl });
+    front = subst (Front (Get most key)) (sym settled.idle.quiet) (record { accepted = may; asks = refl; takes = refl; turns = record { moves = []; made = refl }; fates = tt; each = tt; after = refl });
     over = refl;
     answered = refl;
     tame = settled.idle.tame;
@@ -224,7 +224,7 @@ module _ (air : Air Device) (ends : FarEnds) (peers : Peers) (settled : IsSettle
   looked_none name may = record {
     given = given_by joins;
     joined = refl;
-    front = subst (Front (Lookup name)) (sym settled.idle.quiet) (record { accepted = may; asks = refl; turns = record { moves = []; made = refl }; fates = tt; each = tt; after = refl });
+    front = subst (Front (Lookup name)) (sym settled.idle.quiet) (record { accepted = may; asks = refl; takes = refl; turns = record { moves = []; made = refl }; fates = tt; each = tt; after = refl });
     over = refl;
     answered = refl;
     tame = settled.idle.tame;
@@ -237,7 +237,7 @@ module _ (air : Air Device) (ends : FarEnds) (peers : Peers) (settled : IsSettle
   closed_none = record {
     given = given_by joins;
     joined = refl;
-    front = subst (Front Unlink) (sym settled.idle.quiet) (record { accepted = tt; asks = refl; turns = record { moves = []; made = refl }; fates = tt; each = tt; after = refl });
+    front = subst (Front Unlink) (sym settled.idle.quiet) (record { accepted = tt; asks = refl; takes = refl; turns = record { moves = []; made = refl }; fates = tt; each = tt; after = refl });
     over = refl;
     answered = refl;
     tame = settled.idle.tame;

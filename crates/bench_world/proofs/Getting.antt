@@ -39,6 +39,7 @@ module _ (air : Air Device) (ends : FarEnds) (peers : Peers) (l : OpenLink) (set
       still = refl;
       accepts = may;
       asks = refl;
+      takes = λ joins. refl;
       same = λ joins ns. refl;
       link_on = λ joins es answer. refl;
       link_off = λ joins es. refl;
@@ -121,6 +122,7 @@ module _ (air : Air Device) (ends : FarEnds) (peers : Peers) (l : OpenLink) (set
       still = refl;
       accepts = may;
       asks = refl;
+      takes = λ joins. refl;
       same = λ joins ns. refl;
       link_on = λ joins es answer. refl;
       link_off = λ joins es. refl;

@@ -49,7 +49,7 @@ use Rattle.far_air.specs.FarWorld.{with_numbers}
 use Rattle.far_air.specs.Quietly.{NoneHands}
 use Rattle.peer_air.specs.PeerFars.{peer_ends}
 use Rattle.bench_devices.proofs.EveryFrame.{devices_stay}
-use Rattle.bench_world.specs.Journal.{TakesNumbers}
+use Rattle.bench_world.proofs.Numbers.{UsesFars, none_taken}
 use Rattle.bench_world.proofs.PlacesKept.{served_as, kinds_stay}
 use Rattle.bench_world.proofs.Fronts.{links_stay, Ends, world_behind, none_hand, stretch, stable_behind, as_long}
 use Rattle.tag_reader.specs.Asked.{IsAsked}
@@ -133,7 +133,7 @@ abbrev pub above : Upon → Air Device → State
 above os a = state_at (beneath os a)
 
 -- in what is due in a command that keeps to tags no device hands anything over
-pub none_in : (c : Command) → (TakesNumbers c → ⊥) → (os : Upon) (old new : Air Device) (asked : List Signal) (ns : List Note) → (g : Going air (due (above os old) (asks_for asked) c) (moment old) (moment new) ns)
+pub none_in : (c : Command) → (UsesFars c → ⊥) → (os : Upon) (old new : Air Device) (asked : List Signal) (ns : List Note) → (g : Going air (due (above os old) (asks_for asked) c) (moment old) (moment new) ns)
     → IsAskedBy (above os old) c asked → NoneHands devices (moment old).world g.events
 none_in c quiet os old new asked ns g asked_by = none_hand (above os old) (asks_for asked) c g.events quiet asked_by g.each g.fresh (moment old).world
 
@@ -164,6 +164,7 @@ front_so told os old new c asked ns idle accepted still g asked_by none plain =
     let front : P es = record {
       accepted = accepted;
       asks = asked_by;
+      takes = none_taken c;
       turns = subst T (sym still) (q.turns.1 g.turns);
       fates = subst F (sym still) g.fates;
       each = g.each;
@@ -173,7 +174,7 @@ front_so told os old new c asked ns idle accepted still g asked_by none plain =
     } in
     subst P (sym trace) front
 
-pub front_of : (told : Option Answer) (c : Command) → (TakesNumbers c → ⊥) → (os : Upon) (old new : Air Device) (asked : List Signal) (ns : List Note) → IsIdle old → Accepts (above os old) c → changed (above os old) c ≡ above os old
+pub front_of : (told : Option Answer) (c : Command) → (UsesFars c → ⊥) → (os : Upon) (old new : Air Device) (asked : List Signal) (ns : List Note) → IsIdle old → Accepts (above os old) c → changed (above os old) c ≡ above os old
     → Going air (due (above os old) (asks_for asked) c) (moment old) (moment new) ns → IsAskedBy (above os old) c asked → FrontOf (above os old) (asks_for asked) c new.trace told (above os new)
 front_of told c quiet os old new asked ns idle accepted still g asked_by =
     front_so told os old new c asked ns idle accepted still g asked_by (none_in c quiet os old new asked ns g asked_by) (links_stay (above os old) no_joins c g.events told quiet)
@@ -209,7 +210,7 @@ asks_so what os old new c asked ns answer idle places keeps accepted still g ove
       link = keeps;
     }
 
-pub asks_obeyed : (what : Changes) (c : Command) → (TakesNumbers c → ⊥) → (os : Upon) (old new : Air Device) (asked : List Signal) (ns : List Note) (answer : Answer) → IsIdle old → HasPlaces (beneath os old) → KeepsLink (beneath os new)
+pub asks_obeyed : (what : Changes) (c : Command) → (UsesFars c → ⊥) → (os : Upon) (old new : Air Device) (asked : List Signal) (ns : List Note) (answer : Answer) → IsIdle old → HasPlaces (beneath os old) → KeepsLink (beneath os new)
     → Accepts (above os old) c → changed (above os old) c ≡ above os old
     → (g : Going air (due (above os old) (asks_for asked) c) (moment old) (moment new) ns) → due (above os old) (asks_for asked) c ns ≡ Over → IsAskedBy (above os old) c asked
     → AnswerLaw (above os old) (asks_for asked) c g.events answer

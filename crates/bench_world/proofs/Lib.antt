@@ -1,4 +1,5 @@
 pub mod PlacesKept
+pub mod Numbers
 pub mod Fronts
 pub mod LinkKept
 pub mod Placing

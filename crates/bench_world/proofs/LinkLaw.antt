@@ -50,7 +50,7 @@ module _ (w : WholeWorld) (q : List Fate) (p : Peers) (ys : List Story) (o : Opt
   s = record { world = w; queue = q; peers = p; link = o }
 
   abbrev stretch : Command → List Event → Stretch
-  stretch c es = record { command = c; events = es; told = Some a }
+  stretch c es = record { command = c; joins = g.joins; events = es; told = Some a }
 
   abbrev behind : Command → List Event → State
   behind c es = state_after s g.joins c es (Some a)
@@ -119,7 +119,7 @@ module _ (w : WholeWorld) (q : List Fate) (p : Peers) (ys : List Story) (o : Opt
   link_here : (id : List ℕ) (miu window : ℕ) (es : List Event) → map held (world_after s g.joins (Link id miu window) es).fars ≡ map held w.fars
       → ((n : ℕ) → a ≡ answers.Linked n → n ≡ length p.links + 1) → (b : Answer) → a ≡ b
       → Stand (state_after s g.joins (Link id miu window) es (Some b))
-      (stories_behind s (record { command = Link id miu window; events = es; told = Some b }) (state_after s g.joins (Link id miu window) es (Some b)) ys)
+      (stories_behind s (record { command = Link id miu window; joins = g.joins; events = es; told = Some b }) (state_after s g.joins (Link id miu window) es (Some b)) ys)
   link_here id miu window es same next (answers.Linked n) is =
       let c : Command = Link id miu window in
       let now : WholeWorld = world_after s g.joins c es in
@@ -134,7 +134,7 @@ module _ (w : WholeWorld) (q : List Fate) (p : Peers) (ys : List Story) (o : Opt
       let c : Command = Link id miu window in
       let t : State = state_after s g.joins c es (Some b) in
       let ends : Peers = ended o w.fars p in
-      no_link s t (record { command = c; events = es; told = Some b }) ys refl refl refl
+      no_link s t (record { command = c; joins = g.joins; events = es; told = Some b }) ys refl refl refl
       (places_behind c es ends.numbers refl (as_many_held (world_after s g.joins c es).fars w.fars same) (same_numbers o p w.fars))
       (subst (λ ks. Closed (view_by ends ks) ys) (sym same) (ended_closed o p w.fars ys stand.stand))
 
@@ -147,7 +147,7 @@ module _ (w : WholeWorld) (q : List Fate) (p : Peers) (ys : List Story) (l : Ope
   then_ c es = state_after on g.joins c es (Some a)
 
   abbrev Goes : Command → List Event → State → Type 0
-  Goes c es t = Stand t (stories_behind on (record { command = c; events = es; told = Some a }) t ys)
+  Goes c es t = Stand t (stories_behind on (record { command = c; joins = g.joins; events = es; told = Some a }) t ys)
 
   abbrev left_by : CallStanding → Option OpenLink
   left_by stands = link_behind l.peer stands
@@ -160,7 +160,7 @@ module _ (w : WholeWorld) (q : List Fate) (p : Peers) (ys : List Story) (l : Ope
   called c es left still devices puts begins same is peer =
       let now : WholeWorld = world_after on g.joins c es in
       let queue : List Fate = queue_after (changed on c).queue es in
-      let x : Stretch = record { command = c; events = es; told = Some a } in
+      let x : Stretch = record { command = c; joins = g.joins; events = es; told = Some a } in
       let t : State = then_ c es in
       let u : State = record { world = now; queue = queue; peers = ended_unless left (Some l) now.fars p; link = left } in
       let opened : Open (view_at p now.fars) l.peer ys = same_opened p w.fars now.fars l.peer ys same stand.stand in
@@ -186,7 +186,7 @@ module _ (w : WholeWorld) (q : List Fate) (p : Peers) (ys : List Story) (l : Ope
       let stands : CallStanding = stands_on l g.joins.own (Puts (message_of m)) es in
       let left : Option OpenLink = left_by stands in
       let queue : List Fate = queue_after q es in
-      let x : Stretch = record { command = c; events = es; told = Some a } in
+      let x : Stretch = record { command = c; joins = g.joins; events = es; told = Some a } in
       let zs : List Story = last_goes_on (goes_on on x t) ys in
       let accepted : map held now.fars ≡ with_held law.more l.peer p.numbers (map held w.fars) = more_held now w law.more l.peer p.numbers law.ends in
       let both : AreHeld p.numbers (map held w.fars) × _ = base_held (view_of on) (Some l) ys stand.stand in
@@ -194,7 +194,7 @@ module _ (w : WholeWorld) (q : List Fate) (p : Peers) (ys : List Story) (l : Ope
       sym (length-map now.fars held) ∙ ap length accepted ∙ as_many_with law.more l.peer p.numbers (map held w.fars) both.0 ∙ length-map w.fars held in
       let places : HavePlaces now.field.listeners p.numbers now.fars = places_behind w q p ys (Some l) stand g a c es p.numbers refl many refl in
       let P : List (Option Held) → Type 0 = λ ks. (z : Opened (view_by p ks) l.peer zs) × (((loss : Loss) → a ≡ answers.LinkEnded loss → ⊥) → IsInStep z.now.story) in
-      let z : P (map held now.fars) = subst P (sym accepted) (put_over on t l ys stand.stand m es a law.more law.adds (unless_numbers left (Some l) now.fars p) accepted) in
+      let z : P (map held now.fars) = subst P (sym accepted) (put_over on t l ys stand.stand m g.joins es a law.more law.adds (unless_numbers left (Some l) now.fars p) accepted) in
       subst (Stand t) (sym (append-nil zs))
       (call_over now queue p l zs z.0 left places (λ k e. let ends = came_to_end l.peer stands a k law.told.tells e in (ends.0, z.1 ends.1)))
 
@@ -208,7 +208,7 @@ module _ (w : WholeWorld) (q : List Fate) (p : Peers) (ys : List Story) (g : Giv
   from o = record { world = w; queue = q; peers = p; link = o }
 
   abbrev so : Option OpenLink → Command → List Event → State → Type 0
-  so o c es t = Stand t (stories_behind (from o) (record { command = c; events = es; told = Some a }) t ys)
+  so o c es t = Stand t (stories_behind (from o) (record { command = c; joins = g.joins; events = es; told = Some a }) t ys)
 
   after_front : (o : Option OpenLink) (c : Command) (es : List Event) (t : State) → FrontOf (from o) g c es (Some a) t → so o c es (state_after (from o) g.joins c es (Some a)) → so o c es t
   after_front o c es t front steps = subst (so o c es) (sym front.after) steps
@@ -268,11 +268,11 @@ module _ (w : WholeWorld) (q : List Fate) (p : Peers) (ys : List Story) (g : Giv
       (λ n is. linked_number (DeviceId.A id) w.field.listeners (length p.links + 1) n (own_general miu) es (subst (LinkTells (DeviceId.A id) w.field.listeners (length p.links + 1) (own_general miu) es) is law.tells)) a refl)
   step_by None (Put m) es t stand front law =
       quietly w q p ys None stand g a (Put m) es t front (nothing_sent (begun (from None) g.joins (Put m)) es front.turns front.each)
-      (no_link (from None) (state_after (from None) g.joins (Put m) [] (Some a)) (record { command = Put m; events = es; told = Some a }) ys refl refl refl stand.places stand.stand)
+      (no_link (from None) (state_after (from None) g.joins (Put m) [] (Some a)) (record { command = Put m; joins = g.joins; events = es; told = Some a }) ys refl refl refl stand.places stand.stand)
   step_by (Some l) (Put m) es t stand front law = after_front (Some l) (Put m) es t front (put_here w q p ys l stand g a m es law)
   step_by None (Get most key) es t stand front law =
       quietly w q p ys None stand g a (Get most key) es t front (nothing_sent (begun (from None) g.joins (Get most key)) es front.turns front.each)
-      (no_link (from None) (state_after (from None) g.joins (Get most key) [] (Some a)) (record { command = Get most key; events = es; told = Some a }) ys refl refl refl stand.places stand.stand)
+      (no_link (from None) (state_after (from None) g.joins (Get most key) [] (Some a)) (record { command = Get most key; joins = g.joins; events = es; told = Some a }) ys refl refl refl stand.places stand.stand)
   step_by (Some l) (Get most key) es t stand front law =
       let stands : CallStanding = stands_on l g.joins.own (Gets most key) es in
       after_front (Some l) (Get most key) es t front
@@ -280,7 +280,7 @@ module _ (w : WholeWorld) (q : List Fate) (p : Peers) (ys : List Story) (g : Giv
       (same_held (world_after (from (Some l)) g.joins (Get most key) es) w (ap (λ (z : Stable). z.ends) law.stays)) refl (call_peer l stands a law.told.tells))
   step_by None (Lookup name) es t stand front law =
       quietly w q p ys None stand g a (Lookup name) es t front (nothing_sent (begun (from None) g.joins (Lookup name)) es front.turns front.each)
-      (no_link (from None) (state_after (from None) g.joins (Lookup name) [] (Some a)) (record { command = Lookup name; events = es; told = Some a }) ys refl refl refl stand.places stand.stand)
+      (no_link (from None) (state_after (from None) g.joins (Lookup name) [] (Some a)) (record { command = Lookup name; joins = g.joins; events = es; told = Some a }) ys refl refl refl stand.places stand.stand)
   step_by (Some l) (Lookup name) es t stand front law =
       let stands : CallStanding = stands_on l g.joins.own (Finds name) es in
       after_front (Some l) (Lookup name) es t front
@@ -288,13 +288,13 @@ module _ (w : WholeWorld) (q : List Fate) (p : Peers) (ys : List Story) (g : Giv
       (same_held (world_after (from (Some l)) g.joins (Lookup name) es) w (ap (λ (z : Stable). z.ends) law.stays)) refl (call_peer l stands a law.told.tells))
   step_by None Unlink es t stand front law =
       quietly w q p ys None stand g a Unlink es t front (nothing_sent (begun (from None) g.joins Unlink) es front.turns front.each)
-      (no_link (from None) (state_after (from None) g.joins Unlink [] (Some a)) (record { command = Unlink; events = es; told = Some a }) ys refl refl refl stand.places stand.stand)
+      (no_link (from None) (state_after (from None) g.joins Unlink [] (Some a)) (record { command = Unlink; joins = g.joins; events = es; told = Some a }) ys refl refl refl stand.places stand.stand)
   step_by (Some l) Unlink es t stand front law =
       after_front (Some l) Unlink es t front
       (called w q p ys l stand g a Unlink es None refl refl refl refl
       (same_held (world_after (from (Some l)) g.joins Unlink es) w (ap (λ (z : Stable). z.ends) law.stays)) refl (λ m e. absurd cc))
 
-step : (s t : State) (g : Given) (e : Entry) (ys : List Story) → Stand s ys → LegalStep s g e t → Stand t (stories_behind s (stretch_of e) t ys)
+step : (s t : State) (g : Given) (e : Entry) (ys : List Story) → Stand s ys → LegalStep s g e t → Stand t (stories_behind s (stretch_of g.joins e) t ys)
 step s t g e ys stand legal = step_by s.world s.queue s.peers ys g e.answer s.link e.command e.events t stand legal.front legal.answered
 
 -- through some entries
@@ -304,8 +304,8 @@ along s t [] (e ∷ es) ys stand legal = absurd legal
 along s t (g ∷ gs) [] ys stand legal = absurd legal
 along s t (g ∷ gs) (e ∷ es) ys stand legal =
     let mid : State = legal.0 in
-    subst (λ x. Stand t (stories_from x (stories_behind s (stretch_of e) x ys) (map (λ (h : Given). h.joins) gs) es)) legal.1.front.after
-    (along mid t gs es (stories_behind s (stretch_of e) mid ys) (step s mid g e ys stand legal.1) legal.2)
+    subst (λ x. Stand t (stories_from x (stories_behind s (stretch_of g.joins e) x ys) (map (λ (h : Given). h.joins) gs) es)) legal.1.front.after
+    (along mid t gs es (stories_behind s (stretch_of g.joins e) mid ys) (step s mid g e ys stand legal.1) legal.2)
 
 -- Each `linked` begins a story of its number, and nothing else does.
 same_numbers_told : (go : Story → Story) → ((y : Story) → (go y).number ≡ y.number) → (ys : List Story) → map (λ (y : Story). y.number) (last_goes_on go ys) ≡ map (λ (y : Story). y.number) ys
@@ -334,12 +334,12 @@ begun_numbers s t g (Link id miu window) es (answers.Linked n) zs stand front la
 begun_numbers s t g c es a zs stand front law = refl
 
 step_numbers : (s t : State) (g : Given) (e : Entry) (ys : List Story) → Stand s ys → LegalStep s g e t
-    → map (λ (y : Story). y.number) (stories_behind s (stretch_of e) t ys) ≡ map (λ (y : Story). y.number) ys ++ told_link e.command e.answer
+    → map (λ (y : Story). y.number) (stories_behind s (stretch_of g.joins e) t ys) ≡ map (λ (y : Story). y.number) ys ++ told_link e.command e.answer
 step_numbers s t g e ys stand legal =
     let N : Story → ℕ = λ y. y.number in
-    let open_ : List Story = open_goes_on (changed s e.command).link (goes_on s (stretch_of e) t) ys in
-    map-append N open_ (begun_in e.command (Some e.answer) t) ∙ ap (λ ns. ns ++ map N (begun_in e.command (Some e.answer) t)) (open_numbers (changed s e.command).link s t (stretch_of e) ys)
-    ∙ ap (λ ns. map N ys ++ ns) (begun_numbers s t g e.command e.events e.answer (stories_behind s (stretch_of e) t ys) (step s t g e ys stand legal) legal.front legal.answered)
+    let open_ : List Story = open_goes_on (changed s e.command).link (goes_on s (stretch_of g.joins e) t) ys in
+    map-append N open_ (begun_in e.command (Some e.answer) t) ∙ ap (λ ns. ns ++ map N (begun_in e.command (Some e.answer) t)) (open_numbers (changed s e.command).link s t (stretch_of g.joins e) ys)
+    ∙ ap (λ ns. map N ys ++ ns) (begun_numbers s t g e.command e.events e.answer (stories_behind s (stretch_of g.joins e) t ys) (step s t g e ys stand legal) legal.front legal.answered)
 
 all_numbers : (s t : State) (gs : List Given) (es : List Entry) (ys : List Story) → Stand s ys → EachLegal s gs es t
     → map (λ (y : Story). y.number) (stories_from s ys (map (λ (g : Given). g.joins) gs) es) ≡ map (λ (y : Story). y.number) ys ++ told_links es
@@ -350,8 +350,8 @@ all_numbers s t (g ∷ gs) (e ∷ es) ys stand legal =
     let mid : State = legal.0 in
     let ns : List Joins = map (λ (h : Given). h.joins) gs in
     let N : Story → ℕ = λ y. y.number in
-    subst (λ x. map N (stories_from x (stories_behind s (stretch_of e) x ys) ns es) ≡ map N ys ++ told_links (e ∷ es)) legal.1.front.after
-    (all_numbers mid t gs es (stories_behind s (stretch_of e) mid ys) (step s mid g e ys stand legal.1) legal.2
+    subst (λ x. map N (stories_from x (stories_behind s (stretch_of g.joins e) x ys) ns es) ≡ map N ys ++ told_links (e ∷ es)) legal.1.front.after
+    (all_numbers mid t gs es (stories_behind s (stretch_of g.joins e) mid ys) (step s mid g e ys stand legal.1) legal.2
     ∙ ap (λ ks. ks ++ told_links es) (step_numbers s mid g e ys stand legal.1) ∙ append_assoc (map N ys) (told_link e.command e.answer) (told_links es))
 
 -- An inbox on the way.
@@ -389,8 +389,8 @@ inbox_along s t (g ∷ gs) [] e behind ys id stand legal is = inbox_here s legal
 inbox_along s t (g ∷ gs) (b ∷ before) e behind ys id stand legal is =
     let mid : State = legal.0 in
     let ns : List Joins = map (λ (h : Given). h.joins) gs in
-    subst (λ x. TellsInbox (state_from x ns before) (stories_from x (stories_behind s (stretch_of b) x ys) ns before) id e.answer) legal.1.front.after
-    (inbox_along mid t gs before e behind (stories_behind s (stretch_of b) mid ys) id (step s mid g b ys stand legal.1) legal.2 is)
+    subst (λ x. TellsInbox (state_from x ns before) (stories_from x (stories_behind s (stretch_of g.joins b) x ys) ns before) id e.answer) legal.1.front.after
+    (inbox_along mid t gs before e behind (stories_behind s (stretch_of g.joins b) mid ys) id (step s mid g b ys stand legal.1) legal.2 is)
 
 -- The law.
 first_stand : Stand first_state []

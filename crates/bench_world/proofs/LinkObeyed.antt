@@ -385,6 +385,7 @@ module _ (ends : Ends) (peers : Peers) (old : Air Device) (id : List ℕ) (miu r
           record {
             accepted = may;
             asks = refl;
+            takes = refl;
             turns = subst T (far_there ends place far there) fg.turns;
             fates = fg.fates;
             each = fg.each;

@@ -30,7 +30,7 @@ use Rattle.bench_devices.specs.Keeping.{Kept, kept, IsSound, IsApart, AreSound, 
 use Rattle.bench_devices.specs.Phases.{IsTidy, AreTidy}
 use Rattle.bench_script.specs.DeviceIds.{bytes_of}
 use Rattle.bench_devices.proofs.PeerMade.{busy_made}
-use Rattle.bench_world.specs.Journal.{TakesNumbers}
+use Rattle.bench_world.proofs.Numbers.{UsesFars}
 use Rattle.bench_world.proofs.PlacesKept.{served_as}
 use Rattle.bench_world.proofs.LinkKept.{KeepsTalk, locked_talks, busy_talks, keeps_so, open_changed}
 use Rattle.bench_world.proofs.Placed.{Upon, beneath, nothing, still_obeyed}
@@ -151,7 +151,7 @@ module _ (old : Air Device) (id : DeviceId) (place : ℕ) (idle : IsIdle old) (s
   of_device P holds = subst (OfPlaced P) has_id holds
 
   -- it was changed so by a command that is done
-  device_changed : (new : Air Device) (c : Command) (change : Device → Device) → (TakesNumbers c → ⊥) → StaysPlaced change s.device → ((os : Upon) → Accepts (state_at (beneath os old)) c)
+  device_changed : (new : Air Device) (c : Command) (change : Device → Device) → (UsesFars c → ⊥) → StaysPlaced change s.device → ((os : Upon) → Accepts (state_at (beneath os old)) c)
       → ((os : Upon) → changed (state_at (beneath os old)) c ≡ with_device_changed (state_at (beneath os old)) id change)
       → ((os : Upon) → IsAskedBy (state_at (beneath os old)) c []) → ((os : Upon) → due (state_at (beneath os old)) nothing c [] ≡ Over)
       → ((os : Upon) → AnswerLaw (state_at (beneath os old)) nothing c [] Done)

@@ -37,7 +37,7 @@ use Rattle.bench_world.specs.World.{FarEnd, WholeWorld, Stable, bench_air, stabl
 use Rattle.bench_world.specs.Calls.{IsTold, link_behind, stands_on, told_call, told_loss, told_step, with_accepted}
 use Rattle.bench_world.specs.Links.{OpenLink, accepted_by, ended, ended_unless, with_last_ended}
 use Rattle.bench_world.specs.Arriving.{ArrivesAt}
-use Rattle.bench_world.specs.Legal.{State, Given, Joins, Accepts, AnswerLaw, Came, CutFront, CutStores, FrontOf, HaltsCall, IsAskedBy, LeavesStable, begun, changed, due, link_after, peers_after, world_after}
+use Rattle.bench_world.specs.Legal.{State, Given, Joins, Accepts, AnswerLaw, Came, CutFront, CutStores, FrontOf, HaltsCall, IsAskedBy, LeavesStable, begun, changed, due, joins_for, link_after, peers_after, state_after, world_after}
 use Rattle.bench_world.specs.Obeying.{Machines, HasPlaces, IsSettled, KeepsLink, ObeyedBy, state_at, under}
 use Rattle.bench_world.specs.Opened.{AreNumbered, AreServed}
 use Rattle.bench_world.specs.Peers.{Peers, next_number}
@@ -64,7 +64,7 @@ module _ (air : Air Device) (ends : FarEnds) (peers : Peers) (l : OpenLink) (set
   -- turns that were due, and where the command has its numbers
   module _ (next : List Note → Next) (plain : (ns : List Note) → IsPlainNext (next ns)) (c : Command) (joins : Joins) (b : Air Device) (after : Choosing FarEnd) (notes : List Note)
       (g : FarGoing devices device_linked peer_ends next (moment air) (moment b) notes place ends (record { end = end; numbers = joins.far }) after)
-      (still : changed from_state c ≡ from_state) (accepts : Accepts from_state c) (asks : IsAskedBy from_state c []) (same : (ns : List Note) → due from_state (given_by joins) c ns ≡ next ns) where
+      (still : changed from_state c ≡ from_state) (accepts : Accepts from_state c) (asks : IsAskedBy from_state c []) (takes : joins ≡ joins_for c joins) (same : (ns : List Note) → due from_state (given_by joins) c ns ≡ next ns) where
     abbrev pub given : Given
     given = given_by joins
 
@@ -104,6 +104,7 @@ module _ (air : Air Device) (ends : FarEnds) (peers : Peers) (l : OpenLink) (set
         let f : FrontOf from_state given c es told (state_at (to link ps)) = record {
           accepted = accepts;
           asks = asks;
+          takes = takes;
           turns = turns_then;
           fates = fates_then;
           each = each_due;
@@ -169,40 +170,31 @@ module _ (air : Air Device) (ends : FarEnds) (peers : Peers) (l : OpenLink) (set
       trace_more : d.trace ≡ all
       trace_more = ap (λ (a : Air Device). a.trace) left ∙ ap (λ xs. xs ++ Request sent Pass ∷ []) (trace_is air ends peers l settled next plain b joins.far after notes g)
 
-      queue_more : queue_after (changed from_state c).queue all ≡ d.fates
-      queue_more =
-          ap (λ (s : State). queue_after s.queue all) still ∙ queue_after-append air.fates es (Request sent Pass ∷ [])
-          ∙ ap later_fates (sym (queue_is air ends peers l settled next plain b joins.far after notes g)) ∙ sym (ap (λ (a : Air Device). a.fates) left)
+      queue_then : queue_after (changed from_state c).queue es ≡ b.fates
+      queue_then = ap (λ (s : State). queue_after s.queue es) still ∙ sym (queue_is air ends peers l settled next plain b joins.far after notes g)
 
       pub halted : (os : FarEnds) (ps : Peers) → HaltsCall joins from_state c d.trace (state_at (under os ps None d))
-      halted os ps =
-          let next_is : due from_state given c (receptions es) ≡ Asks sent = ap (due from_state given c) (going air ends peers l settled next plain b joins.far after notes g).known ∙ same notes ∙ asked in
-          let last : Pass ≡ first_fate (queue_after air.fates es) = sym passed ∙ ap first_fate (queue_is air ends peers l settled next plain b joins.far after notes g) in
-          let every : FatesFrom (changed from_state c).queue all =
-          subst (λ (s : State). FatesFrom s.queue all) (sym still)
-          (fates-append air.fates es (Request sent Pass ∷ []) (going air ends peers l settled next plain b joins.far after notes g).fates (last, tt)) in
-          let due_all : EachDue (due from_state given c) [] all = due-append (due from_state given c) [] es (Request sent Pass ∷ []) each_due (next_is, tt) in
-          record {
-            given = given;
-            joined = refl;
-            accepted = accepts;
-            asks = asks;
-            before = es;
-            sent = sent;
-            split = trace_more;
-            turns = turns_then;
-            fates = subst (FatesFrom (changed from_state c).queue) (sym trace_more) every;
-            each = subst (EachDue (due from_state given c) []) (sym trace_more) due_all;
-            lit = ap (λ (a : Air Device). a.lit) left;
-            queue = sym queue_more ∙ ap (queue_after (changed from_state c).queue) (sym trace_more);
-            link = refl;
-          }
+      halted os ps = record {
+        given = given;
+        joined = refl;
+        before = es;
+        mid = state_after from_state given.joins c es None;
+        front = record { accepted = accepts; asks = asks; takes = takes; turns = turns_then; fates = fates_then; each = each_due; after = refl };
+        sent = sent;
+        split = trace_more;
+        asked = ap (due from_state given c) (going air ends peers l settled next plain b joins.far after notes g).known ∙ same notes ∙ asked;
+        passes = ap first_fate queue_then ∙ passed;
+        lit = ap (λ (a : Air Device). a.lit) left;
+        queue = ap (λ (a : Air Device). a.fates) left ∙ ap later_fates (sym queue_then);
+        link = refl;
+      }
 
   -- A command that asks over the link by a call of this task.
   pub record IsCall (c : Command) (task : Task) : Type 0 where
     pub still : changed from_state c ≡ from_state
     pub accepts : Accepts from_state c
     pub asks : IsAskedBy from_state c []
+    pub takes : (joins : Joins) → joins ≡ joins_for c joins
     pub same : (joins : Joins) (ns : List Note) → due from_state (given_by joins) c ns ≡ call_due joins.own (begins l.client task) l.initiator ns
     pub link_on : (joins : Joins) (es : List Event) (answer : Answer) → link_after from_state joins c es (Some answer) ≡ link_behind l.peer (stands_on l joins.own task es)
     pub link_off : (joins : Joins) (es : List Event) → link_after from_state joins c es None ≡ None
@@ -253,27 +245,27 @@ module _ (air : Air Device) (ends : FarEnds) (peers : Peers) (l : OpenLink) (set
           → peers_after from_state joins c events told ≡ with_last_ended (accepted_by (get_or (slice_set ends place (Some after.end)) place None)) peers
       gone_peers told none =
           is.peers_on joins events told ∙ ap (λ o. ended_unless o (Some l) (world_after from_state joins c events).fars peers) none
-          ∙ ap (λ (w : WholeWorld). ended (Some l) w.fars peers) (sym (world_then next plain c joins b after t.notes t.going is.still is.accepts is.asks same))
+          ∙ ap (λ (w : WholeWorld). ended (Some l) w.fars peers) (sym (world_then next plain c joins b after t.notes t.going is.still is.accepts is.asks (is.takes joins) same))
           ∙ ap (λ n. with_last_ended n peers) (accepted_now air ends peers l settled next plain b joins.far after t.notes t.going)
 
       -- what arrived, where this link is open then
       abbrev pub Arrived : Option OpenLink → Type 0
       Arrived link =
-          Arrives l.initiator.core.number (drop (length air.trace) b.trace) end after.end × GoesOn air ends peers l settled next plain b joins.far after t.notes t.going link
+          Arrives l.initiator.core.number (drop (length air.trace) b.trace) (record { end = end; numbers = joins.far }) after × GoesOn air ends peers l settled next plain b joins.far after t.notes t.going link
 
       came_then : (answer : Answer) (link : Option OpenLink) → link_after from_state joins c events (Some answer) ≡ link → Arrived link → Came from_state joins l c events answer
       came_then answer link link_is arrived =
           let w : WholeWorld = world_after from_state joins c events in
-          subst (ArrivesAt l peers.numbers from_state.world.fars w.fars events) (sym link_is)
-          (came_at air ends peers l settled next plain b joins.far after t.notes t.going w (world_then next plain c joins b after t.notes t.going is.still is.accepts is.asks same) link arrived.0 arrived.1)
+          subst (ArrivesAt l peers.numbers joins.far from_state.world.fars w.fars events) (sym link_is)
+          (came_at air ends peers l settled next plain b joins.far after t.notes t.going w (world_then next plain c joins b after t.notes t.going is.still is.accepts is.asks (is.takes joins) same) link arrived.0 arrived.1)
 
       facts : setting_of after.end ≡ setting_of end → (answer : Answer) → IsTold (told_call (stands_on l joins.own task events)) events answer → Came from_state joins l c events answer → Facts joins events answer
       facts set answer told came = record {
         told = told;
         came = came;
-        devices = devices_then next plain c joins b after t.notes t.going is.still is.accepts is.asks same;
-        adds = λ more e. ends_then next plain c joins b after t.notes t.going is.still is.accepts is.asks same more set e;
-        stays = λ e. stays_then next plain c joins b after t.notes t.going is.still is.accepts is.asks same set e;
+        devices = devices_then next plain c joins b after t.notes t.going is.still is.accepts is.asks (is.takes joins) same;
+        adds = λ more e. ends_then next plain c joins b after t.notes t.going is.still is.accepts is.asks (is.takes joins) same more set e;
+        stays = λ e. stays_then next plain c joins b after t.notes t.going is.still is.accepts is.asks (is.takes joins) same set e;
       }
 
       -- it was told by where it stands
@@ -298,7 +290,7 @@ module _ (air : Air Device) (ends : FarEnds) (peers : Peers) (l : OpenLink) (set
       came set jobs client comes answer told never calm law arrived keeps =
           let link_is : link_after from_state joins c events (Some answer) ≡ Some (record { peer = l.peer; initiator = j; client = client }) =
           is.link_on joins events answer ∙ ap (link_behind l.peer) (stand_is ∙ comes) in
-          obeyed next plain c joins b after t.notes t.going is.still is.accepts is.asks same answer (Some (record { peer = l.peer; initiator = j; client = client })) peers
+          obeyed next plain c joins b after t.notes t.going is.still is.accepts is.asks (is.takes joins) same answer (Some (record { peer = l.peer; initiator = j; client = client })) peers
           (over_at (ap call_due_at comes)) link_is
           (is.peers_on joins events (Some answer) ∙ ap (λ o. ended_unless o (Some l) (world_after from_state joins c events).fars peers) link_is)
           (law joins events (facts set answer (told_so answer (ap told_call comes ∙ told)
@@ -323,7 +315,7 @@ module _ (air : Air Device) (ends : FarEnds) (peers : Peers) (l : OpenLink) (set
           → ObeyedBy joins (under ends peers (Some l) air) gone_then c answer
       broke set why broken answer told lost noisy law arrived =
           let link_is : link_after from_state joins c events (Some answer) ≡ None = is.link_on joins events answer ∙ ap (link_behind l.peer) (stand_is ∙ broken) in
-          obeyed next plain c joins b after t.notes t.going is.still is.accepts is.asks same answer None
+          obeyed next plain c joins b after t.notes t.going is.still is.accepts is.asks (is.takes joins) same answer None
           (with_last_ended (accepted_by (get_or (slice_set ends place (Some after.end)) place None)) peers)
           (over_at (ap call_due_at broken)) link_is (gone_peers (Some answer) link_is)
           (law joins events (facts set answer (told_so answer (ap told_call broken ∙ told)
@@ -337,8 +329,8 @@ module _ (air : Air Device) (ends : FarEnds) (peers : Peers) (l : OpenLink) (set
           → (stays : after.end.service.accepted ≡ end.service.accepted → LeavesStable from_state joins c events) → CutStores from_state joins c events)
           → setting_of after.end ≡ setting_of end → CutFront joins from_state c b.trace (state_at gone_then)
       short stores set =
-          cut_off next plain c joins b after t.notes t.going is.still is.accepts is.asks same None (with_last_ended (accepted_by (get_or (slice_set ends place (Some after.end)) place None)) peers)
+          cut_off next plain c joins b after t.notes t.going is.still is.accepts is.asks (is.takes joins) same None (with_last_ended (accepted_by (get_or (slice_set ends place (Some after.end)) place None)) peers)
           (is.link_off joins events) (gone_peers None (is.link_off joins events))
-          (stores joins events (devices_then next plain c joins b after t.notes t.going is.still is.accepts is.asks same)
-          (λ more e. ends_then next plain c joins b after t.notes t.going is.still is.accepts is.asks same more set e)
-          (λ e. stays_then next plain c joins b after t.notes t.going is.still is.accepts is.asks same set e))
+          (stores joins events (devices_then next plain c joins b after t.notes t.going is.still is.accepts is.asks (is.takes joins) same)
+          (λ more e. ends_then next plain c joins b after t.notes t.going is.still is.accepts is.asks (is.takes joins) same more set e)
+          (λ e. stays_then next plain c joins b after t.notes t.going is.still is.accepts is.asks (is.takes joins) same set e))

@@ -83,15 +83,15 @@ module _ (air : Air Device) (ends : FarEnds) (peers : Peers) (l : OpenLink) (set
 
     gone_peers : (told : Option Answer) → peers_after (from_state air ends peers l settled) joins Unlink events told ≡ with_last_ended (accepted_by (get_or (slice_set ends spot (Some after.end)) spot None)) peers
     gone_peers told =
-        ap (λ (w : WholeWorld). ended (Some l) w.fars peers) (sym (world_then air ends peers l settled next plain Unlink joins b after t.notes t.going refl tt refl same))
+        ap (λ (w : WholeWorld). ended (Some l) w.fars peers) (sym (world_then air ends peers l settled next plain Unlink joins b after t.notes t.going refl tt refl refl same))
         ∙ ap (λ n. with_last_ended n peers) (accepted_now air ends peers l settled next plain b joins.far after t.notes t.going)
 
-    pub closed : setting_of after.end ≡ setting_of far → after.end.service.accepted ≡ far.service.accepted → Arrives l.initiator.core.number (drop (length air.trace) b.trace) far after.end → (answer : Answer)
+    pub closed : setting_of after.end ≡ setting_of far → after.end.service.accepted ≡ far.service.accepted → Arrives l.initiator.core.number (drop (length air.trace) b.trace) counted after → (answer : Answer)
         → told_closing standing ≡ Some answer → closing_due_at standing ≡ Over
         → ((standing ≡ Calls (BrokenBy cause.FieldLost)) ↔ (answer ≡ answers.LinkEnded losses.FieldLost)) → (answer ≡ answers.LinkEnded losses.SixBad → 0 < noise events)
         → (noise events ≡ 0 → bad_receptions events ≡ 0) → ObeyedBy joins (under ends peers (Some l) air) gone Unlink answer
     closed set accepted arrives answer told over lost noisy calm =
-        obeyed air ends peers l settled next plain Unlink joins b after t.notes t.going refl tt refl same answer None
+        obeyed air ends peers l settled next plain Unlink joins b after t.notes t.going refl tt refl refl same answer None
         (with_last_ended (accepted_by (get_or (slice_set ends spot (Some after.end)) spot None)) peers)
         (ap closing_due_at t.stands ∙ over) refl (gone_peers (Some answer))
         (record {
@@ -105,15 +105,15 @@ module _ (air : Air Device) (ends : FarEnds) (peers : Peers) (l : OpenLink) (set
             calm = calm;
           };
           came = came_at air ends peers l settled next plain b joins.far after t.notes t.going (world_after (from_state air ends peers l settled) joins Unlink events)
-              (world_then air ends peers l settled next plain Unlink joins b after t.notes t.going refl tt refl same) None arrives tt;
-          stays = stays_then air ends peers l settled next plain Unlink joins b after t.notes t.going refl tt refl same set accepted;
+              (world_then air ends peers l settled next plain Unlink joins b after t.notes t.going refl tt refl refl same) None arrives tt;
+          stays = stays_then air ends peers l settled next plain Unlink joins b after t.notes t.going refl tt refl refl same set accepted;
         }) set refl refl tt
 
     pub closing_cut : setting_of after.end ≡ setting_of far → after.end.service.accepted ≡ far.service.accepted → CutFront joins (from_state air ends peers l settled) Unlink b.trace (state_at gone)
     closing_cut set accepted =
-        cut_off air ends peers l settled next plain Unlink joins b after t.notes t.going refl tt refl same None
+        cut_off air ends peers l settled next plain Unlink joins b after t.notes t.going refl tt refl refl same None
         (with_last_ended (accepted_by (get_or (slice_set ends spot (Some after.end)) spot None)) peers) refl (gone_peers None)
-        (stays_then air ends peers l settled next plain Unlink joins b after t.notes t.going refl tt refl same set accepted)
+        (stays_then air ends peers l settled next plain Unlink joins b after t.notes t.going refl tt refl refl same set accepted)
 
   -- no device hands anything over at RLS_REQ
   module _ (quiet : (d : Device) → devices.handed d rls_frame ≡ Untouched) (j : InitState) (client : EndState) where
@@ -145,7 +145,7 @@ module _ (air : Air Device) (ends : FarEnds) (peers : Peers) (l : OpenLink) (set
       | inr (is, sent) ↦ sent_set sent
     ]
 
-    lost_arrives : (w : EndCause) → IsLost ghosts device_end joins.own from air l.initiator counted b after j w → Arrives l.initiator.core.number (drop (length air.trace) b.trace) far after.end
+    lost_arrives : (w : EndCause) → IsLost ghosts device_end joins.own from air l.initiator counted b after j w → Arrives l.initiator.core.number (drop (length air.trace) b.trace) counted after
     lost_arrives w x = elim x.how [
       | inl carried ↦ carried.arrives
       | inr (is, sent) ↦ sent.arrives quiet
@@ -197,7 +197,7 @@ module _ (air : Air Device) (ends : FarEnds) (peers : Peers) (l : OpenLink) (set
               closing_cut f.standing t (s.setting quiet) accepted)
           | inr (sent, listeners, due, fate, left) ↦ inr (
               let t = f.turns in
-              halted air ends peers l settled (closing_due joins.own from l.initiator) (closings_plain joins.own from l.initiator) Unlink joins f.mid f.half t.notes t.going refl tt refl (λ ns. refl)
+              halted air ends peers l settled (closing_due joins.own from l.initiator) (closings_plain joins.own from l.initiator) Unlink joins f.mid f.half t.notes t.going refl tt refl refl (λ ns. refl)
               sent listeners b (ap closing_due_at t.stands ∙ due) fate left
               (slice_set ends spot (Some after.end)) (with_last_ended (accepted_by (get_or (slice_set ends spot (Some after.end)) spot None)) peers))
         ]

@@ -21,14 +21,12 @@ use Rattle.bench_script.specs.Messages.{message_of}
 use Rattle.nfc_base.specs.TagLinks.{plain_state}
 use Rattle.tag_writer.proofs.OneWrite.{one_write as one_write_list}
 use Rattle.bench_world.specs.Legal.{State, Given, Joins, IsAskedBy, AnswerLaw, PutLaw, GetLaw, LookupLaw, UnlinkLaw, FrontOf, EachLegal, begun, changed, due, state_after, first_state}
-use Rattle.bench_devices.specs.Device.{air}
 use Rattle.snep_core.specs.Talk.{Puts, Gets, Finds}
 use Rattle.bench_script.specs.declared.command.DeviceId.TheVariants.{A}
 use Rattle.bench_world.specs.Calls.{stands_on, stands_closing, told_call, told_closing}
 use Rattle.bench_world.specs.Linking.{own_general}
 use Rattle.bench_world.specs.World.{bench_air}
-use Rattle.bench_world.specs.Journal.{NumberedLine, AreEntriesOf, asking_lines, LeadsTo, AgreeFor, TakesNumbers}
-use Rattle.bench_world.proofs.Fronts.{on_field, any_numbers}
+use Rattle.bench_world.specs.Journal.{NumberedLine, AreEntriesOf, asking_lines, LeadsTo}
 use Rattle.bench_world.specs.SameCommands.{SameCommands}
 use Rattle.bench_script.proofs.Spelling.{spells_one}
 use Rattle.tag_reader.proofs.Lists.{one_list}
@@ -56,94 +54,53 @@ one_dump None a b p q = absurd p
 one_dump (Some d) a b p q = p ∙ sym q
 
 -- what happened decides what it answers
-one_answer : (s : State) (c : Command) (asked : List Signal) (ns ms : Joins) (events : List Event) (a b : Answer) → (TakesNumbers c → ms ≡ ns)
-    → AnswerLaw s (record { asked = asked; joins = ns }) c events a → AnswerLaw s (record { asked = asked; joins = ms }) c events b → a ≡ b
-one_answer s Skip asked ns ms events a b agree p q = absurd p
-one_answer s (Fates fates) asked ns ms events a b agree p q = p ∙ sym q
-one_answer s (PlaceT2 id blocks head) asked ns ms events a b agree p q = p ∙ sym q
-one_answer s (PlaceT4 id code container head) asked ns ms events a b agree p q = p ∙ sym q
-one_answer s (PlaceT5 id blocks size head) asked ns ms events a b agree p q = p ∙ sym q
-one_answer s (PlacePeer id lr miu rw limit) asked ns ms events a b agree p q = p ∙ sym q
-one_answer s (Lock id block) asked ns ms events a b agree p q = p ∙ sym q
-one_answer s (Busy id count times) asked ns ms events a b agree p q = p ∙ sym q
-one_answer s (Offer id key value) asked ns ms events a b agree p q = p ∙ sym q
-one_answer s (Remove id) asked ns ms events a b agree p q = p ∙ sym q
-one_answer s (Dump id) asked ns ms events a b agree p q = one_dump (device_with (bytes_of id) s.world.field.listeners) a b p q
-one_answer s (Inbox id) asked ns ms events a b agree p q = p ∙ sym q
-one_answer s Find asked ns ms events a b agree p q = one_find s.world.field.listeners events a b p.tells q.tells
-one_answer s (Read id) asked ns ms events a b agree p q = one_read id s.world.field.listeners asked events a b p.tells q.tells
-one_answer s (Write id m) asked ns ms events a b agree p q = one_write id s.world.field.listeners (message_of m) asked events a b p.tells q.tells
-one_answer s (Link id miu window) asked ns ms events a b agree p q = one_link (A id) s.world.field.listeners (length s.peers.links + 1) (own_general miu) events a b p.tells q.tells
-one_answer s (Put m) asked ns ms events a b agree p q =
-    let same : AnswerLaw s (record { asked = asked; joins = ns }) (Put m) events b = subst (λ j. AnswerLaw s (record { asked = asked; joins = j }) (Put m) events b) (agree tt) q in
-    one_linked s.link (λ l. PutLaw s ns l m events a) (λ l. PutLaw s ns l m events b) a b (λ l x y. one_told_so (told_call (stands_on l ns.own (Puts (message_of m)) events)) events a b x.told y.told) p same
-one_answer s (Get most key) asked ns ms events a b agree p q =
-    let same : AnswerLaw s (record { asked = asked; joins = ns }) (Get most key) events b = subst (λ j. AnswerLaw s (record { asked = asked; joins = j }) (Get most key) events b) (agree tt) q in
-    one_linked s.link (λ l. GetLaw s ns l most key events a) (λ l. GetLaw s ns l most key events b) a b (λ l x y. one_told_so (told_call (stands_on l ns.own (Gets most key) events)) events a b x.told y.told) p same
-one_answer s (Lookup name) asked ns ms events a b agree p q =
-    let same : AnswerLaw s (record { asked = asked; joins = ns }) (Lookup name) events b = subst (λ j. AnswerLaw s (record { asked = asked; joins = j }) (Lookup name) events b) (agree tt) q in
-    one_linked s.link (λ l. LookupLaw s ns l name events a) (λ l. LookupLaw s ns l name events b) a b (λ l x y. one_told_so (told_call (stands_on l ns.own (Finds name) events)) events a b x.told y.told) p same
-one_answer s Unlink asked ns ms events a b agree p q =
-    let same : AnswerLaw s (record { asked = asked; joins = ns }) Unlink events b = subst (λ j. AnswerLaw s (record { asked = asked; joins = j }) Unlink events b) (agree tt) q in
-    one_linked s.link (λ l. UnlinkLaw s ns l events a) (λ l. UnlinkLaw s ns l events b) a b (λ l x y. one_told_so (told_closing (stands_closing l ns.own events)) events a b x.told y.told) p same
+one_answer : (s : State) (c : Command) (g : Given) (events : List Event) (a b : Answer) → AnswerLaw s g c events a → AnswerLaw s g c events b → a ≡ b
+one_answer s Skip g events a b p q = absurd p
+one_answer s (Fates fates) g events a b p q = p ∙ sym q
+one_answer s (PlaceT2 id blocks head) g events a b p q = p ∙ sym q
+one_answer s (PlaceT4 id code container head) g events a b p q = p ∙ sym q
+one_answer s (PlaceT5 id blocks size head) g events a b p q = p ∙ sym q
+one_answer s (PlacePeer id lr miu rw limit) g events a b p q = p ∙ sym q
+one_answer s (Lock id block) g events a b p q = p ∙ sym q
+one_answer s (Busy id count times) g events a b p q = p ∙ sym q
+one_answer s (Offer id key value) g events a b p q = p ∙ sym q
+one_answer s (Remove id) g events a b p q = p ∙ sym q
+one_answer s (Dump id) g events a b p q = one_dump (device_with (bytes_of id) s.world.field.listeners) a b p q
+one_answer s (Inbox id) g events a b p q = p ∙ sym q
+one_answer s Find g events a b p q = one_find s.world.field.listeners events a b p.tells q.tells
+one_answer s (Read id) g events a b p q = one_read id s.world.field.listeners g.asked events a b p.tells q.tells
+one_answer s (Write id m) g events a b p q = one_write id s.world.field.listeners (message_of m) g.asked events a b p.tells q.tells
+one_answer s (Link id miu window) g events a b p q = one_link (A id) s.world.field.listeners (length s.peers.links + 1) (own_general miu) events a b p.tells q.tells
+one_answer s (Put m) g events a b p q =
+    one_linked s.link (λ l. PutLaw s g.joins l m events a) (λ l. PutLaw s g.joins l m events b) a b (λ l x y. one_told_so (told_call (stands_on l g.joins.own (Puts (message_of m)) events)) events a b x.told y.told) p q
+one_answer s (Get most key) g events a b p q =
+    one_linked s.link (λ l. GetLaw s g.joins l most key events a) (λ l. GetLaw s g.joins l most key events b) a b (λ l x y. one_told_so (told_call (stands_on l g.joins.own (Gets most key) events)) events a b x.told y.told) p q
+one_answer s (Lookup name) g events a b p q =
+    one_linked s.link (λ l. LookupLaw s g.joins l name events a) (λ l. LookupLaw s g.joins l name events b) a b (λ l x y. one_told_so (told_call (stands_on l g.joins.own (Finds name) events)) events a b x.told y.told) p q
+one_answer s Unlink g events a b p q =
+    one_linked s.link (λ l. UnlinkLaw s g.joins l events a) (λ l. UnlinkLaw s g.joins l events b) a b (λ l x y. one_told_so (told_closing (stands_closing l g.joins.own events)) events a b x.told y.told) p q
 
--- a command takes numbers or takes none
-takes_or_not : (c : Command) → TakesNumbers c ⊎ (TakesNumbers c → ⊥)
-takes_or_not (Link id miu window) = inl tt
-takes_or_not (Put m) = inl tt
-takes_or_not (Get most key) = inl tt
-takes_or_not (Lookup name) = inl tt
-takes_or_not Unlink = inl tt
-takes_or_not c = inr (λ h. h)
-
--- From a state a command is obeyed in one way, by numbers that are the same where it takes any.
+-- From a state a command is obeyed in one way by the same numbers.
 module _ (s : State) (c : Command) (g h : Given) (es fs : List Event) (a b : Answer) (t u : State) (p : FrontOf s g c es (Some a) t) (q : FrontOf s h c fs (Some b) u) (done : due s g c (receptions es) ≡ Over) (over : due s h c (receptions fs) ≡ Over)
-    (agree : TakesNumbers c → h.joins ≡ g.joins) where
-  same_asked : h.asked ≡ g.asked
-  same_asked = one_asked_by s c h.asked g.asked q.asks p.asks
-
-  abbrev As : List Signal → Given
-  As asked = record { asked = asked; joins = g.joins }
-
-  -- where it takes none, what is due is told by what the tag is asked
-  due_as : (asked : List Signal) (n : Joins) (c' : Command) → (TakesNumbers c' → ⊥) → due s (record { asked = asked; joins = n }) c' ≡ due s (As asked) c'
-  due_as asked n (Link id miu window) quiet = absurd (quiet tt)
-  due_as asked n (Put m) quiet = absurd (quiet tt)
-  due_as asked n (Get most key) quiet = absurd (quiet tt)
-  due_as asked n (Lookup name) quiet = absurd (quiet tt)
-  due_as asked n Unlink quiet = absurd (quiet tt)
-  due_as asked n c' quiet = refl
-
-  quiet_events : (TakesNumbers c → ⊥) → es ≡ fs
-  quiet_events quiet =
-      let same : due s h c ≡ due s g c = due_as h.asked h.joins c quiet ∙ ap (λ asked. due s (As asked) c) same_asked in
-      let each : EachDue (due s g c) [] fs = subst (λ d. EachDue d [] fs) same q.each in
-      let at_end : due s g c (receptions fs) ≡ Over = subst (λ d. d (receptions fs) ≡ Over) same over in
-      one_course air (due s g c) (changed s c).world.field (changed s c).queue es fs (on_field s t g c es quiet p).turns (on_field s u h c fs quiet q).turns p.fates q.fates p.each each done at_end
-
-  -- where it takes some, they are the same
-  same_given : TakesNumbers c → h ≡ g
-  same_given takes = ap (λ x. record { asked = x; joins = h.joins }) same_asked ∙ ap (λ j. record { asked = g.asked; joins = j }) (agree takes)
-
-  far_events : TakesNumbers c → es ≡ fs
-  far_events takes =
-      let r : FrontOf s g c fs (Some b) u = subst (λ k. FrontOf s k c fs (Some b) u) (same_given takes) q in
-      let at_end : due s g c (receptions fs) ≡ Over = subst (λ k. due s k c (receptions fs) ≡ Over) (same_given takes) over in
-      one_course bench_air (due s g c) (begun s g.joins c) (changed s c).queue es fs p.turns r.turns p.fates r.fates p.each r.each done at_end
+    (joins : h.joins ≡ g.joins) where
+  same_given : h ≡ g
+  same_given =
+      ap (λ x. record { asked = x; joins = h.joins }) (one_asked_by s c h.asked g.asked q.asks p.asks) ∙ ap (λ j. record { asked = g.asked; joins = j }) joins
 
   pub same_events : es ≡ fs
-  same_events = elim (takes_or_not c) [ inl takes ↦ far_events takes | inr quiet ↦ quiet_events quiet ]
+  same_events =
+      let r : FrontOf s g c fs (Some b) u = subst (λ k. FrontOf s k c fs (Some b) u) same_given q in
+      let at_end : due s g c (receptions fs) ≡ Over = subst (λ k. due s k c (receptions fs) ≡ Over) same_given over in
+      one_course bench_air (due s g c) (begun s g.joins c) (changed s c).queue es fs p.turns r.turns p.fates r.fates p.each r.each done at_end
 
   pub same_answers : AnswerLaw s g c es a → AnswerLaw s h c fs b → a ≡ b
-  same_answers x y = one_answer s c g.asked g.joins h.joins es a b agree x (subst (λ asked. AnswerLaw s (record { asked = asked; joins = h.joins }) c es b) same_asked (subst (λ k. AnswerLaw s h c k b) (sym same_events) y))
-
-  same_after : state_after s h.joins c es (Some a) ≡ state_after s g.joins c es (Some a)
-  same_after = elim (takes_or_not c) [ inl takes ↦ ap (λ j. state_after s j c es (Some a)) (agree takes) | inr quiet ↦ any_numbers s t g c es quiet p h.joins g.joins ]
+  same_answers x y = one_answer s c g es a b x (subst (λ k. AnswerLaw s k c es b) same_given (subst (λ k. AnswerLaw s h c k b) (sym same_events) y))
 
   -- it leads to the same state
   pub same_state : a ≡ b → u ≡ t
   same_state told =
-      q.after ∙ ap (λ k. state_after s h.joins c k (Some b)) (sym same_events) ∙ ap (λ x. state_after s h.joins c es (Some x)) (sym told) ∙ same_after ∙ sym p.after
+      q.after ∙ ap (λ j. state_after s j c fs (Some b)) joins ∙ ap (λ k. state_after s g.joins c k (Some b)) (sym same_events)
+      ∙ ap (λ x. state_after s g.joins c es (Some x)) (sym told) ∙ sym p.after
 
 -- entries of the same parts
 same_entry : (j k : Entry) → j.line ≡ k.line → j.command ≡ k.command → j.events ≡ k.events → j.answer ≡ k.answer → j ≡ k
@@ -152,29 +109,34 @@ same_entry j k line command events answer =
     ap (λ n. E n j.command j.events j.answer) line ∙ ap (λ c. E k.line c j.events j.answer) command
     ∙ ap (λ es. E k.line k.command es j.answer) events ∙ ap (E k.line k.command k.events) answer
 
--- From one state on, two legal journals of the same lines and commands are the same, by numbers that agree.
+-- From one state on, two legal journals of the same lines and commands are the same, by the same numbers.
 abbrev numbers_of : List Given → List Joins
 numbers_of gs = map (λ (g : Given). g.joins) gs
 
-pub one_journal : (s t u : State) (gs hs : List Given) (js ks : List Entry) → SameCommands js ks → AgreeFor js (numbers_of gs) (numbers_of hs) → EachLegal s gs js t → EachLegal s hs ks u → js ≡ ks
-one_journal s t u [] [] [] [] same agree p q = refl
-one_journal s t u (g ∷ gs) hs [] ks same agree p q = absurd p
-one_journal s t u [] (h ∷ hs) [] [] same agree p q = absurd q
-one_journal s t u [] hs [] (k ∷ ks) same agree p q = absurd same
-one_journal s t u [] hs (j ∷ js) ks same agree p q = absurd p
-one_journal s t u (g ∷ gs) hs (j ∷ js) [] same agree p q = absurd same
-one_journal s t u (g ∷ gs) [] (j ∷ js) (k ∷ ks) same agree p q = absurd q
-one_journal s t u (g ∷ gs) (h ∷ hs) (j ∷ js) (k ∷ ks) same agree p q =
+-- lists that are equal have equal parts
+first_numbers : (n m : Joins) (ns ms : List Joins) → n ∷ ns ≡ m ∷ ms → (m ≡ n) × (ns ≡ ms)
+first_numbers n m ns ms e = (cc, cc)
+
+pub one_journal : (s t u : State) (gs hs : List Given) (js ks : List Entry) → SameCommands js ks → numbers_of gs ≡ numbers_of hs → EachLegal s gs js t → EachLegal s hs ks u → js ≡ ks
+one_journal s t u [] [] [] [] same joins p q = refl
+one_journal s t u (g ∷ gs) hs [] ks same joins p q = absurd p
+one_journal s t u [] (h ∷ hs) [] [] same joins p q = absurd q
+one_journal s t u [] hs [] (k ∷ ks) same joins p q = absurd same
+one_journal s t u [] hs (j ∷ js) ks same joins p q = absurd p
+one_journal s t u (g ∷ gs) hs (j ∷ js) [] same joins p q = absurd same
+one_journal s t u (g ∷ gs) [] (j ∷ js) (k ∷ ks) same joins p q = absurd q
+one_journal s t u (g ∷ gs) (h ∷ hs) (j ∷ js) (k ∷ ks) same joins p q =
     let c : Command = j.command in
     let F : Command → Type 0 = λ x. FrontOf s h x k.events (Some k.answer) q.0 in
     let front : F c = subst F (sym same.1) q.1.front in
     let over : due s h c (receptions k.events) ≡ Over = subst (λ x. due s h x (receptions k.events) ≡ Over) (sym same.1) q.1.over in
     let law : AnswerLaw s h c k.events k.answer = subst (λ x. AnswerLaw s h x k.events k.answer) (sym same.1) q.1.answered in
-    let events : j.events ≡ k.events = same_events s c g h j.events k.events j.answer k.answer p.0 q.0 p.1.front front p.1.over over agree.0 in
-    let answer : j.answer ≡ k.answer = same_answers s c g h j.events k.events j.answer k.answer p.0 q.0 p.1.front front p.1.over over agree.0 p.1.answered law in
-    let mid : q.0 ≡ p.0 = same_state s c g h j.events k.events j.answer k.answer p.0 q.0 p.1.front front p.1.over over agree.0 answer in
+    let both = first_numbers g.joins h.joins (numbers_of gs) (numbers_of hs) joins in
+    let events : j.events ≡ k.events = same_events s c g h j.events k.events j.answer k.answer p.0 q.0 p.1.front front p.1.over over both.0 in
+    let answer : j.answer ≡ k.answer = same_answers s c g h j.events k.events j.answer k.answer p.0 q.0 p.1.front front p.1.over over both.0 p.1.answered law in
+    let mid : q.0 ≡ p.0 = same_state s c g h j.events k.events j.answer k.answer p.0 q.0 p.1.front front p.1.over over both.0 answer in
     ap (λ e. e ∷ js) (same_entry j k same.0 same.1 events answer)
-    ∙ ap (λ es. k ∷ es) (one_journal p.0 t u gs hs js ks same.2 agree.1 p.2 (subst (λ x. EachLegal x hs ks u) mid q.2))
+    ∙ ap (λ es. k ∷ es) (one_journal p.0 t u gs hs js ks same.2 both.1 p.2 (subst (λ x. EachLegal x hs ks u) mid q.2))
 
 -- entries of the same lines have the same commands
 same_commands : (lines : List NumberedLine) (js ks : List Entry) → AreEntriesOf lines js → AreEntriesOf lines ks → SameCommands js ks
@@ -185,9 +147,7 @@ same_commands (l ∷ ls) [] ks p q = absurd p
 same_commands (l ∷ ls) (j ∷ js) [] p q = absurd q
 same_commands (l ∷ ls) (j ∷ js) (k ∷ ks) p q = (p.0 ∙ sym q.0, spells_one l.text j.command k.command p.1 q.1, same_commands ls js ks p.2 q.2)
 
--- The lines of a script have at most one legal journal, by numbers that agree where a command takes any.
-pub one_legal : (lines : List (List ℕ)) (numbers others : List Joins) (js ks : List Entry) (s t : State) → LeadsTo lines numbers js s → LeadsTo lines others ks t → AgreeFor js numbers others → js ≡ ks
-one_legal lines numbers others js ks s t p q agree =
-    let same : AgreeFor js (numbers_of p.given) (numbers_of q.given) =
-    subst (λ ns. AgreeFor js ns (numbers_of q.given)) (sym p.joins) (subst (λ ms. AgreeFor js numbers ms) (sym q.joins) agree) in
-    one_journal first_state s t p.given q.given js ks (same_commands (asking_lines 1 lines) js ks p.numbered q.numbered) same p.steps q.steps
+-- The lines of a script have at most one legal journal by the same numbers of PDUs.
+pub one_legal : (lines : List (List ℕ)) (numbers : List Joins) (js ks : List Entry) (s t : State) → LeadsTo lines numbers js s → LeadsTo lines numbers ks t → js ≡ ks
+one_legal lines numbers js ks s t p q =
+    one_journal first_state s t p.given q.given js ks (same_commands (asking_lines 1 lines) js ks p.numbered q.numbered) (p.joins ∙ sym q.joins) p.steps q.steps

@@ -1,5 +1,5 @@
 -- What each legal entry does to the stories of links, by what arrives.
-use Rattle.std.proofs.Common.{◌≡◌, ℕ, List, [], ◌∷◌, ◌++◌, map, Bool, true, false, if◌then◌else◌, Option, Some, None, append-nil, refl, sym, ◌∙◌, ap, subst, inl, inr}
+use Rattle.std.proofs.Common.{◌≡◌, ℕ, List, [], ◌∷◌, ◌++◌, map, Bool, true, false, if◌then◌else◌, Option, Some, None, append-nil, refl, sym, ◌∙◌, ap, subst}
 use Rattle.std.specs.Cmp.Lexicographic.{pointwise}
 use Rattle.std.specs.List.{AllByRecursion}
 use Rattle.std.specs.Prelude.{nat_eq, option_map}
@@ -7,8 +7,6 @@ use Rattle.nfc_base.specs.declared.event.Event.{Event}
 use Rattle.nfc_base.specs.declared.event.Event.TheVariants.{Reset, Request, Answer as Answers, Clash}
 use Rattle.air_core.specs.Conversation.{AreTurns, EachDue, Note, Over}
 use Rattle.far_air.specs.FarEnds.{first_far, later_fars}
-use Rattle.llcp_link.specs.Running.{DoesElse}
-use Rattle.snep_core.specs.Payloads.{OffersElse}
 use Rattle.snep_core.specs.Server.{offered}
 use Rattle.snep_core.specs.Talk.{Ends as Finishes, Finds, Gets, GivesUp, Goes, Puts}
 use Rattle.link_calls.specs.CallDue.{CallStanding, Carries, Comes, BrokenBy, Strays}
@@ -77,10 +75,7 @@ end_less n id (d ∷ ds) (q ∷ ps) os x other e = by (pointwise nat_eq (device_
     by false other rest = there (is_number n q) refl (named_as (is_number n q) refl) (rest other)
 
 same_end : (x : FarEnd) (o : Option FarEnd) → o ≡ Some x → IsOffered x o
-same_end x o e = (x, e, inl refl)
-
-offered_end : (key value : List ℕ) (x : FarEnd) → DoesElse OffersElse x (end_offered key value x)
-offered_end key value x = record { miu = refl; served = refl; service = (offered x.service.table key value, refl) }
+same_end x o e = (x.service.table, e)
 
 end_offered_at : (key value : List ℕ) (n : ℕ) (id : List ℕ) (ds : List Device) (ps : List (Option ℕ)) (os : Ends) (x : FarEnd) → end_numbered n ps os ≡ Some x
     → IsOffered x (end_numbered n ps (with_place_changed (end_offered key value) id ds os))
@@ -90,7 +85,7 @@ end_offered_at key value n id (d ∷ ds) (q ∷ ps) os x e = by (pointwise nat_e
   where
     changed_one : (o : Option FarEnd) → o ≡ Some x → IsOffered x (option_map (end_offered key value) o)
     changed_one None e = absurd cc
-    changed_one (Some y) e = let same : y ≡ x = cc in subst (λ z. IsOffered x (Some (end_offered key value z))) (sym same) (end_offered key value x, refl, inr (offered_end key value x))
+    changed_one (Some y) e = let same : y ≡ x = cc in subst (λ z. IsOffered x (Some (end_offered key value z))) (sym same) (offered x.service.table key value, refl)
 
     by : (v w : Bool) → (if w then first_far os else end_numbered n ps (later_fars os)) ≡ Some x
         → (end_numbered n ps (later_fars os) ≡ Some x → IsOffered x (end_numbered n ps (with_place_changed (end_offered key value) id ds (later_fars os))))
@@ -135,7 +130,7 @@ module _ (s : State) (g : Given) (ys : List Story) (h : KeptIn s ys) where
   behind c es answer = state_after s g.joins c es (Some answer)
 
   abbrev stretch : Command → List Event → Answer → Stretch
-  stretch c es answer = record { command = c; events = es; told = Some answer }
+  stretch c es answer = record { command = c; joins = g.joins; events = es; told = Some answer }
 
   abbrev Goal : Command → List Event → Answer → Type 0
   Goal c es answer = KeptIn (behind c es answer) (stories_behind s (stretch c es answer) (behind c es answer) ys)
@@ -173,7 +168,7 @@ module _ (s : State) (g : Given) (ys : List Story) (h : KeptIn s ys) where
   stays : (c : Command) (answer : Answer) (o : Option OpenLink) → Kept o s ys
       → ((l : OpenLink) → o ≡ Some l → (x : FarEnd) → end_numbered l.peer ps os ≡ Some x → IsOffered x (end_numbered l.peer (behind c [] answer).peers.numbers (behind c [] answer).world.fars))
       → Kept o (behind c [] answer) (open_goes_on o (goes_on s (stretch c [] answer) (behind c [] answer)) ys)
-  stays c answer o kept same = stays_kept o s (behind c [] answer) c (Some answer) ys kept same
+  stays c answer o kept same = stays_kept o s (behind c [] answer) c g.joins (Some answer) ys kept same
 
   same_kept : (c : Command) (answer : Answer) → (behind c [] answer).peers.numbers ≡ ps → (behind c [] answer).world.fars ≡ os → (behind c [] answer).link ≡ s.link → GoesOn s.link c [] answer
   same_kept c answer numbers fars link =
@@ -221,16 +216,16 @@ module _ (s : State) (g : Given) (ys : List Story) (h : KeptIn s ys) where
     removed_kept = by_link (is_linked_to s id) refl
 
   -- a command on the link
-  abbrev ArrivesSo : OpenLink → Ends → List Event → Option OpenLink → Type 0
-  ArrivesSo l us es now = ArrivesAt l ps os us es now
+  abbrev ArrivesSo : OpenLink → List ℕ → Ends → List Event → Option OpenLink → Type 0
+  ArrivesSo l counts us es now = ArrivesAt l ps counts os us es now
 
   called_kept : (o : Option OpenLink) → s.link ≡ o → (now : Option OpenLink) (x : Stretch) (t : State) → t.peers.numbers ≡ ps
-      → (o ≡ None → now ≡ None) → ((l : OpenLink) → o ≡ Some l → ArrivesSo l t.world.fars x.events now) → ((l k : OpenLink) → o ≡ Some l → now ≡ Some k → k.peer ≡ l.peer)
+      → (o ≡ None → now ≡ None) → ((l : OpenLink) → o ≡ Some l → ArrivesSo l x.joins.far t.world.fars x.events now) → ((l k : OpenLink) → o ≡ Some l → now ≡ Some k → k.peer ≡ l.peer)
       → Kept now t (open_goes_on s.link (goes_on s x t) ys)
   called_kept o at now x t numbers none came peer =
       subst (λ k. Kept now t (open_goes_on k (goes_on s x t) ys)) (sym at) (by o (subst (λ k. Kept k s ys) at h) none came peer)
     where
-      by : (o : Option OpenLink) → Kept o s ys → (o ≡ None → now ≡ None) → ((l : OpenLink) → o ≡ Some l → ArrivesSo l t.world.fars x.events now)
+      by : (o : Option OpenLink) → Kept o s ys → (o ≡ None → now ≡ None) → ((l : OpenLink) → o ≡ Some l → ArrivesSo l x.joins.far t.world.fars x.events now)
           → ((l k : OpenLink) → o ≡ Some l → now ≡ Some k → k.peer ≡ l.peer) → Kept now t (open_goes_on o (goes_on s x t) ys)
       by None k none came peer = subst (λ x. Kept x t ys) (sym (none refl)) (none_kept None s t ys k)
       by (Some l) k none came peer = came_kept l s t x ys now k numbers (came l refl) (λ m is. peer l m refl is)
@@ -241,7 +236,7 @@ module _ (s : State) (g : Given) (ys : List Story) (h : KeptIn s ys) where
   -- by a call, whose link is that behind it
   call_kept : (c : Command) (es : List Event) (answer : Answer) (stands : OpenLink → CallStanding) → (behind c es answer).peers.numbers ≡ ps
       → (behind c es answer).link ≡ call_behind (Some answer) s.link stands
-      → ((l : OpenLink) → s.link ≡ Some l → ArrivesSo l (behind c es answer).world.fars es (call_behind (Some answer) s.link stands)) → GoesOn s.link c es answer
+      → ((l : OpenLink) → s.link ≡ Some l → ArrivesSo l g.joins.far (behind c es answer).world.fars es (call_behind (Some answer) s.link stands)) → GoesOn s.link c es answer
   call_kept c es answer stands numbers link came =
       let t : State = behind c es answer in
       let x : Stretch = stretch c es answer in
@@ -324,5 +319,5 @@ steps_kept s [] (e ∷ es) t ys h legal = absurd legal
 steps_kept s (g ∷ gs) [] t ys h legal = absurd legal
 steps_kept s (g ∷ gs) (e ∷ es) t ys h (mid, step, rest) =
     let now : State = state_after s g.joins e.command e.events (Some e.answer) in
-    let one : KeptIn now (stories_behind s (stretch_of e) now ys) = step_kept s g ys h e.command e.events e.answer step.front.turns step.front.each step.answered in
-    steps_kept now gs es t (stories_behind s (stretch_of e) now ys) one (subst (λ x. EachLegal x gs es t) step.front.after rest)
+    let one : KeptIn now (stories_behind s (stretch_of g.joins e) now ys) = step_kept s g ys h e.command e.events e.answer step.front.turns step.front.each step.answered in
+    steps_kept now gs es t (stories_behind s (stretch_of g.joins e) now ys) one (subst (λ x. EachLegal x gs es t) step.front.after rest)

@@ -1,132 +1,160 @@
 -- What arrives at the peer of a link and is accepted by that, stretch by stretch.
-use Rattle.std.proofs.Common.{◌≡◌, ◌⊎◌, ℕ, ◌<◌, List, [], ◌∷◌, ◌++◌, drop, length, Option, Some, None, refl, sym, ◌∙◌, ap, subst, inl, inr, append_assoc, append-nil}
+use Rattle.std.proofs.Common.{◌≡◌, ℕ, ◌<◌, List, [], ◌∷◌, ◌++◌, drop, length, Option, Some, None, refl, sym, ◌∙◌, ap, subst, append_assoc, append-nil}
 use Rattle.std.specs.List.{AllByRecursion}
 use Rattle.std.proofs.Math.Seq.{drop-append_seam}
+use Rattle.nfc_base.specs.Choosing.{Choosing}
 use Rattle.dep_link.specs.DepLinks.{brought}
 use Rattle.dep_link.specs.Payloads.{Cut}
-use Rattle.llcp_link.specs.Running.{Acted, DoesElse, Else, end_of, marks_of}
+use Rattle.llcp_link.specs.Running.{AreBytes}
 use Rattle.llcp_link.specs.State.{restarted}
 use Rattle.llcp_link.specs.Units.{units}
-use Rattle.snep_core.specs.Payloads.{AcceptsPuts, AllPut, IsFront, IsServerRun, OffersElse, accepted_from, end_there, marks_there}
-use Rattle.snep_core.specs.Server.{Received as Accepted, ServerState, sap_count, serving}
-use Rattle.snep_core.proofs.PayloadLaw.{payloads_accepted}
-use Rattle.link_calls.specs.Arriving.{IsCounted, taken_in}
-use Rattle.link_calls.proofs.Arriving.{ends_then, runs_then, taken_then}
+use Rattle.snep_core.specs.Payloads.{AcceptsPuts, AllPut, IsFront, accepted_from}
+use Rattle.snep_core.specs.Server.{Received as Accepted, sap_count, serving}
+use Rattle.snep_core.specs.Session.{Offer}
+use Rattle.link_calls.specs.Arriving.{IsCounted, all_answered}
 use Rattle.bench_script.specs.declared.command.Command.{Command}
 use Rattle.bench_world.specs.declared.entry.Answer.{Answer}
 use Rattle.bench_world.specs.World.{FarEnd}
+use Rattle.bench_world.specs.Arrivals.{Arrival, arrival_marks, arrivals_of, end_behind, giving_values, payloads_of}
 use Rattle.bench_world.specs.Arriving.{ArrivesAt, BeginsAt}
-use Rattle.bench_world.specs.ByPayloads.{AcceptsUntil, IsByPayloads, PlaceIn}
+use Rattle.bench_world.specs.ByPayloads.{AcceptsUntil, IsByPayloads, Place, end_there, marks_there}
 use Rattle.bench_world.specs.Calls.{IfLinked, OfEnd}
-use Rattle.bench_world.specs.Legal.{State}
+use Rattle.bench_world.specs.Legal.{State, Joins}
 use Rattle.bench_world.specs.Links.{OpenLink, end_numbered}
-use Rattle.bench_world.specs.Stories.{ByLink, Story, Stretch, accepted_in, accepted_of, first_of, gained_by, goes_on, last_goes_on, open_goes_on, story_if}
+use Rattle.bench_world.specs.Stories.{ByLink, Story, Stretch, accepted_in, accepted_of, arrived_by, brought_by, first_of, gained_by, goes_on, last_goes_on, open_goes_on, story_if, values_in, values_of}
 use Rattle.bench_world.proofs.CountedOn.{brought_on, counted_on}
 use Rattle.bench_world.proofs.PutsTold.{accepted_more}
-use Rattle.bench_world.proofs.ServerRuns.{plain_run, run_front, run_order}
+use Rattle.bench_world.proofs.ServerRuns.{AreOfBytes, answered_is, arrivals_front, arrivals_put, behind_then, bytes_are, bytes_then, payloads_are, payloads_then, place_front, place_puts}
 use Rattle.bench_world.proofs.StoriesStand.{all_more, last_story}
 
--- the story of the link that is open, and its peer's end
+-- the story of the link that is open, and its peer's end, whose server may give other values by now
 pub record OnLink (l : OpenLink) (s : State) (y : Story) : Type 0 where
   pub own : y.peer ≡ l.peer
   pub old : FarEnd
   pub begins : y.begun ≡ restarted serving old y.general
-  pub run : List (Acted ServerState)
-  pub does : IsServerRun y.begun run
-  pub payloads : taken_in run ≡ brought 0 y.events
-  pub accepted : (end_of y.begun run).service.accepted ≡ y.begun.service.accepted ++ y.gained
+  pub bytes : AreOfBytes y.arrivals
+  pub payloads : payloads_of y.arrivals ≡ brought 0 y.events
+  pub accepted : (end_behind y.begun y.arrivals).service.accepted ≡ y.begun.service.accepted ++ y.gained
   pub counted : IsCounted 0 y.events l.initiator.core.number
-  pub stands : end_numbered l.peer s.peers.numbers s.world.fars ≡ Some (end_of y.begun run)
+  pub table : List Offer
+  pub stands : end_numbered l.peer s.peers.numbers s.world.fars ≡ Some (giving_values table (end_behind y.begun y.arrivals))
 
 same_behind : (a b c : List (List ℕ)) → a ++ b ≡ a ++ c → b ≡ c
 same_behind a b c e = sym (drop-append_seam a b) ∙ ap (drop (length a)) e ∙ drop-append_seam a c
 
 -- so it is by the payloads that came
-pub by_payloads : (y : Story) (old : FarEnd) → y.begun ≡ restarted serving old y.general → (run : List (Acted ServerState)) → IsServerRun y.begun run → taken_in run ≡ brought 0 y.events
-    → (end_of y.begun run).service.accepted ≡ y.begun.service.accepted ++ y.gained → IsByPayloads y
-by_payloads y old begins run does payloads accepted = record {
+pub by_payloads : (y : Story) (old : FarEnd) → y.begun ≡ restarted serving old y.general → AreOfBytes y.arrivals → payloads_of y.arrivals ≡ brought 0 y.events
+    → (end_behind y.begun y.arrivals).service.accepted ≡ y.begun.service.accepted ++ y.gained → IsByPayloads y
+by_payloads y old begins bytes payloads accepted = record {
   old = old;
   begins = begins;
-  run = run;
-  does = does;
   payloads = payloads;
   accepted = accepted;
-  puts = λ c few. from c (put c few y.begun begins does);
-  order = λ p. until p (run_order old y.general y.begun begins run does p);
+  puts = λ c few. from c (put c few);
+  order = λ p. until p;
 }
   where
-    put : (c : ℕ) → c < sap_count → (begun : FarEnd) → begun ≡ restarted serving old y.general → IsServerRun begun run
-        → AcceptsPuts c begun.service.limit begun.miu (marks_of serving c begun run) begun.service.accepted (end_of begun run).service.accepted
-    put c few begun is r =
-        let P : FarEnd → Type 0 = λ l. IsServerRun l run → AcceptsPuts c l.service.limit l.miu (marks_of serving c l run) l.service.accepted (end_of l run).service.accepted in
-        subst P (sym is) (λ q. payloads_accepted old y.general run q c few) r
+    put : (c : ℕ) → c < sap_count
+        → AcceptsPuts c y.begun.service.limit y.begun.miu (arrival_marks c y.begun y.arrivals) y.begun.service.accepted (end_behind y.begun y.arrivals).service.accepted
+    put c few =
+        let P : FarEnd → Type 0 = λ l. AcceptsPuts c l.service.limit l.miu (arrival_marks c l y.arrivals) l.service.accepted (end_behind l y.arrivals).service.accepted in
+        subst P (sym begins) (arrivals_put old y.general y.arrivals bytes c few)
 
-    from : (c : ℕ) → AcceptsPuts c y.begun.service.limit y.begun.miu (marks_of serving c y.begun run) y.begun.service.accepted (end_of y.begun run).service.accepted
-        → AllPut y.begun.service.limit (units c y.begun.miu None (marks_of serving c y.begun run)) (accepted_from c y.gained)
+    from : (c : ℕ) → AcceptsPuts c y.begun.service.limit y.begun.miu (arrival_marks c y.begun y.arrivals) y.begun.service.accepted (end_behind y.begun y.arrivals).service.accepted
+        → AllPut y.begun.service.limit (units c y.begun.miu None (arrival_marks c y.begun y.arrivals)) (accepted_from c y.gained)
     from c a =
         let had : List (List ℕ) = accepted_from c y.begun.service.accepted in
         let both : had ++ a.all ≡ had ++ accepted_from c y.gained =
         sym a.accepted ∙ ap (accepted_from c) accepted ∙ accepted_more c y.begun.service.accepted y.gained in
-        subst (AllPut y.begun.service.limit (units c y.begun.miu None (marks_of serving c y.begun run))) (same_behind had a.all (accepted_from c y.gained) both) a.put
+        subst (AllPut y.begun.service.limit (units c y.begun.miu None (arrival_marks c y.begun y.arrivals))) (same_behind had a.all (accepted_from c y.gained) both) a.put
 
-    until : (p : PlaceIn y.begun run)
-        → ((c : ℕ) → c < sap_count → AcceptsPuts c y.begun.service.limit y.begun.miu (marks_there c y.begun p.place) y.begun.service.accepted (end_there y.begun p.place).service.accepted)
-        × IsFront (end_there y.begun p.place).service.accepted (end_of y.begun run).service.accepted → AcceptsUntil y p.place
-    until p (puts, front) = record { puts = puts; front = subst (IsFront (end_there y.begun p.place).service.accepted) accepted front }
+    Ordered : FarEnd → Type 0
+    Ordered l =
+        (p : Place l y.arrivals)
+        → ((c : ℕ) → c < sap_count → AcceptsPuts c l.service.limit l.miu (marks_there p c) l.service.accepted (end_there p).service.accepted)
+        × IsFront (end_there p).service.accepted (end_behind l y.arrivals).service.accepted
+
+    ordered : Ordered y.begun
+    ordered = subst Ordered (sym begins) (λ p. (place_puts old y.general y.arrivals bytes p, place_front old y.general y.arrivals bytes p))
+
+    until : (p : Place y.begun y.arrivals) → AcceptsUntil y p
+    until p = record { puts = (ordered p).0; front = subst (IsFront (end_there p).service.accepted) accepted (ordered p).1 }
 
 -- More was done on it, by what more arrived.
-module _ (l : OpenLink) (s : State) (y : Story) (on : OnLink l s y) (x : Stretch) (more : List (Acted ServerState)) (does : IsServerRun (end_of y.begun on.run) more)
-    (payloads : taken_in more ≡ brought l.initiator.core.number x.events) where
-  abbrev all : List (Acted ServerState)
-  all = on.run ++ more
+module _ (l : OpenLink) (s : State) (y : Story) (on : OnLink l s y) (x : Stretch) (bytes : AllByRecursion AreBytes (brought l.initiator.core.number x.events)) where
+  abbrev pub here : FarEnd
+  here = end_behind y.begun y.arrivals
 
-  abbrev here : FarEnd
-  here = end_of y.begun on.run
+  abbrev payloads : List (List ℕ)
+  payloads = brought l.initiator.core.number x.events
 
-  all_does : IsServerRun y.begun all
-  all_does = runs_then OffersElse y.begun on.run more on.does does
+  -- the end behind it
+  abbrev pub end_then : FarEnd
+  end_then = end_behind here (arrivals_of on.table x.joins.far payloads)
 
-  all_payloads : taken_in all ≡ brought 0 (y.events ++ x.events)
+  abbrev came : List Arrival
+  came = arrived_by s x y
+
+  brought_is : brought_by x y ≡ payloads
+  brought_is =
+      ap (drop (length (brought 0 y.events))) (brought_on 0 l.initiator.core.number y.events x.events on.counted)
+      ∙ drop-append_seam (brought 0 y.events) payloads
+
+  came_is : came ≡ arrivals_of on.table x.joins.far payloads
+  came_is =
+      ap (λ ps. arrivals_of (values_in y.peer s) x.joins.far ps) brought_is
+      ∙ ap (λ t. arrivals_of t x.joins.far payloads) (ap (λ n. values_in n s) on.own ∙ ap values_of on.stands)
+
+  all_bytes : AreOfBytes (y.arrivals ++ came)
+  all_bytes = bytes_then y.arrivals came on.bytes (subst AreOfBytes (sym came_is) (bytes_are on.table x.joins.far payloads bytes))
+
+  all_payloads : payloads_of (y.arrivals ++ came) ≡ brought 0 (y.events ++ x.events)
   all_payloads =
-      taken_then on.run more ∙ ap (λ xs. xs ++ taken_in more) on.payloads ∙ ap (λ xs. brought 0 y.events ++ xs) payloads
+      payloads_then y.arrivals came ∙ ap (λ ps. ps ++ payloads_of came) on.payloads
+      ∙ ap (λ ps. brought 0 y.events ++ ps) (ap payloads_of came_is ∙ payloads_are on.table x.joins.far payloads)
       ∙ sym (brought_on 0 l.initiator.core.number y.events x.events on.counted)
 
-  all_end : end_of y.begun all ≡ end_of here more
-  all_end = ends_then y.begun on.run more
+  all_end : end_behind y.begun (y.arrivals ++ came) ≡ end_then
+  all_end = behind_then y.begun y.arrivals came ∙ ap (end_behind here) came_is
 
-  module _ (t : State) (now : accepted_in y.peer t ≡ (end_of here more).service.accepted) where
+  module _ (t : State) (now : accepted_in y.peer t ≡ end_then.service.accepted) where
     abbrev gained : List Accepted
     gained = gained_by y.peer s t
 
     had : accepted_in y.peer s ≡ here.service.accepted
     had = ap (λ n. accepted_in n s) on.own ∙ ap accepted_of on.stands
 
-    gains : IsFront here.service.accepted (end_of here more).service.accepted → (end_of here more).service.accepted ≡ here.service.accepted ++ gained
+    grows : IsFront here.service.accepted end_then.service.accepted
+    grows =
+        let P : FarEnd → Type 0 = λ b. IsFront (end_behind b y.arrivals).service.accepted (end_behind (end_behind b y.arrivals) (arrivals_of on.table x.joins.far payloads)).service.accepted in
+        subst P (sym on.begins) (arrivals_front on.old y.general y.arrivals (arrivals_of on.table x.joins.far payloads) on.bytes (bytes_are on.table x.joins.far payloads bytes))
+
+    gains : IsFront here.service.accepted end_then.service.accepted → end_then.service.accepted ≡ here.service.accepted ++ gained
     gains (rest, e) =
         let so : gained ≡ rest =
         ap (λ xs. drop (length xs) (accepted_in y.peer t)) had ∙ ap (drop (length here.service.accepted)) (now ∙ e) ∙ drop-append_seam here.service.accepted rest in
         e ∙ ap (λ xs. here.service.accepted ++ xs) (sym so)
 
-    accepted_is : (end_of y.begun all).service.accepted ≡ y.begun.service.accepted ++ (y.gained ++ gained)
+    accepted_is : (end_behind y.begun (y.arrivals ++ came)).service.accepted ≡ y.begun.service.accepted ++ (y.gained ++ gained)
     accepted_is =
-        ap (λ (e : FarEnd). e.service.accepted) all_end ∙ gains (run_front on.old y.general y.begun on.begins on.run more on.does does)
+        ap (λ (e : FarEnd). e.service.accepted) all_end ∙ gains grows
         ∙ ap (λ xs. xs ++ gained) on.accepted ∙ append_assoc y.begun.service.accepted y.gained gained
 
     pub more_payloads : IsByPayloads (goes_on s x t y)
-    more_payloads = by_payloads (goes_on s x t y) on.old on.begins all all_does all_payloads accepted_is
+    more_payloads = by_payloads (goes_on s x t y) on.old on.begins all_bytes all_payloads accepted_is
 
     pub more_on : (k : OpenLink) → IsCounted l.initiator.core.number x.events k.initiator.core.number → k.peer ≡ l.peer
-        → end_numbered l.peer t.peers.numbers t.world.fars ≡ Some (end_of here more) → OnLink k t (goes_on s x t y)
-    more_on k counted peer stands = record {
+        → (table : List Offer) → end_numbered l.peer t.peers.numbers t.world.fars ≡ Some (giving_values table end_then) → OnLink k t (goes_on s x t y)
+    more_on k counted peer table stands = record {
       own = on.own ∙ sym peer;
       old = on.old;
       begins = on.begins;
-      run = all;
-      does = all_does;
+      bytes = all_bytes;
       payloads = all_payloads;
       accepted = accepted_is;
       counted = counted_on 0 l.initiator.core.number y.events x.events on.counted k.initiator.core.number counted;
-      stands = ap (λ n. end_numbered n t.peers.numbers t.world.fars) peer ∙ stands ∙ ap Some (sym all_end);
+      table = table;
+      stands = ap (λ n. end_numbered n t.peers.numbers t.world.fars) peer ∙ stands ∙ ap (λ e. Some (giving_values table e)) (sym all_end);
     }
 
 -- of some stories the last is that of the open link
@@ -146,7 +174,7 @@ all_front [] y h = tt
 all_front (x ∷ before) y h = (h.0, all_front before y h.1)
 
 on_payloads : (l : OpenLink) (s : State) (y : Story) → OnLink l s y → IsByPayloads y
-on_payloads l s y on = by_payloads y on.old on.begins on.run on.does on.payloads on.accepted
+on_payloads l s y on = by_payloads y on.old on.begins on.bytes on.payloads on.accepted
 
 -- the last one goes on, and is that of the link that is open then, if one is
 module _ (l : OpenLink) (s : State) (ys : List Story) (h : Kept (Some l) s ys) (go : Story → Story) where
@@ -169,35 +197,27 @@ module _ (l : OpenLink) (s : State) (ys : List Story) (h : Kept (Some l) s ys) (
         going = record { before = h.going.before; last = go last; split = refl; on = on };
       })
 
--- A far end is the same, or it was offered a value.
+-- A far end is the same, but for the values that its server gives.
 abbrev pub IsOffered : FarEnd → Option FarEnd → Type 0
-IsOffered x now = (y : FarEnd) × (now ≡ Some y) × ((y ≡ x) ⊎ DoesElse OffersElse x y)
+IsOffered x now = (table : List Offer) × (now ≡ Some (giving_values table x))
 
 -- what the peer accepted until then
 accepted_there : (l : OpenLink) (s t : State) (y : Story) → OnLink l s y → (x : List Accepted) → accepted_of (end_numbered l.peer t.peers.numbers t.world.fars) ≡ x → accepted_in y.peer t ≡ x
 accepted_there l s t y on x is = ap (λ n. accepted_in n t) on.own ∙ is
 
 -- a stretch in which nothing happened
-pub stays_kept : (o : Option OpenLink) (s t : State) (c : Command) (told : Option Answer) (ys : List Story) → Kept o s ys
+pub stays_kept : (o : Option OpenLink) (s t : State) (c : Command) (joins : Joins) (told : Option Answer) (ys : List Story) → Kept o s ys
     → ((l : OpenLink) → o ≡ Some l → (x : FarEnd) → end_numbered l.peer s.peers.numbers s.world.fars ≡ Some x → IsOffered x (end_numbered l.peer t.peers.numbers t.world.fars))
-    → Kept o t (open_goes_on o (goes_on s (record { command = c; events = []; told = told }) t) ys)
-stays_kept None s t c told ys h same = record { all = h.all; going = tt }
-stays_kept (Some l) s t c told ys h same =
-    let now = same l refl (end_of h.going.last.begun h.going.on.run) h.going.on.stands in
-    going_kept l s ys h (goes_on s x t) l t (by now.0 now.1 now.2)
-  where
-    x : Stretch
-    x = record { command = c; events = []; told = told }
-
-    by : (z : FarEnd) → end_numbered l.peer t.peers.numbers t.world.fars ≡ Some z
-        → (z ≡ end_of h.going.last.begun h.going.on.run) ⊎ DoesElse OffersElse (end_of h.going.last.begun h.going.on.run) z → OnLink l t (goes_on s (record { command = c; events = []; told = told }) t h.going.last)
-    by z is (inl same_end) =
-        let now : end_numbered l.peer t.peers.numbers t.world.fars ≡ Some (end_of h.going.last.begun h.going.on.run) = is ∙ ap Some same_end in
-        more_on l s h.going.last h.going.on (record { command = c; events = []; told = told }) [] tt refl t
-        (accepted_there l s t h.going.last h.going.on (end_of h.going.last.begun h.going.on.run).service.accepted (ap accepted_of now)) l refl refl now
-    by z is (inr d) =
-        more_on l s h.going.last h.going.on (record { command = c; events = []; told = told }) (record { act = Else; after = z } ∷ []) (d, tt) refl t
-        (accepted_there l s t h.going.last h.going.on z.service.accepted (ap accepted_of is)) l refl refl is
+    → Kept o t (open_goes_on o (goes_on s (record { command = c; joins = joins; events = []; told = told }) t) ys)
+stays_kept None s t c joins told ys h same = record { all = h.all; going = tt }
+stays_kept (Some l) s t c joins told ys h same =
+    let on = h.going.on in
+    let there : FarEnd = end_behind h.going.last.begun h.going.last.arrivals in
+    let x : Stretch = record { command = c; joins = joins; events = []; told = told } in
+    let now = same l refl (giving_values on.table there) on.stands in
+    let is : end_numbered l.peer t.peers.numbers t.world.fars ≡ Some (giving_values now.0 there) = now.1 in
+    going_kept l s ys h (goes_on s x t) l t
+    (more_on l s h.going.last on x tt t (accepted_there l s t h.going.last on there.service.accepted (ap accepted_of is)) l refl refl now.0 is)
 
 -- what is accepted above
 above_is : (x : List Accepted) (o : Option FarEnd) → OfEnd (λ e. e.service.accepted ≡ x) o → accepted_of o ≡ x
@@ -206,38 +226,44 @@ above_is x (Some e) h = h
 
 -- a stretch on the link, by what arrived in it
 pub came_kept : (l : OpenLink) (s t : State) (x : Stretch) (ys : List Story) (now : Option OpenLink) → Kept (Some l) s ys → t.peers.numbers ≡ s.peers.numbers
-    → ArrivesAt l s.peers.numbers s.world.fars t.world.fars x.events now → ((k : OpenLink) → now ≡ Some k → k.peer ≡ l.peer) → Kept now t (open_goes_on (Some l) (goes_on s x t) ys)
+    → ArrivesAt l s.peers.numbers x.joins.far s.world.fars t.world.fars x.events now → ((k : OpenLink) → now ≡ Some k → k.peer ≡ l.peer) → Kept now t (open_goes_on (Some l) (goes_on s x t) ys)
 came_kept l s t x ys now h numbers came peer = by now came.going peer
   where
     on : OnLink l s h.going.last
     on = h.going.on
 
+    y : Story
+    y = h.going.last
+
     there : FarEnd
-    there = end_of h.going.last.begun h.going.on.run
+    there = end_behind y.begun y.arrivals
 
-    same : came.old ≡ there
-    same = let both : Some came.old ≡ Some there = sym came.stood ∙ on.stands in cc
+    end : FarEnd
+    end = end_then l s y on x came.arrives.bytes
 
-    does : IsServerRun there came.arrives.run
-    does = subst (λ e. IsServerRun e came.arrives.run) same (plain_run came.old came.arrives.run came.arrives.does)
+    same : came.old ≡ giving_values on.table there
+    same = let both : Some came.old ≡ Some (giving_values on.table there) = sym came.stood ∙ on.stands in cc
 
-    new_is : came.new ≡ end_of there came.arrives.run
-    new_is = came.arrives.after_is ∙ ap (λ e. end_of e came.arrives.run) same
+    new_is : came.new.end ≡ giving_values on.table end
+    new_is =
+        let C : FarEnd → Choosing FarEnd = λ e. record { end = e; numbers = x.joins.far } in
+        let ps : List (List ℕ) = brought l.initiator.core.number x.events in
+        ap (λ (c : Choosing FarEnd). c.end) (came.arrives.after_is ∙ ap (λ e. all_answered ps (C e)) same) ∙ answered_is ps x.joins.far on.table there
 
     end_is : end_numbered l.peer t.peers.numbers t.world.fars ≡ end_numbered l.peer s.peers.numbers t.world.fars
     end_is = ap (λ ns. end_numbered l.peer ns t.world.fars) numbers
 
-    accepted : accepted_in h.going.last.peer t ≡ (end_of there came.arrives.run).service.accepted
+    accepted : accepted_in y.peer t ≡ end.service.accepted
     accepted =
-        accepted_there l s t h.going.last on (end_of there came.arrives.run).service.accepted
-        (ap accepted_of end_is ∙ above_is came.new.service.accepted (end_numbered l.peer s.peers.numbers t.world.fars) came.accepted ∙ ap (λ (e : FarEnd). e.service.accepted) new_is)
+        accepted_there l s t y on end.service.accepted
+        (ap accepted_of end_is ∙ above_is came.new.end.service.accepted (end_numbered l.peer s.peers.numbers t.world.fars) came.accepted ∙ ap (λ (e : FarEnd). e.service.accepted) new_is)
 
-    by : (now : Option OpenLink) → IfLinked now (λ k. (end_numbered l.peer s.peers.numbers t.world.fars ≡ Some came.new) × IsCounted l.initiator.core.number x.events k.initiator.core.number) (Unit {0})
+    by : (now : Option OpenLink) → IfLinked now (λ k. (end_numbered l.peer s.peers.numbers t.world.fars ≡ Some came.new.end) × IsCounted l.initiator.core.number x.events k.initiator.core.number) (Unit {0})
         → ((k : OpenLink) → now ≡ Some k → k.peer ≡ l.peer) → Kept now t (last_goes_on (goes_on s x t) ys)
-    by None g p = ended_kept l s ys h (goes_on s x t) t (more_payloads l s h.going.last on x came.arrives.run does came.arrives.payloads t accepted)
+    by None g p = ended_kept l s ys h (goes_on s x t) t (more_payloads l s y on x came.arrives.bytes t accepted)
     by (Some k) g p =
         going_kept l s ys h (goes_on s x t) k t
-        (more_on l s h.going.last on x came.arrives.run does came.arrives.payloads t accepted k g.1 (p k refl) (end_is ∙ g.0 ∙ ap Some new_is))
+        (more_on l s y on x came.arrives.bytes t accepted k g.1 (p k refl) on.table (end_is ∙ g.0 ∙ ap Some new_is))
 
 -- no link is open then
 pub none_kept : (o : Option OpenLink) (s t : State) (ys : List Story) → Kept o s ys → Kept None t ys
@@ -258,16 +284,16 @@ begun_kept (Some l) s t number general ys all numbers begins first = by (end_num
     by None b = absurd b
     by (Some old) b =
         let end : FarEnd = restarted serving old general in
-        let y : Story = record { number = number; opener = ByLink; peer = l.peer; general = general; begun = end; events = []; puts = []; gained = [] } in
+        let y : Story = record { number = number; opener = ByLink; peer = l.peer; general = general; begun = end; events = []; arrivals = []; puts = []; gained = [] } in
         let on : OnLink l t y = record {
           own = refl;
           old = old;
           begins = refl;
-          run = [];
-          does = tt;
+          bytes = tt;
           payloads = refl;
           accepted = sym (append-nil end.service.accepted);
           counted = ap (λ n. let c : Cut = record { next = n; chain = []; payloads = [] } in c) (sym (first l refl));
+          table = end.service.table;
           stands = end_is ∙ b;
         } in
         subst (λ x. Kept (Some l) t (ys ++ first_of number general l.peer x)) (sym (end_is ∙ b))

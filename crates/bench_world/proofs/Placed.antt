@@ -30,7 +30,7 @@ use Rattle.peer_air.specs.PeerFars.{peer_ends}
 use Rattle.bench_devices.specs.Device.{device_linked}
 use Rattle.bench_devices.specs.Phases.{IsIdle}
 use Rattle.bench_world.specs.Opened.{IsServed, AreServed, AreNumbered}
-use Rattle.bench_world.specs.Journal.{TakesNumbers}
+use Rattle.bench_world.proofs.Numbers.{UsesFars, none_taken}
 use Rattle.bench_world.proofs.Fronts.{links_stay}
 use Rattle.bench_world.proofs.PlacesKept.{served_more, numbered_tag, numbered_peer}
 use Rattle.bench_world.proofs.LinkKept.{keeps_so, open_on, open_more}
@@ -61,13 +61,13 @@ nothing = record { asked = []; joins = no_joins }
 -- a command that changes the machines as it says, and sends nothing
 pub still_obeyed : (old new : Machines) (c : Command) (answer : Answer) → IsIdle old.air → Accepts (state_at old) c → state_at new ≡ changed (state_at old) c → new.air.trace ≡ old.air.trace
     → IsAskedBy (state_at old) c [] → due (state_at old) nothing c [] ≡ Over → AnswerLaw (state_at old) nothing c [] answer → AreTame (map kept new.air.listeners) → AreTidy new.air.listeners
-    → HasPlaces new → KeepsLink new → (TakesNumbers c → ⊥) → Obeyed old new c answer
+    → HasPlaces new → KeepsLink new → (UsesFars c → ⊥) → Obeyed old new c answer
 still_obeyed old new c answer idle accepted changes trace asks over law tame tidy places keeps quiet_command =
     let st : State = state_at old in
     let quiet : new.air.trace ≡ [] = trace ∙ idle.quiet in
     let F : List Event → Type 0 = λ es. FrontOf st nothing c es (Some answer) (state_at new) in
     let dropped : State → State = λ s. record { world = with_numbers s.world []; queue = s.queue; peers = s.peers; link = s.link } in
-    let front : F [] = record { accepted = accepted; asks = asks; turns = record { moves = []; made = refl }; fates = tt; each = tt; after = ap dropped changes ∙ sym (links_stay st no_joins c [] (Some answer) quiet_command) } in
+    let front : F [] = record { accepted = accepted; asks = asks; takes = none_taken c; turns = record { moves = []; made = refl }; fates = tt; each = tt; after = ap dropped changes ∙ sym (links_stay st no_joins c [] (Some answer) quiet_command) } in
     record {
       given = nothing;
       joined = refl;
@@ -124,7 +124,7 @@ place_obeyed : (old : Machines) (c : Command) (d : Device) (end : Option FarEnd)
     → IsAskedBy (state_at old) c [] → due (state_at old) nothing c [] ≡ Over → AnswerLaw (state_at old) nothing c [] Done
     → IsSound (kept d) → IsTidy d → IsFree (state_at old) (device_id d) → by_link peer_ends (device_linked d) end ≡ end
     → peers.numbers ≡ old.peers.numbers ++ number ∷ [] → (is_tag d ≡ false → IsServed number end) → AreNumbered (next_number peers) peers.numbers → device_ready d ≡ false → device_selected d ≡ false
-    → (TakesNumbers c → ⊥) → Obeyed old (with_more old d end peers) c Done
+    → (UsesFars c → ⊥) → Obeyed old (with_more old d end peers) c Done
 place_obeyed old c d end number peers settled accepted changes asks over law sound tidy free rests more_numbers served apart ready selected quiet =
     let T : List Kept → Type 0 = AreTame in
     let ls : List Device = old.air.listeners in

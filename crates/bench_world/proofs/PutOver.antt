@@ -44,7 +44,7 @@ module _ (air : Air Device) (ends : FarEnds) (peers : Peers) (settled : IsSettle
         given = given_by joins;
         joined = refl;
         front = subst (λ es. FrontOf (state_at (under ends peers None air)) (given_by joins) (Put m) es (Some answers.NoLink) (state_at (under ends peers None air))) (sym trace)
-            (record { accepted = few; asks = refl; turns = record { moves = []; made = refl }; fates = tt; each = tt; after = refl });
+            (record { accepted = few; asks = refl; takes = refl; turns = record { moves = []; made = refl }; fates = tt; each = tt; after = refl });
         over = refl;
         answered = refl;
         tame = settled.idle.tame;

@@ -38,6 +38,7 @@ module _ (air : Air Device) (ends : FarEnds) (peers : Peers) (l : OpenLink) (set
     still = refl;
     accepts = few;
     asks = refl;
+    takes = λ joins. refl;
     same = λ joins ns. refl;
     link_on = λ joins es answer. refl;
     link_off = λ joins es. refl;

@@ -35,7 +35,7 @@ use Rattle.bench_world.specs.Reading.{TellsOf}
 use Rattle.bench_world.specs.Writing.{TellsWrite}
 use Rattle.bench_script.specs.Messages.{message_of}
 use Rattle.bench_script.specs.declared.message.Msg.{Msg}
-use Rattle.bench_world.specs.Journal.{TakesNumbers}
+use Rattle.bench_world.proofs.Numbers.{UsesFars}
 use Rattle.bench_world.proofs.Complete.{reads_complete, writes_complete, finds_complete}
 use Rattle.bench_world.proofs.OneAnswer.{one_end}
 use Rattle.bench_world.proofs.Fronts.{on_field}
@@ -135,10 +135,10 @@ quiet_of s t g e c step is same pass =
     (quiet_stays s t g e step (subst (λ q. AllPass q) (sym there) pass)).0
 
 -- its first round isn't disturbed, where it begins with a reset
-round_of : (s t : State) (g : Given) (e : Entry) (c : Command) → LegalStep s g e t → e.command ≡ c → (changed s c).world.field ≡ s.world.field → (TakesNumbers c → ⊥) → due s g c [] ≡ LightUp → noise e.events ≡ 0 → AreDisturbed (rounds e.events) → ⊥
+round_of : (s t : State) (g : Given) (e : Entry) (c : Command) → LegalStep s g e t → e.command ≡ c → (changed s c).world.field ≡ s.world.field → (UsesFars c → ⊥) → due s g c [] ≡ LightUp → noise e.events ≡ 0 → AreDisturbed (rounds e.events) → ⊥
 round_of s t g e c step is same quiet lit none =
     let there : (changed s e.command).world.field ≡ s.world.field = ap (λ k. (changed s k).world.field) is ∙ same in
-    first_round air s.world.field (due s g c) e.events (subst (λ (w : BenchWorld). AreTurns air w e.events) there (on_field s t g e.command e.events (λ h. quiet (subst TakesNumbers is h)) step.front).turns) (subst (λ k. EachDue (due s g k) [] e.events) is step.front.each) lit
+    first_round air s.world.field (due s g c) e.events (subst (λ (w : BenchWorld). AreTurns air w e.events) there (on_field s t g e.command e.events (λ h. quiet (subst UsesFars is h)) step.front).turns) (subst (λ k. EachDue (due s g k) [] e.events) is step.front.each) lit
     (ap (λ k. due s g k (receptions e.events)) (sym is) ∙ step.over) none
 
 pub quiet_finds : QuietFinds

@@ -32,7 +32,8 @@ use Rattle.bench_devices.proofs.SelectedHeard.{Heed, IsId, tag_hears}
 use Rattle.bench_devices.proofs.WriteHeeded.{write_heeded}
 use Rattle.bench_world.specs.declared.entry.Answer.TheVariants as answers
 use Rattle.bench_world.specs.declared.entry.Entry.{Entry}
-use Rattle.bench_world.specs.Journal.{asking_lines, IsOnLink, TakesNumbers}
+use Rattle.bench_world.specs.Journal.{asking_lines, IsOnLink}
+use Rattle.bench_world.proofs.Numbers.{UsesFars}
 use Rattle.bench_world.specs.Calls.{IfLinked, due_if, due_on, due_closing}
 use Rattle.bench_world.specs.Links.{OpenLink}
 use Rattle.bench_world.specs.Legal.{State, Given, LegalStep, AnswerLaw, LinkingLaw, PutLaw, GetLaw, LookupLaw, UnlinkLaw, IsAskedBy, changed, due, first_state}
@@ -76,7 +77,7 @@ spelled_id s r asked word (V id) sp = sp.1
 
 module _ (s t : State) (g : Given) (line : List ℕ) (e : Entry) (r : IsReady s.world.field.listeners) (sp : Spells line e.command) (step : LegalStep s g e t) (pass : AllPass (changed s e.command).queue) where
   -- a command that itself changes nothing, selects a tag and asks it what it heeds
-  tag_answered : (id : DeviceId) → (TakesNumbers e.command → ⊥) → (changed s e.command).queue ≡ s.queue → (changed s e.command).world.field ≡ s.world.field → due s g e.command ≡ tag_due id g.asked → IsId g.asked (start s) r.tame r.tidy id → Heed g.asked (start s) r.tame r.tidy id → AnswersAll id e
+  tag_answered : (id : DeviceId) → (UsesFars e.command → ⊥) → (changed s e.command).queue ≡ s.queue → (changed s e.command).world.field ≡ s.world.field → due s g e.command ≡ tag_due id g.asked → IsId g.asked (start s) r.tame r.tidy id → Heed g.asked (start s) r.tame r.tidy id → AnswersAll id e
   tag_answered id quiet queue same next named heeds kind since told =
       tag_hears g.asked (start s) r.tame r.tidy id named heeds e.events (subst (λ q. AllPass q) queue pass) (subst (λ (w : BenchWorld). AreTurns air w e.events) same (on_field s t g e.command e.events quiet step.front).turns)
       (subst (λ q. FatesFrom q e.events) queue step.front.fates) (subst (λ d. EachDue d [] e.events) next step.front.each) kind since told
@@ -84,14 +85,14 @@ module _ (s t : State) (g : Given) (line : List ℕ) (e : Entry) (r : IsReady s.
   read_answered : (id : DeviceId) → e.command ≡ Read id → AnswersAll id e
   read_answered id is =
       let spelled : Spells line (Read id) = let C : Command → Type 0 = λ c. Spells line c in subst C is sp in
-      tag_answered id (λ h. subst TakesNumbers is h) (ap (λ c. (changed s c).queue) is) (ap (λ c. (changed s c).world.field) is) (ap (λ c. due s g c) is) (spelled_id s r g.asked spelled.0 id spelled.2)
+      tag_answered id (λ h. subst UsesFars is h) (ap (λ c. (changed s c).queue) is) (ap (λ c. (changed s c).world.field) is) (ap (λ c. due s g c) is) (spelled_id s r g.asked spelled.0 id spelled.2)
       (heed s r id g.asked (λ d. ReadAsks d g.asked)
       (λ d sound bytes asks. either_if (seen_of d) _ _ _ (λ p. asked_heeded ToRead d g.asked sound bytes p) (λ none. subst (AllByRecursion (IsHeeded (how_of d))) (sym none) tt) asks) (subst (λ c. IsAskedBy s c g.asked) is step.front.asks))
 
   write_answered : (id : DeviceId) (m : Msg) → e.command ≡ Write id m → AnswersAll id e
   write_answered id m is =
       let spelled : Spells line (Write id m) = let C : Command → Type 0 = λ c. Spells line c in subst C is sp in
-      tag_answered id (λ h. subst TakesNumbers is h) (ap (λ c. (changed s c).queue) is) (ap (λ c. (changed s c).world.field) is) (ap (λ c. due s g c) is) (spelled_id s r g.asked spelled.0 id spelled.3)
+      tag_answered id (λ h. subst UsesFars is h) (ap (λ c. (changed s c).queue) is) (ap (λ c. (changed s c).world.field) is) (ap (λ c. due s g c) is) (spelled_id s r g.asked spelled.0 id spelled.3)
       (heed s r id g.asked (λ d. WriteAsks (message_of m) d g.asked)
       (λ d sound bytes asks. writes_heeded (message_of m) d (tag_or_peer d) g.asked sound bytes (message_bytes spelled.1 m spelled.4) asks)
       (subst (λ c. IsAskedBy s c g.asked) is step.front.asks))

@@ -1,83 +1,219 @@
--- Runs of an end with a server, on one link: what was accepted stays, and messages are accepted in order.
+-- What came to a server's end on one link: what was accepted stays, and messages are accepted in order.
 use Rattle.std.proofs.Common.{◌≡◌, ℕ, ◌<◌, List, [], ◌∷◌, ◌++◌, Bool, true, false, if◌then◌else◌, refl, sym, ◌∙◌, ap, subst, arith}
-use Rattle.llcp_link.specs.Running.{Act, Acted, Does, Else, Gives, IsRun, Takes, end_of}
+use Rattle.std.specs.List.{AllByRecursion}
+use Rattle.nfc_base.specs.Choosing.{first_number, later_numbers}
+use Rattle.llcp_link.specs.Running.{Acted, AreBytes, Else, Gives, Takes, end_of, marks_of}
 use Rattle.llcp_link.specs.State.{restarted}
-use Rattle.llcp_link.specs.Taking.{items, steps}
+use Rattle.llcp_link.specs.Taking.{brought, items, steps, taken_from}
+use Rattle.llcp_link.specs.Units.{Mark, marks}
 use Rattle.llcp_link.proofs.StepsSoFar.{steps_more}
-use Rattle.snep_core.specs.Payloads.{AcceptsPuts, IsFront, IsServerRun, OffersElse, end_there, marks_there}
+use Rattle.snep_core.specs.Payloads.{AcceptsPuts, AcceptsThere, IsFront, IsServerRun}
 use Rattle.snep_core.specs.Server.{ServerState, sap_count, serving}
-use Rattle.snep_core.proofs.PayloadLaw.{accepted_in_order}
-use Rattle.link_calls.specs.Arriving.{Never}
-use Rattle.link_calls.proofs.Arriving.{ends_then}
-use Rattle.bench_world.specs.ByPayloads.{PlaceIn}
+use Rattle.snep_core.specs.Session.{Offer}
+use Rattle.snep_core.proofs.PayloadLaw.{accepted_in_order, payloads_accepted}
+use Rattle.link_calls.specs.Arriving.{all_answered}
+use Rattle.link_calls.specs.Staying.{Setting}
+use Rattle.link_calls.proofs.Settings.{answered_set}
+use Rattle.bench_world.specs.Arrivals.{Arrival, arrival_marks, arrivals_of, end_after, end_at, end_behind, giving_values, payloads_of}
+use Rattle.bench_world.specs.ByPayloads.{Place, end_there, marks_there}
 use Rattle.bench_world.specs.World.{FarEnd}
 
--- a run in which nothing else is done is one of a server
-pub plain_run : (l : FarEnd) (run : List (Acted ServerState)) → IsRun serving Never l run → IsServerRun l run
-plain_run l [] r = tt
-plain_run l (a ∷ run) r = (by a.act r.0, plain_run a.after run r.1)
-  where
-    by : (act : Act) → Does serving Never l act a.after → Does serving OffersElse l act a.after
-    by (Takes bytes) d = d
-    by (Gives n) d = d
-    by Else d = absurd d.service
+-- all payloads that came are bytes
+abbrev pub AreOfBytes : List Arrival → Type 0
+AreOfBytes arrivals = AllByRecursion (λ (a : Arrival). AreBytes a.payload) arrivals
 
-run_behind : (l : FarEnd) (before more : List (Acted ServerState)) → IsServerRun l (before ++ more) → IsServerRun (end_of l before) more
-run_behind l [] more r = r
-run_behind l (a ∷ before) more r = run_behind a.after before more r.1
+-- An arrival as a run of the end: other values are given, the payload is taken, and one is given.
+offers : FarEnd → Arrival → Acted ServerState
+offers l a = record { act = Else; after = end_at l a }
+
+takes : FarEnd → Arrival → Acted ServerState
+takes l a = record { act = Takes a.payload; after = taken_from serving (end_at l a) a.payload }
+
+gives : FarEnd → Arrival → Acted ServerState
+gives l a = record { act = Gives a.count; after = end_after l a }
+
+run_of : FarEnd → List Arrival → List (Acted ServerState)
+run_of l [] = []
+run_of l (a ∷ more) = offers l a ∷ takes l a ∷ gives l a ∷ run_of (end_after l a) more
+
+-- up to where the next one finds the end
+run_to : FarEnd → List Arrival → Arrival → List (Acted ServerState)
+run_to l [] next = offers l next ∷ []
+run_to l (a ∷ more) next = offers l a ∷ takes l a ∷ gives l a ∷ run_to (end_after l a) more next
+
+run_does : (l : FarEnd) (as : List Arrival) → AreOfBytes as → IsServerRun l (run_of l as)
+run_does l [] bytes = tt
+run_does l (a ∷ more) bytes =
+    (record { miu = refl; served = refl; service = (a.table, refl) }, ((bytes.0, refl), (refl, run_does (end_after l a) more bytes.1)))
+
+run_end : (l : FarEnd) (as : List Arrival) → end_of l (run_of l as) ≡ end_behind l as
+run_end l [] = refl
+run_end l (a ∷ more) = run_end (end_after l a) more
+
+run_marks : (c : ℕ) (l : FarEnd) (as : List Arrival) → marks_of serving c l (run_of l as) ≡ arrival_marks c l as
+run_marks c l [] = refl
+run_marks c l (a ∷ more) = ap (λ ms. marks serving c (end_at l a) (brought (end_at l a) a.payload) ++ ms) (run_marks c (end_after l a) more)
+
+to_does : (l : FarEnd) (as : List Arrival) (next : Arrival) → AreOfBytes as → IsServerRun l (run_to l as next)
+to_does l [] next bytes = (record { miu = refl; served = refl; service = (next.table, refl) }, tt)
+to_does l (a ∷ more) next bytes =
+    (record { miu = refl; served = refl; service = (a.table, refl) }, ((bytes.0, refl), (refl, to_does (end_after l a) more next bytes.1)))
+
+to_end : (l : FarEnd) (as : List Arrival) (next : Arrival) → end_of l (run_to l as next) ≡ end_at (end_behind l as) next
+to_end l [] next = refl
+to_end l (a ∷ more) next = to_end (end_after l a) more next
+
+to_marks : (c : ℕ) (l : FarEnd) (as : List Arrival) (next : Arrival) → marks_of serving c l (run_to l as next) ≡ arrival_marks c l as
+to_marks c l [] next = refl
+to_marks c l (a ∷ more) next = ap (λ ms. marks serving c (end_at l a) (brought (end_at l a) a.payload) ++ ms) (to_marks c (end_after l a) more next)
+
+-- some arrivals behind others
+pub behind_then : (l : FarEnd) (as bs : List Arrival) → end_behind l (as ++ bs) ≡ end_behind (end_behind l as) bs
+behind_then l [] bs = refl
+behind_then l (a ∷ as) bs = behind_then (end_after l a) as bs
+
+pub bytes_then : (as bs : List Arrival) → AreOfBytes as → AreOfBytes bs → AreOfBytes (as ++ bs)
+bytes_then [] bs h k = k
+bytes_then (a ∷ as) bs h k = (h.0, bytes_then as bs h.1 k)
+
+bytes_before : (as bs : List Arrival) → AreOfBytes (as ++ bs) → AreOfBytes as
+bytes_before [] bs h = tt
+bytes_before (a ∷ as) bs h = (h.0, bytes_before as bs h.1)
+
+bytes_behind : (as bs : List Arrival) → AreOfBytes (as ++ bs) → AreOfBytes bs
+bytes_behind [] bs h = h
+bytes_behind (a ∷ as) bs h = bytes_behind as bs h.1
+
+pub payloads_then : (as bs : List Arrival) → payloads_of (as ++ bs) ≡ payloads_of as ++ payloads_of bs
+payloads_then [] bs = refl
+payloads_then (a ∷ as) bs = ap (λ ps. a.payload ∷ ps) (payloads_then as bs)
+
+pub payloads_are : (table : List Offer) (ns : List ℕ) (ps : List (List ℕ)) → payloads_of (arrivals_of table ns ps) ≡ ps
+payloads_are table ns [] = refl
+payloads_are table ns (p ∷ ps) = ap (λ qs. p ∷ qs) (payloads_are table (later_numbers ns) ps)
+
+pub bytes_are : (table : List Offer) (ns : List ℕ) (ps : List (List ℕ)) → AllByRecursion AreBytes ps → AreOfBytes (arrivals_of table ns ps)
+bytes_are table ns [] bytes = tt
+bytes_are table ns (p ∷ ps) bytes = (bytes.0, bytes_are table (later_numbers ns) ps bytes.1)
+
+-- an end that answers payloads gives the same values all along
+pub answered_is : (ps : List (List ℕ)) (ns : List ℕ) (table : List Offer) (l : FarEnd)
+    → (all_answered ps (record { end = giving_values table l; numbers = ns })).end ≡ giving_values table (end_behind l (arrivals_of table ns ps))
+answered_is [] ns table l = refl
+answered_is (p ∷ ps) ns table l =
+    let a : Arrival = record { payload = p; count = first_number ns; table = table } in
+    let next : FarEnd = end_after l a in
+    let kept : next.service.table ≡ table = ap (λ (z : Setting). z.table) (answered_set p (first_number ns) (giving_values table l)) in
+    let same : next ≡ giving_values table next = ap (λ t. giving_values t next) kept in
+    ap (λ e. (all_answered ps (record { end = e; numbers = later_numbers ns })).end) same ∙ answered_is ps (later_numbers ns) table next
 
 -- an empty payload has no PDUs
 nothing_in : (v : Bool) → (if v then items [] else []) ≡ []
 nothing_in true = refl
 nothing_in false = refl
 
-module _ (old : FarEnd) (general : List ℕ) (begun : FarEnd) (is : begun ≡ restarted serving old general) where
+module _ (old : FarEnd) (general : List ℕ) where
+  abbrev begin : FarEnd
+  begin = restarted serving old general
+
+  -- of each client's SAP, what is accepted is what the payloads put
+  pub arrivals_put : (as : List Arrival) → AreOfBytes as → (c : ℕ) → c < sap_count
+      → AcceptsPuts c old.service.limit old.miu (arrival_marks c begin as) old.service.accepted (end_behind begin as).service.accepted
+  arrivals_put as bytes c few =
+      let P : List Mark → FarEnd → Type 0 = λ ms e. AcceptsPuts c old.service.limit old.miu ms old.service.accepted e.service.accepted in
+      subst (P (arrival_marks c begin as)) (run_end begin as)
+      (subst (λ ms. P ms (end_of begin (run_of begin as))) (run_marks c begin as) (payloads_accepted old general (run_of begin as) (run_does begin as bytes) c few))
+
   -- what was accepted stays, and more is accepted behind it
-  pub run_front : (run more : List (Acted ServerState)) → IsServerRun begun run → IsServerRun (end_of begun run) more
-      → IsFront (end_of begun run).service.accepted (end_of (end_of begun run) more).service.accepted
-  run_front run more does then_ = subst Stays (sym is) stays does then_
-    where
-      Stays : FarEnd → Type 0
-      Stays l = IsServerRun l run → IsServerRun (end_of l run) more → IsFront (end_of l run).service.accepted (end_of (end_of l run) more).service.accepted
+  pub arrivals_front : (as more : List Arrival) → AreOfBytes as → AreOfBytes more
+      → IsFront (end_behind begin as).service.accepted (end_behind (end_behind begin as) more).service.accepted
+  arrivals_front as more bytes then_ =
+      let here : FarEnd = end_of begin (run_of begin as) in
+      let law : AcceptsThere old begin _ = accepted_in_order old general (record {
+        before = run_of begin as;
+        run = run_does begin as bytes;
+        payload = [];
+        bytes = λ i. omega arith;
+        came = [];
+        behind = [];
+        split = nothing_in here.readable;
+      }) in
+      let front : IsFront here.service.accepted (end_of here (run_of here more)).service.accepted = law.front (run_of here more) (run_does here more then_) in
+      let P : FarEnd → Type 0 = λ e. IsFront e.service.accepted (end_behind e more).service.accepted in
+      subst P (run_end begin as) (subst (λ (e : FarEnd). IsFront here.service.accepted e.service.accepted) (run_end here more) front)
 
-      stays : Stays (restarted serving old general)
-      stays d e =
-          let here = accepted_in_order old general (record {
-            before = run;
-            run = d;
-            payload = [];
-            bytes = λ i. omega arith;
-            came = [];
-            behind = [];
-            split = nothing_in (end_of (restarted serving old general) run).readable;
-          }) in
-          here.front more e
+  -- so it is at each place on the way
+  module _ (as : List Arrival) (bytes : AreOfBytes as) (p : Place begin as) where
+    abbrev until : FarEnd
+    until = end_behind begin p.before
 
-  -- at each place in a run, what was accepted until there is what was put until there, and the first of what is accepted in the end
-  pub run_order : (run : List (Acted ServerState)) → IsServerRun begun run → (p : PlaceIn begun run)
-      → ((c : ℕ) → c < sap_count → AcceptsPuts c begun.service.limit begun.miu (marks_there c begun p.place) begun.service.accepted (end_there begun p.place).service.accepted)
-      × IsFront (end_there begun p.place).service.accepted (end_of begun run).service.accepted
-  run_order run does p = subst Ordered (sym is) ordered does p
-    where
-      Ordered : FarEnd → Type 0
-      Ordered l =
-          IsServerRun l run → (p : PlaceIn l run)
-          → ((c : ℕ) → c < sap_count → AcceptsPuts c l.service.limit l.miu (marks_there c l p.place) l.service.accepted (end_there l p.place).service.accepted)
-          × IsFront (end_there l p.place).service.accepted (end_of l run).service.accepted
+    abbrev there : FarEnd
+    there = end_at until p.next
 
-      ordered : Ordered (restarted serving old general)
-      ordered d p =
-          let begin : FarEnd = restarted serving old general in
-          let there : FarEnd = end_there begin p.place in
-          let until : FarEnd = end_of begin p.place.before in
-          let next : Acted ServerState = record { act = Takes p.place.payload; after = p.after } in
-          let law = accepted_in_order old general p.place in
-          let left = run_behind begin p.place.before (next ∷ p.more) (subst (IsServerRun begin) p.split d) in
-          let after_is : p.after ≡ steps serving there p.place.behind =
-          left.0.1 ∙ ap (steps serving until) p.place.split ∙ steps_more serving until p.place.came p.place.behind in
-          let end_is : end_of begin run ≡ end_of p.after p.more = ap (end_of begin) p.split ∙ ends_then begin p.place.before (next ∷ p.more) in (
-            law.puts,
-            subst (λ e. IsFront there.service.accepted e.service.accepted) (sym end_is)
-                (subst (λ l. IsFront there.service.accepted (end_of l p.more).service.accepted) (sym after_is)
-                (law.front p.more (subst (λ l. IsServerRun l p.more) after_is left.1))),
-          )
+    abbrev run : List (Acted ServerState)
+    run = run_to begin p.before p.next
+
+    abbrev here : FarEnd
+    here = end_of begin run
+
+    here_is : here ≡ there
+    here_is = to_end begin p.before p.next
+
+    parted : AreOfBytes (p.before ++ p.next ∷ p.more)
+    parted = subst AreOfBytes p.split bytes
+
+    last : AreOfBytes (p.next ∷ p.more)
+    last = bytes_behind p.before (p.next ∷ p.more) parted
+
+    split_here : brought here p.next.payload ≡ p.came ++ p.behind
+    split_here = ap (λ l. brought l p.next.payload) here_is ∙ p.parts
+
+    law : AcceptsThere old begin (record {
+      before = run;
+      run = to_does begin p.before p.next (bytes_before p.before (p.next ∷ p.more) parted);
+      payload = p.next.payload;
+      bytes = last.0;
+      came = p.came;
+      behind = p.behind;
+      split = split_here;
+    })
+    law = accepted_in_order old general (record {
+      before = run;
+      run = to_does begin p.before p.next (bytes_before p.before (p.next ∷ p.more) parted);
+      payload = p.next.payload;
+      bytes = last.0;
+      came = p.came;
+      behind = p.behind;
+      split = split_here;
+    })
+
+    pub place_puts : (c : ℕ) → c < sap_count → AcceptsPuts c old.service.limit old.miu (marks_there p c) old.service.accepted (end_there p).service.accepted
+    place_puts c few =
+        let P : List Mark → FarEnd → Type 0 = λ ms e. AcceptsPuts c old.service.limit old.miu (ms ++ marks serving c e p.came) old.service.accepted (steps serving e p.came).service.accepted in
+        subst (P (arrival_marks c begin p.before)) here_is (subst (λ ms. P ms here) (to_marks c begin p.before p.next) (law.puts c few))
+
+    -- the rest of the payload, the reply, and what came then
+    left : FarEnd
+    left = steps serving (steps serving here p.came) p.behind
+
+    left_is : left ≡ taken_from serving there p.next.payload
+    left_is =
+        sym (steps_more serving here p.came p.behind) ∙ ap (steps serving here) (sym split_here)
+        ∙ ap (λ l. taken_from serving l p.next.payload) here_is
+
+    rest : List (Acted ServerState)
+    rest = gives until p.next ∷ run_of (end_after until p.next) p.more
+
+    rest_does : IsServerRun left rest
+    rest_does = subst (λ l. IsServerRun l rest) (sym left_is) (refl, run_does (end_after until p.next) p.more last.1)
+
+    rest_end : end_of left rest ≡ end_behind begin as
+    rest_end =
+        run_end (end_after until p.next) p.more ∙ sym (behind_then begin p.before (p.next ∷ p.more))
+        ∙ ap (end_behind begin) (sym p.split)
+
+    pub place_front : IsFront (end_there p).service.accepted (end_behind begin as).service.accepted
+    place_front =
+        let front : IsFront (steps serving here p.came).service.accepted (end_of left rest).service.accepted = law.front rest rest_does in
+        subst (λ (e : FarEnd). IsFront (steps serving e p.came).service.accepted (end_behind begin as).service.accepted) here_is
+        (subst (λ (e : FarEnd). IsFront (steps serving here p.came).service.accepted e.service.accepted) rest_end front)

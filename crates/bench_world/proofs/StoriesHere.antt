@@ -11,12 +11,13 @@ use Rattle.bench_world.specs.declared.entry.Answer.{Answer}
 use Rattle.bench_world.specs.declared.entry.Answer.TheVariants as answers
 use Rattle.bench_world.specs.declared.entry.Loss.{Loss}
 use Rattle.bench_world.specs.World.{FarEnd}
+use Rattle.bench_world.specs.Arrivals.{Arrival}
 use Rattle.bench_world.specs.Calls.{OfEnd, PutAdds}
 use Rattle.bench_world.specs.Legal.{State}
 use Rattle.bench_world.specs.Links.{OpenLink, accepted_by, end_numbered, accepted_at, ended, with_last_ended}
 use Rattle.bench_world.specs.LinkLaw.{AcceptsPuts, KeepsLinkLaw}
 use Rattle.bench_world.specs.Peers.{Peers, next_number}
-use Rattle.bench_world.specs.Stories.{Opener, ByLink, LinkPut, Story, Stretch, told_put, puts_in, accepted_of, accepted_in, gained_by, goes_on, last_goes_on, open_goes_on}
+use Rattle.bench_world.specs.Stories.{Opener, ByLink, LinkPut, Story, Stretch, arrived_by, told_put, puts_in, accepted_of, accepted_in, gained_by, goes_on, last_goes_on, open_goes_on}
 use Rattle.bench_world.proofs.AtNumbers.{Held, held, held_at}
 use Rattle.bench_world.proofs.PeersNumbered.{HavePlaces}
 use Rattle.bench_world.proofs.PutsTold.{InStep, in_step_accepts, taken_more, refused_more, none_more, one_more, with_none, with_one}
@@ -62,9 +63,9 @@ gain n s t k h more before after grown =
     ∙ ap (drop (length k.accepted)) (accepted_is n t ∙ ap taken_by after ∙ grown) ∙ drop-append_seam k.accepted more
 
 -- by a stretch that puts nothing, and in which its peer accepted nothing, a story goes on by what happened
-pub goes_same : (s t : State) (x : Stretch) (y : Story) → puts_in x.command x.told ≡ [] → gained_by y.peer s t ≡ [] → goes_on s x t y ≡ came x.events y
+pub goes_same : (s t : State) (x : Stretch) (y : Story) → puts_in x.command x.told ≡ [] → gained_by y.peer s t ≡ [] → goes_on s x t y ≡ came x.events (arrived_by s x y) y
 goes_same s t x y puts gained =
-    let S : List LinkPut → List Accepted → Story = λ ps gs. record y { events = y.events ++ x.events; puts = ps; gained = gs } in
+    let S : List LinkPut → List Accepted → Story = λ ps gs. record y { events = y.events ++ x.events; arrivals = y.arrivals ++ arrived_by s x y; puts = ps; gained = gs } in
     let p : y.puts ++ puts_in x.command x.told ≡ y.puts = ap (λ ps. y.puts ++ ps) puts ∙ append-nil y.puts in
     let g : y.gained ++ gained_by y.peer s t ≡ y.gained = ap (λ gs. y.gained ++ gs) gained ∙ append-nil y.gained in
     ap (λ ps. S ps (y.gained ++ gained_by y.peer s t)) p ∙ ap (S y.puts) g
@@ -74,7 +75,7 @@ pub open_stands : (s t : State) (x : Stretch) (ys : List Story) (v : View) (n : 
 open_stands s t x ys v n stand puts same =
     let y : Story = stand.opened.now.story in
     let own : gained_by y.peer s t ≡ [] = ap (λ m. gained_by m s t) stand.opened.going.own ∙ no_gain n s t same in
-    open_came v n ys stand (goes_on s x t) x.events (goes_same s t x y puts own)
+    open_came v n ys stand (goes_on s x t) x.events (arrived_by s x y) (goes_same s t x y puts own)
 
 pub still_stands : (s t : State) (x : Stretch) (ys : List Story) (v : View) (o : Option OpenLink) → StandBy v o ys → puts_in x.command x.told ≡ []
     → ((l : OpenLink) → o ≡ Some l → at (view_of t) l.peer ≡ at (view_of s) l.peer) → StandBy v o (open_goes_on o (goes_on s x t) ys)
@@ -116,30 +117,30 @@ takes_so m (Some end) k a more e h =
     subst (λ (x : Held). TakesSo x.limit m a more) is (takes_end m end a more h)
 
 -- so a story goes on that was in step
-abbrev pub put_to : Story → List Event → List ℕ → Told → List Accepted → Story
-put_to y es m told more = went_on es (record { source = client_sap; put = record { message = m; told = told } } ∷ []) more y
+abbrev pub put_to : Story → List Event → List Arrival → List ℕ → Told → List Accepted → Story
+put_to y es as m told more = went_on es as (record { source = client_sap; put = record { message = m; told = told } } ∷ []) more y
 
-module _ (y : Story) (step : IsInStep y) (es : List Event) (m : List ℕ) where
+module _ (y : Story) (step : IsInStep y) (es : List Event) (as : List Arrival) (m : List ℕ) where
   abbrev Step : List Put → List (List ℕ) → Type 0
   Step = InStep y.begun.service.limit
 
   itself : (ps : List Put) (xs : List (List ℕ)) → Step ps xs → Step ps xs
   itself ps xs s = s
 
-  taken_story : length m ≤ y.begun.service.limit → IsInStep (put_to y es m Success (from_client m ∷ []))
+  taken_story : length m ≤ y.begun.service.limit → IsInStep (put_to y es as m Success (from_client m ∷ []))
   taken_story within =
       with_one Step Step itself y.puts y.gained step (record { message = m; told = Success }) m (λ ps xs s. taken_more y.begun.service.limit ps xs s m within)
 
-  refused_story : y.begun.service.limit < length m → IsInStep (put_to y es m Rejected [])
+  refused_story : y.begun.service.limit < length m → IsInStep (put_to y es as m Rejected [])
   refused_story beyond =
       with_none Step Step itself y.puts y.gained step (record { message = m; told = Rejected }) (λ ps xs s. refused_more y.begun.service.limit ps xs s m beyond)
 
-  unanswered_none : (o : Opener) → AcceptsPuts o (put_to y es m Unanswered [])
+  unanswered_none : (o : Opener) → AcceptsPuts o (put_to y es as m Unanswered [])
   unanswered_none ByLink =
       with_none Step (LinkAccepts y.begun.service.limit) (in_step_accepts y.begun.service.limit) y.puts y.gained step (record { message = m; told = Unanswered })
       (λ ps xs s. none_more y.begun.service.limit ps xs s m)
 
-  unanswered_one : length m ≤ y.begun.service.limit → (o : Opener) → AcceptsPuts o (put_to y es m Unanswered (from_client m ∷ []))
+  unanswered_one : length m ≤ y.begun.service.limit → (o : Opener) → AcceptsPuts o (put_to y es as m Unanswered (from_client m ∷ []))
   unanswered_one within ByLink =
       with_one Step (LinkAccepts y.begun.service.limit) (in_step_accepts y.begun.service.limit) y.puts y.gained step (record { message = m; told = Unanswered }) m
       (λ ps xs s. one_more y.begun.service.limit ps xs s m within)
@@ -151,15 +152,15 @@ module _ (y : Story) (step : IsInStep y) (es : List Event) (m : List ℕ) where
   in_step_kept : (a : Answer) (z : Story) → IsInStep z → KeptBy a z
   in_step_kept a z s = (in_step_keeps z s, λ never. s)
 
-  pub kept_by : (a : Answer) (more : List Accepted) → TakesSo y.begun.service.limit m a more → KeptBy a (put_to y es m (told_put (Some a)) more)
+  pub kept_by : (a : Answer) (more : List Accepted) → TakesSo y.begun.service.limit m a more → KeptBy a (put_to y es as m (told_put (Some a)) more)
   kept_by a more (inl h) =
-      subst (λ xs. KeptBy a (put_to y es m (told_put (Some a)) xs)) (sym h.2) (subst (λ t. KeptBy a (put_to y es m t (from_client m ∷ []))) (sym h.0)
-      (in_step_kept a (put_to y es m Success (from_client m ∷ [])) (taken_story h.1)))
+      subst (λ xs. KeptBy a (put_to y es as m (told_put (Some a)) xs)) (sym h.2) (subst (λ t. KeptBy a (put_to y es as m t (from_client m ∷ []))) (sym h.0)
+      (in_step_kept a (put_to y es as m Success (from_client m ∷ [])) (taken_story h.1)))
   kept_by a more (inr (inl h)) =
-      subst (λ xs. KeptBy a (put_to y es m (told_put (Some a)) xs)) (sym h.2) (subst (λ t. KeptBy a (put_to y es m t [])) (sym h.0)
-      (in_step_kept a (put_to y es m Rejected []) (refused_story h.1)))
-  kept_by a more (inr (inr h)) = subst (λ t. KeptBy a (put_to y es m t more)) (sym h.0) (by h.2)
+      subst (λ xs. KeptBy a (put_to y es as m (told_put (Some a)) xs)) (sym h.2) (subst (λ t. KeptBy a (put_to y es as m t [])) (sym h.0)
+      (in_step_kept a (put_to y es as m Rejected []) (refused_story h.1)))
+  kept_by a more (inr (inr h)) = subst (λ t. KeptBy a (put_to y es as m t more)) (sym h.0) (by h.2)
     where
-      by : (more ≡ []) ⊎ ((length m ≤ y.begun.service.limit) × (more ≡ from_client m ∷ [])) → KeptBy a (put_to y es m Unanswered more)
-      by (inl none) = subst (λ xs. KeptBy a (put_to y es m Unanswered xs)) (sym none) (unanswered_none y.opener, λ never. absurd (never h.1.0 h.1.1))
-      by (inr one) = subst (λ xs. KeptBy a (put_to y es m Unanswered xs)) (sym one.1) (unanswered_one one.0 y.opener, λ never. absurd (never h.1.0 h.1.1))
+      by : (more ≡ []) ⊎ ((length m ≤ y.begun.service.limit) × (more ≡ from_client m ∷ [])) → KeptBy a (put_to y es as m Unanswered more)
+      by (inl none) = subst (λ xs. KeptBy a (put_to y es as m Unanswered xs)) (sym none) (unanswered_none y.opener, λ never. absurd (never h.1.0 h.1.1))
+      by (inr one) = subst (λ xs. KeptBy a (put_to y es as m Unanswered xs)) (sym one.1) (unanswered_one one.0 y.opener, λ never. absurd (never h.1.0 h.1.1))

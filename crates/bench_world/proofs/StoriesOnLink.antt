@@ -32,12 +32,12 @@ use Rattle.bench_world.specs.declared.entry.Loss.{Loss}
 use Rattle.bench_world.specs.World.{FarEnd, WholeWorld}
 use Rattle.bench_world.specs.Answering.{poll_answer}
 use Rattle.bench_world.specs.Calls.{OfEnd, PutAdds, link_behind, told_call, told_ending, told_job}
-use Rattle.bench_world.specs.Legal.{State, end_of}
+use Rattle.bench_world.specs.Legal.{State, Joins, end_of}
 use Rattle.bench_world.specs.Linking.{LinkTells, LinkEnds, TellsLoss, link_if}
 use Rattle.bench_world.specs.Links.{OpenLink, ended_unless, begun_if, end_numbered, accepted_at}
 use Rattle.bench_world.specs.Peers.{Peers, next_number, placed_under}
 use Rattle.bench_world.specs.LinkLaw.{KeepsLinkLaw}
-use Rattle.bench_world.specs.Stories.{Story, Stretch, puts_in, gained_by, goes_on, last_goes_on, first_of, story_if, told_put}
+use Rattle.bench_world.specs.Stories.{Story, Stretch, arrived_by, puts_in, gained_by, goes_on, last_goes_on, first_of, story_if, told_put}
 use Rattle.bench_world.proofs.AtNumbers.{Held, held, held_at, at_number, at_own_place, with_held}
 use Rattle.bench_world.proofs.PeersNumbered.{HavePlaces}
 use Rattle.bench_world.proofs.StoriesHere.{view_at, view_of, Stand, gain, over_closed, count_is, taken_by, TakesSo, takes_so, put_to, KeptBy, kept_by}
@@ -83,14 +83,14 @@ same_opened p fars now n ys same o =
     subst (λ ks. Open (record { numbers = p.numbers; placed = next_number p; links = p.links; held = ks }) n ys) (sym same) o
 
 -- A put.
-module _ (s t : State) (l : OpenLink) (ys : List Story) (o : Open (view_of s) l.peer ys) (m : Msg) (events : List Event) (a : Answer) (more : List Accepted)
+module _ (s t : State) (l : OpenLink) (ys : List Story) (o : Open (view_of s) l.peer ys) (m : Msg) (joins : Joins) (events : List Event) (a : Answer) (more : List Accepted)
     (adds : OfEnd (λ end. PutAdds (message_of m) end a more) (end_of s l)) (numbers : t.peers.numbers ≡ s.peers.numbers)
     (accepted : map held t.world.fars ≡ with_held more l.peer s.peers.numbers (map held s.world.fars)) where
   abbrev y : Story
   y = o.opened.now.story
 
   abbrev x : Stretch
-  x = record { command = commands.Put m; events = events; told = Some a }
+  x = record { command = commands.Put m; joins = joins; events = events; told = Some a }
 
   takes : TakesSo y.begun.service.limit (message_of m) a more
   takes =
@@ -105,18 +105,18 @@ module _ (s t : State) (l : OpenLink) (ys : List Story) (o : Open (view_of s) l.
       ap (λ ns. at_number l.peer ns (map held t.world.fars)) numbers ∙ ap (at_number l.peer s.peers.numbers) accepted
       ∙ found_after (view_of s) l.peer ys o.opened more
 
-  goes : goes_on s x t y ≡ put_to y events (message_of m) (told_put (Some a)) more
+  goes : goes_on s x t y ≡ put_to y events (arrived_by s x y) (message_of m) (told_put (Some a)) more
   goes =
       let gained : gained_by y.peer s t ≡ more =
       ap (λ n. gained_by n s t) o.opened.going.own ∙ gain l.peer s t o.opened.going.there grown more o.opened.going.found there_now refl in
-      ap (λ gs. put_to y events (message_of m) (told_put (Some a)) gs) gained
+      ap (λ gs. put_to y events (arrived_by s x y) (message_of m) (told_put (Some a)) gs) gained
 
-  kept : KeptBy y o.step events (message_of m) a (put_to y events (message_of m) (told_put (Some a)) more)
-  kept = kept_by y o.step events (message_of m) a more takes
+  kept : KeptBy y o.step events (arrived_by s x y) (message_of m) a (put_to y events (arrived_by s x y) (message_of m) (told_put (Some a)) more)
+  kept = kept_by y o.step events (arrived_by s x y) (message_of m) a more takes
 
   pub put_over : (z : Opened (view_more (view_of s) l.peer more) l.peer (last_goes_on (goes_on s x t) ys)) × (((loss : Loss) → a ≡ answers.LinkEnded loss → ⊥) → IsInStep z.now.story)
   put_over =
-      let z = opened_more (view_of s) l.peer ys o.opened more (goes_on s x t) events (puts_in (commands.Put m) (Some a)) goes (subst KeepsLinkLaw (sym goes) kept.0) in
+      let z = opened_more (view_of s) l.peer ys o.opened more (goes_on s x t) events (arrived_by s x y) (puts_in (commands.Put m) (Some a)) goes (subst KeepsLinkLaw (sym goes) kept.0) in
       (z.0, λ unlost. subst IsInStep (sym (z.1 ∙ goes)) (kept.1 unlost))
 
 -- `linked` tells the next number.

@@ -82,7 +82,7 @@ pub record IsReset (c : Command) : Type 0 where
 
 pub find_resets : IsReset Find
 find_resets = record {
-  front = λ s t g es told f. record { accepted = f.accepted; asks = f.asks; turns = f.turns; fates = f.fates; each = f.each; after = f.after };
+  front = λ s t g es told f. record { accepted = f.accepted; asks = f.asks; takes = f.takes; turns = f.turns; fates = f.fates; each = f.each; after = f.after };
   next = λ s g ns. refl;
   law = λ s g es answer l. record { tells = l.tells; stays = l.stays };
   stores = λ s joins es stays. stays;
@@ -90,7 +90,7 @@ find_resets = record {
 
 pub read_resets : (id : DeviceId) → IsReset (Read id)
 read_resets id = record {
-  front = λ s t g es told f. record { accepted = f.accepted; asks = f.asks; turns = f.turns; fates = f.fates; each = f.each; after = f.after };
+  front = λ s t g es told f. record { accepted = f.accepted; asks = f.asks; takes = f.takes; turns = f.turns; fates = f.fates; each = f.each; after = f.after };
   next = λ s g ns. refl;
   law = λ s g es answer l. record { tells = l.tells; stays = l.stays };
   stores = λ s joins es stays. stays;
@@ -98,7 +98,7 @@ read_resets id = record {
 
 pub write_resets : (id : DeviceId) (m : Msg) → IsReset (Write id m)
 write_resets id m = record {
-  front = λ s t g es told f. record { accepted = f.accepted; asks = f.asks; turns = f.turns; fates = f.fates; each = f.each; after = f.after };
+  front = λ s t g es told f. record { accepted = f.accepted; asks = f.asks; takes = f.takes; turns = f.turns; fates = f.fates; each = f.each; after = f.after };
   next = λ s g ns. refl;
   law = λ s g es answer l. record { tells = l.tells; stores = record { law = l.stores.law; others = l.stores.others; ends = l.stores.ends } };
   stores = λ s joins es l. record { law = l.law; others = l.others; ends = l.ends };
@@ -143,7 +143,7 @@ same_begun s joins id miu rw es a h =
 
 pub link_resets : (id : List ℕ) (miu rw : ℕ) → IsReset (Link id miu rw)
 link_resets id miu rw = record {
-  front = λ s t g es told f. record { accepted = f.accepted; asks = f.asks; turns = f.turns; fates = f.fates; each = f.each; after = f.after ∙ same_after s g.joins id miu rw es told };
+  front = λ s t g es told f. record { accepted = f.accepted; asks = f.asks; takes = f.takes; turns = f.turns; fates = f.fates; each = f.each; after = f.after ∙ same_after s g.joins id miu rw es told };
   next = λ s g ns. refl;
   law = λ s g es answer l. record {
     tells = subst (λ n. LinkTells (A id) s.world.field.listeners (n + 1) (own_general miu) es answer) (count_ended s.link s.peers s.world.fars) l.tells;

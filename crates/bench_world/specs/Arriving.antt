@@ -1,6 +1,7 @@
 -- What arrives at the peer of the open link in a command on it, and how a link begins at its peer (NFCIP-1, ISO/IEC
 -- 18092; NFC Forum LLCP 1.3 and SNEP 1.0).
 use Rattle.std.specs.Prelude.{◌≡◌, ℕ, List, Option, Some}
+use Rattle.nfc_base.specs.Choosing.{Choosing}
 use Rattle.nfc_base.specs.declared.event.Event.{Event}
 use Rattle.llcp_link.specs.State.{restarted}
 use Rattle.snep_core.specs.Server.{serving}
@@ -10,15 +11,16 @@ use Rattle.bench_world.specs.Links.{OpenLink, end_numbered}
 use Rattle.bench_world.specs.World.{FarEnd}
 
 -- From these far ends to those, by the numbers of peers, the frames of some events brought payloads to a link's peer,
--- counted from the initiator's number: its end took just these, and what its server accepted then it has accepted.
--- Where the link is open still, the end stands so, and the frames are counted to the initiator's number.
-pub record ArrivesAt (l : OpenLink) (numbers : List (Option ℕ)) (before behind : List (Option FarEnd)) (events : List Event) (now : Option OpenLink) : Type 0 where
+-- counted from the initiator's number: its end answered just these, by the entry's numbers of PDUs, and what its server
+-- accepted then it has accepted. Where the link is open still, the end stands so, and the frames are counted to the
+-- initiator's number.
+pub record ArrivesAt (l : OpenLink) (numbers : List (Option ℕ)) (counts : List ℕ) (before behind : List (Option FarEnd)) (events : List Event) (now : Option OpenLink) : Type 0 where
   pub old : FarEnd
   pub stood : end_numbered l.peer numbers before ≡ Some old
-  pub new : FarEnd
-  pub arrives : Arrives l.initiator.core.number events old new
-  pub accepted : OfEnd (λ end. end.service.accepted ≡ new.service.accepted) (end_numbered l.peer numbers behind)
-  pub going : IfLinked now (λ k. (end_numbered l.peer numbers behind ≡ Some new) × IsCounted l.initiator.core.number events k.initiator.core.number) (Unit {0})
+  pub new : Choosing FarEnd
+  pub arrives : Arrives l.initiator.core.number events (record { end = old; numbers = counts }) new
+  pub accepted : OfEnd (λ end. end.service.accepted ≡ new.end.service.accepted) (end_numbered l.peer numbers behind)
+  pub going : IfLinked now (λ k. (end_numbered l.peer numbers behind ≡ Some new.end) × IsCounted l.initiator.core.number events k.initiator.core.number) (Unit {0})
 
 -- a link begins at the end of its peer, with the general bytes that were said to it
 abbrev pub BeginsAt : OpenLink → List ℕ → List (Option ℕ) → List (Option FarEnd) → List (Option FarEnd) → Type 0

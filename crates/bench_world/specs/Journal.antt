@@ -1,7 +1,7 @@
 -- Which journals are legal for the lines of a script.
 use Rattle.std.specs.Prelude.{◌≡◌, ℕ, ◌+◌, List, [], ◌∷◌, map, if◌then◌else◌}
 use Rattle.bench_script.specs.declared.command.Command.{Command}
-use Rattle.bench_script.specs.declared.command.Command.TheVariants.{Link, Put, Get, Lookup, Unlink}
+use Rattle.bench_script.specs.declared.command.Command.TheVariants.{Put, Get, Lookup, Unlink}
 use Rattle.bench_world.specs.declared.entry.Entry.{Entry}
 use Rattle.bench_world.specs.Legal.{State, Given, Joins, EachLegal, first_state}
 use Rattle.bench_script.specs.Script.{Spells, is_skipped}
@@ -48,16 +48,3 @@ IsOnLink (Get most key) = Unit {0}
 IsOnLink (Lookup name) = Unit {0}
 IsOnLink Unlink = Unit {0}
 IsOnLink c = ⊥
-
--- Where a link is opened and on the open link devices use their far ends, so an entry may take numbers there. A later
--- command adds its case here or above.
-abbrev pub TakesNumbers : Command → Type 0
-TakesNumbers (Link id miu window) = Unit {0}
-TakesNumbers c = IsOnLink c
-
--- Numbers of a journal's entries agree where a command may take any.
-abbrev pub AgreeFor : List Entry → List Joins → List Joins → Type 0
-AgreeFor [] ns ms = Unit {0}
-AgreeFor (e ∷ es) [] ms = Unit {0}
-AgreeFor (e ∷ es) (n ∷ ns) [] = Unit {0}
-AgreeFor (e ∷ es) (n ∷ ns) (m ∷ ms) = (TakesNumbers e.command → m ≡ n) × AgreeFor es ns ms

@@ -6,7 +6,7 @@ use Rattle.nfc_base.specs.declared.event.Event.TheVariants.{Request}
 use Rattle.nfc_base.specs.declared.event.Fate.{Fate}
 use Rattle.nfc_base.specs.declared.event.Fate.TheVariants.{Pass}
 use Rattle.nfc_base.specs.Signal.{Signal}
-use Rattle.air_core.specs.Conversation.{Note, Next, Over, receptions, replay, queue_after, AreTurns, FatesFrom, EachDue}
+use Rattle.air_core.specs.Conversation.{Note, Next, Over, Asks, first_fate, later_fates, receptions, replay, queue_after, AreTurns, FatesFrom, EachDue}
 use Rattle.t2t_tag.specs.Store.{IsT2Store}
 use Rattle.t4t_tag.specs.Store.{IsT4Store, file_size}
 use Rattle.t5t_tag.specs.Store.{IsT5Store}
@@ -369,7 +369,7 @@ end_of s l = end_numbered l.peer s.peers.numbers s.world.fars
 
 -- what arrived at it in a command on the link
 abbrev pub Came : State → Joins → OpenLink → Command → List Event → Answer → Type 0
-Came s joins l c events answer = ArrivesAt l s.peers.numbers s.world.fars (world_after s joins c events).fars events (link_after s joins c events (Some answer))
+Came s joins l c events answer = ArrivesAt l s.peers.numbers joins.far s.world.fars (world_after s joins c events).fars events (link_after s joins c events (Some answer))
 
 -- A message is put on the open link: the peer's server accepted it, or nothing, and nothing else that stays changes.
 pub record PutLaw (s : State) (joins : Joins) (l : OpenLink) (message : Msg) (events : List Event) (answer : Answer) : Type 0 where
@@ -421,12 +421,21 @@ AnswerLaw s g (Get most key) events answer = IfLinked s.link (λ l. GetLaw s g.j
 AnswerLaw s g (Lookup name) events answer = IfLinked s.link (λ l. LookupLaw s g.joins l name events answer) (answer ≡ answers.NoLink)
 AnswerLaw s g Unlink events answer = IfLinked s.link (λ l. UnlinkLaw s g.joins l events answer) (answer ≡ answers.NoLink)
 
--- A front of a step: from this state the command is accepted, and turns were made, each due, by the first fates; they
--- lead to that state, where this was told, or nothing yet. An entry is a front that is over and answered; a command
--- that was cut off leaves one.
+-- The numbers that a command takes of these: any on the open link, since payloads are handed over there, and none else.
+abbrev pub joins_for : Command → Joins → Joins
+joins_for (Put message) joins = joins
+joins_for (Get most key) joins = joins
+joins_for (Lookup name) joins = joins
+joins_for Unlink joins = joins
+joins_for c joins = no_joins
+
+-- A front of a step: from this state the command is accepted, it has the numbers that it takes, and turns were made, each
+-- due, by the first fates; they lead to that state, where this was told, or nothing yet. An entry is a front that is over
+-- and answered; a command that was cut off leaves one.
 pub record FrontOf (s : State) (g : Given) (c : Command) (events : List Event) (told : Option Answer) (t : State) : Type 0 where
   pub accepted : Accepts s c
   pub asks : IsAskedBy s c g.asked
+  pub takes : g.joins ≡ joins_for c g.joins
   pub turns : AreTurns bench_air (begun s g.joins c) events
   pub fates : FatesFrom (changed s c).queue events
   pub each : EachDue (due s g c) [] events
@@ -456,22 +465,20 @@ CutStores s joins c cut = LeavesStable s joins c cut
 abbrev pub CutFront : Joins → State → Command → List Event → State → Type 0
 CutFront joins s c cut t = (g : Given) × (g.joins ≡ joins) × FrontOf s g c cut None t × CutStores s g.joins c cut
 
--- Behind the turns of a call on the link that were due, a request that was due passed, and as it handed a payload over
--- the peer's end stopped for want of memory: nothing came back. The link is gone then. How that left devices and far
--- ends isn't told.
+-- Behind a front of a call on the link a request that was due passed, and as it handed a payload over the peer's end
+-- stopped for want of memory: nothing came back. The link is gone then. How that left devices and far ends isn't told.
 pub record HaltsCall (joins : Joins) (s : State) (c : Command) (cut : List Event) (t : State) : Type 0 where
   pub given : Given
   pub joined : given.joins ≡ joins
-  pub accepted : Accepts s c
-  pub asks : IsAskedBy s c given.asked
   pub before : List Event
+  pub mid : State
+  pub front : FrontOf s given c before None mid
   pub sent : Signal
   pub split : cut ≡ before ++ Request sent Pass ∷ []
-  pub turns : AreTurns bench_air (begun s given.joins c) before
-  pub fates : FatesFrom (changed s c).queue cut
-  pub each : EachDue (due s given c) [] cut
+  pub asked : due s given c (receptions before) ≡ Asks sent
+  pub passes : first_fate mid.queue ≡ Pass
   pub lit : t.world.field.lit ≡ true
-  pub queue : t.queue ≡ queue_after (changed s c).queue cut
+  pub queue : t.queue ≡ later_fates mid.queue
   pub link : t.link ≡ None
 
 -- no other command hands anything over

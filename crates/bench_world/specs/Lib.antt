@@ -9,6 +9,7 @@ pub mod Linking
 pub mod Calls
 pub mod Opened
 pub mod Inbox
+pub mod Arrivals
 pub mod Arriving
 pub mod Legal
 pub mod Obeying

@@ -130,14 +130,6 @@ pub record ObeyedBy (joins : Joins) (old new : Machines) (c : Command) (answer :
   pub places : HasPlaces new
   pub link : KeepsLink new
 
--- the numbers that a command takes of these: any on the open link, and none else
-abbrev pub joins_for : Command → Joins → Joins
-joins_for (Put message) joins = joins
-joins_for (Get most key) joins = joins
-joins_for (Lookup name) joins = joins
-joins_for Unlink joins = joins
-joins_for c joins = no_joins
-
 -- ... as many as fit
 abbrev pub Obeyed : Machines → Machines → Command → Answer → Type 0
 Obeyed = ObeyedBy no_joins

@@ -3,8 +3,10 @@
 -- project's own). A later command adds its case.
 use Rattle.std.specs.Prelude.{ℕ, drop, length, List, [], ◌∷◌, ◌++◌, Option, Some, None}
 use Rattle.nfc_base.specs.declared.event.Event.{Event}
+use Rattle.dep_link.specs.DepLinks.{brought}
 use Rattle.snep_core.specs.Links.{Told, Success, Rejected, Unanswered, Put}
 use Rattle.snep_core.specs.Server.{Received as Accepted}
+use Rattle.snep_core.specs.Session.{Offer}
 use Rattle.snep_core.specs.Talk.{client_sap}
 use Rattle.bench_script.specs.declared.command.Command.{Command}
 use Rattle.bench_script.specs.declared.command.Command.TheVariants as commands
@@ -12,19 +14,22 @@ use Rattle.bench_script.specs.Messages.{message_of}
 use Rattle.bench_world.specs.declared.entry.Answer.{Answer}
 use Rattle.bench_world.specs.declared.entry.Answer.TheVariants as answers
 use Rattle.bench_world.specs.declared.entry.Entry.{Entry}
+use Rattle.bench_world.specs.Arrivals.{Arrival, arrivals_of}
 use Rattle.bench_world.specs.World.{FarEnd}
 use Rattle.bench_world.specs.Links.{OpenLink, end_numbered}
 use Rattle.bench_world.specs.Linking.{own_general}
 use Rattle.bench_world.specs.Legal.{State, Joins, changed, end_of, first_state, state_after}
 
--- what happened of a command, and what was told of it, nothing where it was cut off; an entry is one
+-- what happened of a command, by which numbers of PDUs, and what was told of it, nothing where it was cut off; an entry
+-- is one
 pub record Stretch : Type 0 where
   pub command : Command
+  pub joins : Joins
   pub events : List Event
   pub told : Option Answer
 
-abbrev pub stretch_of : Entry → Stretch
-stretch_of e = record { command = e.command; events = e.events; told = Some e.answer }
+abbrev pub stretch_of : Joins → Entry → Stretch
+stretch_of joins e = record { command = e.command; joins = joins; events = e.events; told = Some e.answer }
 
 -- how a link was opened: by the command `link`, and so between two ends of this project
 pub data Opener : Type 0 where
@@ -37,7 +42,8 @@ pub record LinkPut : Type 0 where
 
 -- The story of a link: the number that `linked` told; how it was opened; its peer, by its number among the peers; the
 -- general bytes that were said to it, and its end as the link began; what happened in the entries behind, while the
--- link was open; what was put on it, in order; and what the peer's list of accepted messages gained on it.
+-- link was open; what arrived at its peer by that; what was put on it, in order; and what the peer's list of accepted
+-- messages gained on it.
 pub record Story : Type 0 where
   pub number : ℕ
   pub opener : Opener
@@ -45,6 +51,7 @@ pub record Story : Type 0 where
   pub general : List ℕ
   pub begun : FarEnd
   pub events : List Event
+  pub arrivals : List Arrival
   pub puts : List LinkPut
   pub gained : List Accepted
 
@@ -71,10 +78,27 @@ accepted_in peer s = accepted_of (end_numbered peer s.peers.numbers s.world.fars
 abbrev pub gained_by : ℕ → State → State → List Accepted
 gained_by peer s t = drop (length (accepted_in peer s)) (accepted_in peer t)
 
+-- the values that the server of the peer with a number gives
+abbrev pub values_of : Option FarEnd → List Offer
+values_of None = []
+values_of (Some end) = end.service.table
+
+abbrev pub values_in : ℕ → State → List Offer
+values_in peer s = values_of (end_numbered peer s.peers.numbers s.world.fars)
+
+-- the payloads that a stretch brought to a story's peer, counted from the link's beginning
+abbrev pub brought_by : Stretch → Story → List (List ℕ)
+brought_by x y = drop (length (brought 0 y.events)) (brought 0 (y.events ++ x.events))
+
+-- what arrived at its peer in a stretch, from the state before it
+abbrev pub arrived_by : State → Stretch → Story → List Arrival
+arrived_by s x y = arrivals_of (values_in y.peer s) x.joins.far (brought_by x y)
+
 -- a story goes on by a stretch, from the state before it to the one behind it
 abbrev pub goes_on : State → Stretch → State → Story → Story
 goes_on s x t y = record y {
   events = y.events ++ x.events;
+  arrivals = y.arrivals ++ arrived_by s x y;
   puts = y.puts ++ puts_in x.command x.told;
   gained = y.gained ++ gained_by y.peer s t;
 }
@@ -99,6 +123,7 @@ first_of number general peer (Some end) = record {
   general = general;
   begun = end;
   events = [];
+  arrivals = [];
   puts = [];
   gained = [];
 } ∷ []
@@ -130,7 +155,7 @@ state_from s (n ∷ ns) (e ∷ es) = state_from (state_behind s n e) ns es
 abbrev pub stories_from : State → List Story → List Joins → List Entry → List Story
 stories_from s ys [] es = ys
 stories_from s ys (n ∷ ns) [] = ys
-stories_from s ys (n ∷ ns) (e ∷ es) = stories_from (state_behind s n e) (stories_behind s (stretch_of e) (state_behind s n e) ys) ns es
+stories_from s ys (n ∷ ns) (e ∷ es) = stories_from (state_behind s n e) (stories_behind s (stretch_of n e) (state_behind s n e) ys) ns es
 
 -- those of a journal; the first is that of link 1
 abbrev pub stories_of : List Joins → List Entry → List Story

@@ -1,10 +1,10 @@
 //! The bench: the field, and the journal of what was obeyed.
 
 ghost use Rattle.std.specs.Prelude.{◌≡◌, ◌≢◌, ◌↔◌, ◌≤◌, ◌<◌, ◌++◌, [], ◌∷◌, true, is_some, Some, None, IsTrue, IsSome, get_or, option_map, option_copied, false, IfOk, OnOk, OnErr, IsErrOf, vec_len, vec_capacity, length};
-ghost use Rattle.bench_world.specs.Legal.{Accepts, memory_of};
+ghost use Rattle.bench_world.specs.Legal.{Accepts, joins_for, memory_of};
 ghost use Rattle.bench_devices.specs.Device.{most_devices};
 ghost use Rattle.bench_devices.specs.Placed.{device_with};
-ghost use Rattle.bench_world.specs.Obeying.{Obeys, Obeyed, ObeyedBy, IsSettled, IsCutOffBy, RefusedOnly, ObeyedBelow, RefusedBelow, LacksMemory, FieldOf, FarAt, new_bench, joins_for, obey_fault_number};
+ghost use Rattle.bench_world.specs.Obeying.{Obeys, Obeyed, ObeyedBy, IsSettled, IsCutOffBy, RefusedOnly, ObeyedBelow, RefusedBelow, LacksMemory, FieldOf, FarAt, new_bench, obey_fault_number};
 ghost use Rattle.bench_world.specs.Links.{OpenLink};
 ghost use Rattle.bench_devices.specs.Phases.{IsIdle};
 

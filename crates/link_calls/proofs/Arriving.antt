@@ -1,5 +1,6 @@
 -- What arrives at a link's peer in a call, and what its end does by that.
 use Rattle.std.proofs.Common.{◌≡◌, ◌≤◌, ℕ, List, [], ◌∷◌, ◌++◌, length, drop, Option, refl, sym, ◌∙◌, ap, subst, append-nil, append_assoc, true}
+use Rattle.std.specs.List.{AllByRecursion}
 use Rattle.std.proofs.lemmas.List.{drop-append-le}
 use Rattle.std.proofs.Math.Seq.{drop-length}
 use Rattle.nfc_base.specs.Choosing.{Choosing, first_number, later_numbers}
@@ -26,33 +27,14 @@ use Rattle.dep_link.specs.DepLinks.{DepSeen, PeerOf, brought, first_seen, since}
 use Rattle.dep_link.specs.Releasing.{rls_frame}
 use Rattle.dep_link.proofs.Carrying.{cut_then}
 use Rattle.dep_link.proofs.Wire.{frames_append, written_read}
-use Rattle.llcp_link.specs.Running.{Act, Acted, AreBytes, Else, Gives, IsRun, Takes, end_of}
+use Rattle.llcp_link.specs.Running.{AreBytes}
 use Rattle.llcp_link.specs.Counting.{AnswersCounted, StopsCounted}
-use Rattle.llcp_link.specs.Taking.{taken_from}
 use Rattle.snep_core.specs.Accord.{PeerState}
 use Rattle.snep_core.specs.Calling.{payloads}
-use Rattle.snep_core.specs.Server.{ServerState, serving}
+use Rattle.snep_core.specs.Server.{serving}
 use Rattle.snep_core.specs.Talk.{Step, Goes, Ends, GivesUp, Told, replied}
-use Rattle.link_calls.specs.Arriving.{Arrives, IsCounted, Never, taken_in, with_taken}
+use Rattle.link_calls.specs.Arriving.{Arrives, IsCounted, all_answered, answered}
 use Rattle.link_calls.specs.CallTurns.{swaps}
-
--- one run behind another
-pub runs_then : (changes : ServerState → ServerState → Type 0) (l : PeerState) (run more : List (Acted ServerState)) → IsRun serving changes l run → IsRun serving changes (end_of l run) more → IsRun serving changes l (run ++ more)
-runs_then changes l [] more r s = s
-runs_then changes l (a ∷ run) more r s = (r.0, runs_then changes a.after run more r.1 s)
-
-pub ends_then : (l : PeerState) (run more : List (Acted ServerState)) → end_of l (run ++ more) ≡ end_of (end_of l run) more
-ends_then l [] more = refl
-ends_then l (a ∷ run) more = ends_then a.after run more
-
-with_more : (a : Act) (ps qs : List (List ℕ)) → with_taken a (ps ++ qs) ≡ with_taken a ps ++ qs
-with_more (Takes payload) ps qs = refl
-with_more (Gives n) ps qs = refl
-with_more Else ps qs = refl
-
-pub taken_then : (run more : List (Acted ServerState)) → taken_in (run ++ more) ≡ taken_in run ++ taken_in more
-taken_then [] more = refl
-taken_then (a ∷ run) more = ap (with_taken a.act) (taken_then run more) ∙ with_more a.act (taken_in run) (taken_in more)
 
 -- whole steps of a far end, with payloads of bytes
 abbrev pub AreWhole : List FarStep → Type 0
@@ -60,34 +42,35 @@ AreWhole [] = Unit {0}
 AreWhole (Stepped payload reply ∷ did) = AreBytes payload × AreWhole did
 AreWhole (Stopped payload ∷ did) = ⊥
 
--- an end did these acts by these payloads
-pub record Ran (ps : List (List ℕ)) (far after : PeerState) : Type 0 where
-  pub run : List (Acted ServerState)
-  pub does : IsRun serving Never far run
-  pub after_is : after ≡ end_of far run
-  pub taken : taken_in run ≡ ps
+-- an end answered these payloads, which are bytes
+pub record Ran (ps : List (List ℕ)) (far after : Choosing PeerState) : Type 0 where
+  pub bytes : AllByRecursion AreBytes ps
+  pub after_is : after ≡ all_answered ps far
 
-pub ran : (did : List FarStep) → AreWhole did → (far after : Choosing PeerState) → FarMoved (AnswersCounted serving) (StopsCounted serving) did far after → Ran (payloads did) far.end after.end
-ran [] whole far after moved = record { run = []; does = tt; after_is = ap (λ (c : Choosing PeerState). c.end) moved; taken = refl }
+pub ran : (did : List FarStep) → AreWhole did → (far after : Choosing PeerState) → FarMoved (AnswersCounted serving) (StopsCounted serving) did far after → Ran (payloads did) far after
+ran [] whole far after moved = record { bytes = tt; after_is = moved }
 ran (Stepped payload reply ∷ did) (bytes, whole) far after (mid, step, moved) =
     let more = ran did whole mid after moved in
-    record {
-      run = record { act = Takes payload; after = taken_from serving far.end payload } ∷ record { act = Gives (first_number far.numbers); after = mid.end } ∷ more.run;
-      does = ((bytes, refl), (step.answers.gives.left, more.does));
-      after_is = more.after_is;
-      taken = ap (λ ps. payload ∷ ps) more.taken;
-    }
+    let C : PeerState → List ℕ → Choosing PeerState = λ e ns. record { end = e; numbers = ns } in
+    let next : mid ≡ C (answered payload (first_number far.numbers) far.end) (later_numbers far.numbers) =
+    ap (λ e. C e mid.numbers) step.answers.gives.left ∙ ap (C (answered payload (first_number far.numbers) far.end)) step.numbers in
+    record { bytes = (bytes, more.bytes); after_is = more.after_is ∙ ap (all_answered (payloads did)) next }
 ran (Stopped payload ∷ did) whole far after moved = absurd whole
 
-pub ran_then : (ps qs : List (List ℕ)) (far mid after : PeerState) → Ran ps far mid → Ran qs mid after → Ran (ps ++ qs) far after
-ran_then ps qs far mid after r s =
-    let more : IsRun serving Never (end_of far r.run) s.run = subst (λ l. IsRun serving Never l s.run) r.after_is s.does in
-    record {
-      run = r.run ++ s.run;
-      does = runs_then Never far r.run s.run r.does more;
-      after_is = s.after_is ∙ ap (λ l. end_of l s.run) r.after_is ∙ sym (ends_then far r.run s.run);
-      taken = taken_then r.run s.run ∙ ap (λ z. z ++ taken_in s.run) r.taken ∙ ap (λ z. ps ++ z) s.taken;
-    }
+bytes_then : (ps qs : List (List ℕ)) → AllByRecursion AreBytes ps → AllByRecursion AreBytes qs → AllByRecursion AreBytes (ps ++ qs)
+bytes_then [] qs h k = k
+bytes_then (p ∷ ps) qs h k = (h.0, bytes_then ps qs h.1 k)
+
+-- payloads behind others
+pub answered_then : (ps qs : List (List ℕ)) (far : Choosing PeerState) → all_answered (ps ++ qs) far ≡ all_answered qs (all_answered ps far)
+answered_then [] qs far = refl
+answered_then (p ∷ ps) qs far = answered_then ps qs (record { end = answered p (first_number far.numbers) far.end; numbers = later_numbers far.numbers })
+
+pub ran_then : (ps qs : List (List ℕ)) (far mid after : Choosing PeerState) → Ran ps far mid → Ran qs mid after → Ran (ps ++ qs) far after
+ran_then ps qs far mid after r s = record {
+  bytes = bytes_then ps qs r.bytes s.bytes;
+  after_is = s.after_is ∙ ap (all_answered qs) r.after_is ∙ sym (answered_then ps qs far);
+}
 
 -- more events, behind those that came
 pub cut_more : (first : ℕ) (xs ys : List Event) → cut_by (begins first) (frames_of (arrived (xs ++ ys))) ≡ cut_by (cut_by (begins first) (frames_of (arrived xs))) (frames_of (arrived ys))
@@ -112,13 +95,10 @@ module _ {L : Type 0} (k : Ghosts L) (target : L → TargetState) where
         let P : ℕ → List Event → Type 0 = λ n es. IsCounted n es p.initiator.core.number in
         subst (λ n. P n (drop (length old.trace) p.air.trace)) first (subst (P p.first) since_is (counted_to p t))
 
-    pub arrives_so : (ps : List (List ℕ)) (far after : PeerState) → brought p.first (since p) ≡ ps → Ran ps far after → Arrives i.core.number (drop (length old.trace) p.air.trace) far after
-    arrives_so ps far after handed r = record {
-      run = r.run;
-      does = r.does;
-      after_is = r.after_is;
-      payloads = r.taken ∙ sym handed ∙ ap (λ n. brought n (since p)) first ∙ ap (brought i.core.number) since_is;
-    }
+    pub arrives_so : (ps : List (List ℕ)) (far after : Choosing PeerState) → brought p.first (since p) ≡ ps → Ran ps far after → Arrives i.core.number (drop (length old.trace) p.air.trace) far after
+    arrives_so ps far after handed r =
+        let same : ps ≡ brought i.core.number (drop (length old.trace) p.air.trace) = sym handed ∙ ap (λ n. brought n (since p)) first ∙ ap (brought i.core.number) since_is in
+        record { bytes = subst (AllByRecursion AreBytes) same r.bytes; after_is = r.after_is ∙ ap (λ xs. all_answered xs far) same }
 
   -- nothing arrived on a link that was just made
   pub none_yet : (a : DepSeen L) (old : Air L) (i : InitState) → a ≡ first_seen old i → brought a.first (since a) ≡ []

@@ -1,5 +1,6 @@
 -- What ending a connection and releasing its link comes to.
 use Rattle.std.proofs.Common.{◌≡◌, ◌≤◌, ◌⊎◌, ℕ, List, length, Bool, true, Option, Some, None, Ok, Err, refl, sym, ◌∙◌, ap, subst, inl, inr}
+use Rattle.std.specs.List.{AllByRecursion}
 use Rattle.nfc_base.specs.Choosing.{Choosing}
 use Rattle.nfc_base.specs.Signal.{Signal}
 use Rattle.nfc_base.specs.Far.{Untouched}
@@ -17,6 +18,7 @@ use Rattle.dep_link.specs.Initiator.{InitState}
 use Rattle.dep_link.specs.DepLinks.{DepSeen, IsDepReady, first_seen}
 use Rattle.dep_link.specs.Releasing.{Releases, rls_frame}
 use Rattle.llcp_link.specs.Counting.{AnswersCounted, RestartsCounted, StopsCounted}
+use Rattle.llcp_link.specs.Running.{AreBytes}
 use Rattle.far_air.specs.FarLaws.{IsLinked}
 use Rattle.peer_air.specs.PeerFars.{peer_ends}
 use Rattle.peer_air.specs.SwapTurns.{Stands}
@@ -28,6 +30,7 @@ use Rattle.snep_core.specs.Calling.{Talks, FailsBy, fault_of}
 use Rattle.snep_core.specs.Talk.{EndState, OnSap, Step, Ends, GivesUp}
 use Rattle.link_calls.specs.CallDue.{CallStanding, Carries, Comes, BrokenBy, Strays, call_due_at}
 use Rattle.link_calls.specs.CallTurns.{sees, swaps}
+use Rattle.link_calls.specs.Arriving.{all_answered}
 use Rattle.link_calls.specs.Calls.{IsOpen, IsCutOff}
 use Rattle.link_calls.specs.ClosingDue.{Releasing, closing_at, closing_due_at}
 use Rattle.link_calls.specs.Closing.{ClosingTurns, ClosingFails, SendsRls, IsReleased}
@@ -125,13 +128,12 @@ module _ {L C : Type 0} (k : Ghosts L) (target : L → TargetState) (see : C →
           made = call;
           turn = turn;
           same = same;
-          arrives = λ quiet. record {
-            run = came.run;
-            does = came.does;
-            after_is = ap (λ (p : Choosing PeerState). p.end) (same quiet) ∙ came.after_is;
-            payloads = came.payloads
-                ∙ sym (release_brings k.machine (RestartsCounted serving) (AnswersCounted serving) i.core.number (length old.trace) (see b).air new half after heard start turn);
-          };
+          arrives = λ quiet.
+              let brings = release_brings k.machine (RestartsCounted serving) (AnswersCounted serving) i.core.number (length old.trace) (see b).air new half after heard start turn in
+              record {
+                bytes = subst (AllByRecursion AreBytes) (sym brings) came.bytes;
+                after_is = same quiet ∙ came.after_is ∙ ap (λ ps. all_answered ps far) (sym brings);
+              };
         }
 
     pub released : Releases k.machine (RestartsCounted serving) (AnswersCounted serving) (StopsCounted serving) is_stuck (see b).air half (Ok tt) new after → IsReleased k target ns from old i far new after (Ends jobs client)

@@ -121,7 +121,7 @@ module _ {L C : Type 0} (k : Ghosts L) (target : L → TargetState) (see : C →
     pub within : (ns : List ℕ) (from to : Step) → Talk ns from to → length old.trace ≤ length (see b).air.trace
     within ns from to talk = subst (λ n. n ≤ length (see b).air.trace) (start_is talk.did b talk.swapped) (ready (talk.over ∙ was_open)).start
 
-    carried : (ns : List ℕ) (from to : Step) → Talk ns from to → IsCarried k target old i far.end (see b).air (see b).initiator after.end None
+    carried : (ns : List ℕ) (from to : Step) → Talk ns from to → IsCarried k target old i far (see b).air (see b).initiator after None
     carried ns from to talk =
         let first : (see b).first ≡ i.core.number = first_is talk.did b talk.swapped in
         let start : (see b).start ≡ length old.trace = start_is talk.did b talk.swapped in
@@ -131,7 +131,7 @@ module _ {L C : Type 0} (k : Ghosts L) (target : L → TargetState) (see : C →
           left = (refl, refl, talk.over ∙ was_open);
           swaps = (chain talk.did a b talk.swapped).0;
           chain = subst (λ (p : DepSeen L). Chained k target (chain talk.did a b talk.swapped).0 p (see b)) is (chain talk.did a b talk.swapped).1;
-          arrives = arrives_so k target old i (see b) first start (payloads talk.did) far.end after.end handed (ran talk.did (told_whole k target see ns talk.did from to a b talk.told talk.swapped) far after talk.far_moved);
+          arrives = arrives_so k target old i (see b) first start (payloads talk.did) far after handed (ran talk.did (told_whole k target see ns talk.did from to a b talk.told talk.swapped) far after talk.far_moved);
           counted = λ e. counted_so k target old i (see b) first start (ready (talk.over ∙ was_open)).peer;
           setting = set_still talk.did far after talk.far_moved;
         }
@@ -167,7 +167,7 @@ module _ {L C : Type 0} (k : Ghosts L) (target : L → TargetState) (see : C →
 
     -- what its swaps left, where the last one failed by this cause
     abbrev Left : EndCause → Type 0
-    Left c = IsCarried k target old i far.end (see b).air (see b).initiator after.end (Some c) × (c ≡ cause.SixBad → 0 < noise (drop (length old.trace) (see b).air.trace))
+    Left c = IsCarried k target old i far (see b).air (see b).initiator after (Some c) × (c ≡ cause.SixBad → 0 < noise (drop (length old.trace) (see b).air.trace))
 
     by_cause : (ns : List ℕ) (from : Step) (e : SnepFault) (new : EndState) → Breaking ns from e new → (c : EndCause) → e ≡ fault_of c → (c ≡ cause.Protocol → ⊥) → ((c ≡ cause.Memory → ⊥) → Left c) → setting_of after.end ≡ setting_of far.end → Cut ns from e
     by_cause ns from e new broke cause.FieldLost q never left set =
@@ -217,14 +217,14 @@ module _ {L C : Type 0} (k : Ghosts L) (target : L → TargetState) (see : C →
     last_arrives : (ns : List ℕ) (did : List FarStep) (from to : Step) (mid : C) (half : Choosing PeerState) → Told ns from did to → BySwaps (swaps k target see) did a mid
         → brought (see mid).first (since (see mid)) ≡ brought (see a).first (since (see a)) ++ payloads did → FarMoved (AnswersCounted serving) (StopsCounted serving) did far half
         → (answered : Bool) (c : EndCause) (out : List ℕ) (more : List FarStep) → swaps k target see mid out more b → FarMoved (AnswersCounted serving) (StopsCounted serving) more half after
-        → AskedBy answered c out more → (c ≡ cause.Memory → ⊥) → Arrives i.core.number (drop (length old.trace) (see b).air.trace) far.end after.end
+        → AskedBy answered c out more → (c ≡ cause.Memory → ⊥) → Arrives i.core.number (drop (length old.trace) (see b).air.trace) far after
     last_arrives ns did from to mid half told by handed moved answered c out more one last asked calm =
         let whole = asked_whole mid answered c out more one asked calm in
         let all : brought (see b).first (since (see b)) ≡ payloads did ++ payloads more =
         handed_on k target (see mid) (see b) out more one ∙ ap (λ ps. ps ++ handed_of out more) (handed ∙ ap (λ ps. ps ++ payloads did) (none_yet k target (see a) old i is))
         ∙ ap (λ ps. payloads did ++ ps) whole.1 in
-        arrives_so k target old i (see b) (one.same.0 ∙ first_is did mid by) (one.same.1 ∙ start_is did mid by) (payloads did ++ payloads more) far.end after.end all
-        (ran_then (payloads did) (payloads more) far.end half.end after.end (ran did (told_whole k target see ns did from to a mid told by) far half moved) (ran more whole.0 half after last))
+        arrives_so k target old i (see b) (one.same.0 ∙ first_is did mid by) (one.same.1 ∙ start_is did mid by) (payloads did ++ payloads more) far after all
+        (ran_then (payloads did) (payloads more) far half after (ran did (told_whole k target see ns did from to a mid told by) far half moved) (ran more whole.0 half after last))
 
     -- the last swap failed
     last_left : (ns : List ℕ) (from : Step) (w : Working) (mid : C) (mid_far : Choosing PeerState) (talk : Talks (sees see) (swaps k target see) (AnswersCounted serving) (StopsCounted serving) ns from a far (Goes w) mid mid_far) (e : SnepFault) (new : EndState)

@@ -24,6 +24,7 @@ use Rattle.llcp_link.specs.Offering.{LeavesNext, LeftBy}
 use Rattle.llcp_link.proofs.Ranged.{either}
 use Rattle.snep_core.specs.Accord.{PeerState}
 use Rattle.snep_core.specs.Server.{ServerState, serving}
+use Rattle.link_calls.specs.Arriving.{answered}
 use Rattle.link_calls.specs.Staying.{Setting, setting_of}
 
 module _ (z : Setting) where
@@ -277,3 +278,7 @@ set_still [] far after moved = ap (λ (c : Choosing PeerState). setting_of c.end
 set_still (Stepped payload reply ∷ did) far after (mid, step, moved) =
     set_still did mid after moved ∙ answers_is (setting_of far.end) (first_number far.numbers) far.end payload reply mid.end step.answers refl
 set_still (Stopped payload ∷ did) far after moved = stops_is far.end payload after.end moved.0
+
+-- So does an end that answers a payload.
+pub answered_set : (payload : List ℕ) (count : ℕ) (l : PeerState) → setting_of (answered payload count l) ≡ setting_of l
+answered_set payload count l = after_is (setting_of l) count (taken_from serving l payload) (taken_is (setting_of l) l payload refl)

@@ -1,35 +1,33 @@
 -- What arrives at a link's peer, and what its end does by that (NFCIP-1, ISO/IEC 18092; NFC Forum LLCP 1.3 and SNEP 1.0).
 use Rattle.std.specs.Prelude.{◌≡◌, ℕ, List, [], ◌∷◌}
+use Rattle.std.specs.List.{AllByRecursion}
+use Rattle.nfc_base.specs.Choosing.{Choosing, first_number, later_numbers}
 use Rattle.nfc_base.specs.LinkTurns.{arrived}
 use Rattle.nfc_base.specs.declared.event.Event.{Event}
 use Rattle.dep_link.specs.Payloads.{begins, cut_by}
 use Rattle.dep_link.specs.Exchange.{frames_of}
 use Rattle.dep_link.specs.DepLinks.{brought}
-use Rattle.llcp_link.specs.Running.{Act, Acted, Takes, Gives, Else, IsRun, end_of}
+use Rattle.llcp_link.specs.Giving.{after_giving}
+use Rattle.llcp_link.specs.Running.{AreBytes}
+use Rattle.llcp_link.specs.Taking.{taken_from}
 use Rattle.snep_core.specs.Accord.{PeerState}
-use Rattle.snep_core.specs.Server.{ServerState, serving}
+use Rattle.snep_core.specs.Server.{serving}
 
--- the payloads that an end took in some acts
-abbrev pub with_taken : Act → List (List ℕ) → List (List ℕ)
-with_taken (Takes payload) ps = payload ∷ ps
-with_taken (Gives n) ps = ps
-with_taken Else ps = ps
+-- A peer's end takes a payload, and gives one with so many PDUs, or with as many as can be joined.
+abbrev pub answered : List ℕ → ℕ → PeerState → PeerState
+answered payload count l = after_giving serving count (taken_from serving l payload)
 
-abbrev pub taken_in : List (Acted ServerState) → List (List ℕ)
-taken_in [] = []
-taken_in (a ∷ run) = with_taken a.act (taken_in run)
+-- So it does with some payloads, one after the other, each time by the next of its numbers.
+abbrev pub all_answered : List (List ℕ) → Choosing PeerState → Choosing PeerState
+all_answered [] far = far
+all_answered (p ∷ ps) far =
+    all_answered ps (record { end = answered p (first_number far.numbers) far.end; numbers = later_numbers far.numbers })
 
--- nobody else changes an end's service
-abbrev pub Never : ServerState → ServerState → Type 0
-Never old new = ⊥
-
--- Some events brought payloads to a peer, counted from this PNI. Its end took them, all and in order, and gave payloads, and did nothing
--- else: so it went from one state to another.
-pub record Arrives (first : ℕ) (events : List Event) (far after : PeerState) : Type 0 where
-  pub run : List (Acted ServerState)
-  pub does : IsRun serving Never far run
-  pub after_is : after ≡ end_of far run
-  pub payloads : taken_in run ≡ brought first events
+-- Some events brought payloads to a peer, counted from this PNI. Its end answered just them, in order, by its numbers:
+-- so it went from one state to another.
+pub record Arrives (first : ℕ) (events : List Event) (far after : Choosing PeerState) : Type 0 where
+  pub bytes : AllByRecursion AreBytes (brought first events)
+  pub after_is : after ≡ all_answered (brought first events) far
 
 -- Behind these events, counted from that PNI, this PNI is next, and no piece of a payload came.
 abbrev pub IsCounted : ℕ → List Event → ℕ → Type 0

@@ -34,16 +34,16 @@ module _ {L : Type 0} (k : Ghosts L) (target : L → TargetState) where
     pub going : over_at i.phase true ≡ None
 
   -- From a moment of the field, its initiator and its peer's end to others payloads were swapped over the link, which
-  -- is over by this cause then, or isn't. What arrived at the peer its end took, counted from the initiator's number; a
+  -- is over by this cause then, or isn't. What arrived at the peer its end answered, counted from the initiator's number; a
   -- link that isn't over is counted to that number again. So nothing changes that is set of the end.
-  pub record IsCarried (old : Air L) (i : InitState) (far : PeerState) (new : Air L) (j : InitState) (after : PeerState) (over : Option EndCause) : Type 0 where
+  pub record IsCarried (old : Air L) (i : InitState) (far : Choosing PeerState) (new : Air L) (j : InitState) (after : Choosing PeerState) (over : Option EndCause) : Type 0 where
     pub at : DepSeen L
     pub left : (at.air ≡ new) × (at.initiator ≡ j) × (at.over ≡ over)
     pub swaps : List Swap
     pub chain : Chained k target swaps (first_seen old i) at
     pub arrives : Arrives i.core.number (drop (length old.trace) new.trace) far after
     pub counted : over ≡ None → IsCounted i.core.number (drop (length old.trace) new.trace) j.core.number
-    pub setting : setting_of after ≡ setting_of far
+    pub setting : setting_of after.end ≡ setting_of far.end
 
   -- A call on an open link, from a moment of the field, its initiator and its peer's end to others. These numbers say
   -- how many PDUs each of its payloads has, and those that are left to the peer's end the same of its replies.
@@ -62,12 +62,12 @@ module _ {L : Type 0} (k : Ghosts L) (target : L → TargetState) where
       pub turns : CallComes (Comes to j)
       pub there : (linked : L → Bool) → IsLinked k.machine linked → (place : ℕ) → Stands k target linked peer_ends old place
           → Stands k target linked peer_ends new place
-      pub carried : IsCarried old i far.end new j after.end None
+      pub carried : IsCarried old i far new j after None
 
     -- Its link ended by this cause. Six bad receptions have a transmission that didn't pass.
     pub record IsEndedBy (c : EndCause) : Type 0 where
       pub turns : CallComes (BrokenBy c)
-      pub carried : IsCarried old i far.end new j after.end (Some c)
+      pub carried : IsCarried old i far new j after (Some c)
       pub noisy : c ≡ cause.SixBad → 0 < noise (drop (length old.trace) new.trace)
 
     -- Memory was wanting: there is a front of it, and nothing that is set of the end changed.

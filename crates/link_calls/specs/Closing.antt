@@ -66,12 +66,12 @@ module _ {L : Type 0} (k : Ghosts L) (target : L → TargetState) where
       pub mid : Air L
       pub rest : InitState
       pub half : Choosing PeerState
-      pub carried : IsCarried k target old i far.end mid rest half.end None
+      pub carried : IsCarried k target old i far mid rest half None
       pub to : Step
       pub made : IsMade k target numbers from old i far mid rest half to
       pub turn : TurnIs k.machine (RestartsCounted serving) (AnswersCounted serving) mid rls_frame half heard new after
       pub same : ((l : L) → k.machine.handed l rls_frame ≡ Untouched) → after ≡ half
-      pub arrives : ((l : L) → k.machine.handed l rls_frame ≡ Untouched) → Arrives i.core.number (drop (length old.trace) new.trace) far.end after.end
+      pub arrives : ((l : L) → k.machine.handed l rls_frame ≡ Untouched) → Arrives i.core.number (drop (length old.trace) new.trace) far after
 
     -- The connection ended, and RLS_REQ was sent.
     pub record IsReleased (to : Step) : Type 0 where
@@ -83,7 +83,7 @@ module _ {L : Type 0} (k : Ghosts L) (target : L → TargetState) where
     -- didn't pass.
     pub record IsLost (j : InitState) (c : EndCause) : Type 0 where
       pub turns : ClosingComes (Calls (BrokenBy c))
-      pub how : IsCarried k target old i far.end new j after.end (Some c) ⊎ ((c ≡ cause.FieldLost) × SendsRls None)
+      pub how : IsCarried k target old i far new j after (Some c) ⊎ ((c ≡ cause.FieldLost) × SendsRls None)
       pub noisy : c ≡ cause.SixBad → 0 < noise (drop (length old.trace) new.trace)
 
     -- Memory was wanting: there is a front of it, and nothing that is set of the end changed.

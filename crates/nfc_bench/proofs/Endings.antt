@@ -19,13 +19,13 @@ use Rattle.nfc_bench.specs.declared.top.lines.Stop.TheVariants.{Refused, ReadFau
 use Rattle.bench_script.specs.Limits.{most_lines, longest_line, AreWithinLimits}
 use Rattle.bench_world.specs.Report.{entry_text, report_text}
 use Rattle.bench_world.specs.Legal.{first_state}
-use Rattle.bench_world.specs.Obeying.{Benched}
+use Rattle.bench_world.specs.Obeying.{Benched, new_bench}
 use Rattle.bench_world.specs.Taking.{AreSpelled, IsTaken, standing_of}
 use Rattle.bench_world.proofs.Shapes.{TakenAlike, legal_taken, taken_at, taken_too}
 use Rattle.nfc_bench.specs.Run.{AreObeyed, FrontIsObeyed, FirstRefused, AllTaken, RefusesLine, ObeysFront, AddsFault, line_fault, read_fault, EndsDone, EndsRefused, EndsUnread, EndsUnwritten, ReadsInTime}
-use Rattle.nfc_bench.specs.Stops.{Follows, LineRefused, LineCut, LineLost, LineStops, ObeyedBy, RunRefused, RunUnread, RunLost, RunStops}
-use Rattle.nfc_bench.proofs.Limits.{all_at, IsShort}
-use Rattle.nfc_bench.proofs.Progress.{Progress, GaveNext, Goes, goes, lines_on, whole_on, ended_on, leads_to, obeyed_more, obeyed_none}
+use Rattle.nfc_bench.specs.Stops.{Follows, LineRefused, LineCut, LineLost, LineStops, Lost, ObeyedBy, RunRefused, RunUnread, RunLost, RunStops}
+use Rattle.nfc_bench.proofs.Limits.{all_at, IsShort, limits_more, no_limits}
+use Rattle.nfc_bench.proofs.Progress.{Progress, GaveNext, Goes, goes, lines_on, whole_on, ended_on, leads_to, obeyed_lost, obeyed_more, obeyed_new}
 use Rattle.nfc_bench.proofs.Journals.{written_none}
 
 -- the input goes on behind the text, where the source tells it; at the source's end by nothing
@@ -63,7 +63,7 @@ next_line rest more some (b ∷ front) behind parts none =
 -- the next line, which begins so, is refused for its number or its length
 refused_by_size : (quiet : Bool) (left mid left' : Option (List ℕ)) (a : Lined) (j : Benched) (n : ℕ) (t t1 : Option (List ℕ)) (got front behind : List ℕ)
     → Progress quiet left mid a j n t t1 → Goes a got mid left' → 0 < length (a.held ++ got) → a.held ++ got ≡ front ++ behind → NoLf front
-    → (most_lines < n) ⊎ (longest_line < length front) → RunRefused quiet left t t1 j.journal n
+    → (most_lines < n) ⊎ (longest_line < length front) → RunRefused quiet left t t1 j n
 refused_by_size quiet left mid left' a j n t t1 got front behind p on some parts none why =
     let text : List ℕ = p.text ++ got in
     let by = goes_on_by left left' text a.is_ended (read_on left mid left' p.text got p.read on.read) (ended_on a got mid left' on p.ended) in
@@ -80,6 +80,7 @@ refused_by_size quiet left mid left' a j n t t1 got front behind p on some parts
           parts = lines_on quiet left mid left' a j n t t1 got p on by.more by.follows ∙ ap (λ x. p.done ++ x) next.parts;
           commands = (done_taken p.done j p.obeyed).commands;
           taken = (done_taken p.done j p.obeyed).taken;
+          limits = p.limits;
           obeyed = p.obeyed.obeyed;
           number = p.number;
           refused = elim why [ inl many ↦ inl many | inr long ↦ inr (inl (omega arith)) ];
@@ -90,7 +91,7 @@ refused_by_size quiet left mid left' a j n t t1 got front behind p on some parts
 
 -- it is too long
 pub too_long : (quiet : Bool) (left mid left' : Option (List ℕ)) (a m : Lined) (j : Benched) (n : ℕ) (t t1 : Option (List ℕ))
-    → Progress quiet left mid a j n t t1 → Advances a m mid left' (Err ends.TooLong) → RunRefused quiet left t t1 j.journal n
+    → Progress quiet left mid a j n t t1 → Advances a m mid left' (Err ends.TooLong) → RunRefused quiet left t t1 j n
 too_long quiet left mid left' a m j n t t1 p adv =
     let got : List ℕ = adv.fetched.got in
     let parts : adv.text ≡ a.held ++ got = adv.fetched.parts in
@@ -107,7 +108,7 @@ goes_looking a b mid left' r l = record {
 
 -- it is one too many
 pub too_many : (quiet : Bool) (left mid left' : Option (List ℕ)) (a m : Lined) (j : Benched) (n : ℕ) (t t1 : Option (List ℕ))
-    → Progress quiet left mid a j n t t1 → most_lines < n → Looks a m mid left' (Ok true) → RunRefused quiet left t t1 j.journal n
+    → Progress quiet left mid a j n t t1 → most_lines < n → Looks a m mid left' (Ok true) → RunRefused quiet left t t1 j n
 too_many quiet left mid left' a m j n t t1 p many look =
     refused_by_size quiet left mid left' a j n t t1 look.got [] (a.held ++ look.got) p (goes_looking a m mid left' (Ok true) look)
     look.found.0 refl (λ k small. absurd (omega arith)) (inl many)
@@ -126,7 +127,7 @@ looks_in_time quiet left mid left' a m j n t t1 r p look = elim look.wanted [
         front = p.text;
         chunk = look.got;
         read = read_on left mid left' p.text look.got p.read look.read;
-        short = subst (λ ls. AreWithinLimits ls) (sym lines) p.obeyed.obeyed.limits;
+        short = subst (λ ls. AreWithinLimits ls) (sym lines) p.limits;
         size = size;
       })
 ]
@@ -142,15 +143,16 @@ told_all left (Some rest) text read none =
     subst P (sym read) (sym (ap (λ x. text ++ x) none ∙ append-nil text), ap Some none)
 
 all_done : (quiet : Bool) (left mid left' : Option (List ℕ)) (a : Lined) (j : Benched) (n : ℕ) (t t1 : Option (List ℕ)) (got : List ℕ)
-    → Progress quiet left mid a j n t t1 → Goes a got mid left' → a.held ++ got ≡ [] → IfSome left' (λ rest. rest ≡ []) → EndsDone quiet left left' t t1 j.journal
+    → Progress quiet left mid a j n t t1 → Goes a got mid left' → a.held ++ got ≡ [] → IfSome left' (λ rest. rest ≡ []) → EndsDone quiet left left' t t1 j
 all_done quiet left mid left' a j n t t1 got p on nothing ended =
-    let L : List (List ℕ) → Type 0 = λ ls. AreObeyed ls j.journal in
+    let L : List (List ℕ) → Type 0 = λ ls. AreObeyed ls j in
     let lines : lines_of (p.text ++ got) ≡ p.done =
     ap lines_of (sym (append-nil (p.text ++ got))) ∙ lines_on quiet left mid left' a j n t t1 got p on [] (λ _. refl) ∙ ap (λ x. p.done ++ lines_of (x ++ [])) nothing ∙ append-nil p.done in
     record {
       lines = record {
         input = p.text ++ got;
         told = told_all left left' (p.text ++ got) (read_on left mid left' p.text got p.read on.read) ended;
+        limits = subst (λ ls. AreWithinLimits ls) (sym lines) p.limits;
         obeyed = subst L (sym lines) p.obeyed.obeyed;
       };
       written = p.written;
@@ -165,7 +167,7 @@ ended_now a got mid left' on before now = elim (cases_Bool a.is_ended) [
 ]
 
 pub done_at_end : (quiet : Bool) (left mid left' : Option (List ℕ)) (a m : Lined) (j : Benched) (n : ℕ) (t t1 : Option (List ℕ))
-    → Progress quiet left mid a j n t t1 → Advances a m mid left' (Ok false) → EndsDone quiet left left' t t1 j.journal
+    → Progress quiet left mid a j n t t1 → Advances a m mid left' (Ok false) → EndsDone quiet left left' t t1 j
 done_at_end quiet left mid left' a m j n t t1 p adv =
     let got : List ℕ = adv.fetched.got in
     let on : Goes a got mid left' = goes a adv.text mid left' adv.fetched in
@@ -173,7 +175,7 @@ done_at_end quiet left mid left' a m j n t t1 p adv =
     all_done quiet left mid left' a j n t t1 got p on (sym adv.fetched.parts ∙ adv.came.0) (ended_now a got mid left' on p.ended (λ going. adv.ended going over))
 
 pub done_at_limit : (quiet : Bool) (left mid left' : Option (List ℕ)) (a m : Lined) (j : Benched) (n : ℕ) (t t1 : Option (List ℕ))
-    → Progress quiet left mid a j n t t1 → Looks a m mid left' (Ok false) → EndsDone quiet left left' t t1 j.journal
+    → Progress quiet left mid a j n t t1 → Looks a m mid left' (Ok false) → EndsDone quiet left left' t t1 j
 done_at_limit quiet left mid left' a m j n t t1 p look =
     let on : Goes a look.got mid left' = goes_looking a m mid left' (Ok false) look in
     let over : m.is_ended ≡ true = ap (λ (v : Lined). v.is_ended) look.found.1 in
@@ -181,25 +183,30 @@ done_at_limit quiet left mid left' a m j n t t1 p look =
 
 -- the source failed, behind no whole line that isn't obeyed
 unread : (quiet : Bool) (left mid left' : Option (List ℕ)) (a : Lined) (j : Benched) (n : ℕ) (t t1 : Option (List ℕ)) (r r' : ℕ) (got : List ℕ)
-    → Progress quiet left mid a j n t t1 → Goes a got mid left' → a.is_ended ≡ false → NoLf (a.held ++ got) → HasRisen r r' → RunUnread quiet left left' t t1 r r' j.journal
+    → Progress quiet left mid a j n t t1 → Goes a got mid left' → a.is_ended ≡ false → NoLf (a.held ++ got) → HasRisen r r' → RunUnread quiet left left' t t1 r r' j
 unread quiet left mid left' a j n t t1 r r' got p on going none risen =
-    let L : List (List ℕ) → Type 0 = λ ls. AreObeyed ls j.journal in
+    let L : List (List ℕ) → Type 0 = λ ls. AreObeyed ls j in
     let whole : whole_lines (p.text ++ got) ≡ p.done =
     ap whole_lines (sym (append-nil (p.text ++ got))) ∙ whole_on quiet left mid a j n t t1 got p [] going ∙ ap (λ x. p.done ++ whole_lines x) (append-nil (a.held ++ got))
     ∙ ap (λ x. p.done ++ x) (whole_last (a.held ++ got) none) ∙ append-nil p.done in
     record {
       risen = risen;
-      lines = record { read = p.text ++ got; told = read_on left mid left' p.text got p.read on.read; obeyed = subst L (sym whole) p.obeyed.obeyed };
+      lines = record {
+        read = p.text ++ got;
+        told = read_on left mid left' p.text got p.read on.read;
+        limits = subst (λ ls. AreWithinLimits ls) (sym whole) p.limits;
+        obeyed = subst L (sym whole) p.obeyed.obeyed;
+      };
       written = p.written;
     }
 
 pub unread_next : (quiet : Bool) (left mid left' : Option (List ℕ)) (a m : Lined) (j : Benched) (n : ℕ) (t t1 : Option (List ℕ)) (r r' : ℕ)
-    → Progress quiet left mid a j n t t1 → Advances a m mid left' (Err ends.ReadFault) → HasRisen r r' → RunUnread quiet left left' t t1 r r' j.journal
+    → Progress quiet left mid a j n t t1 → Advances a m mid left' (Err ends.ReadFault) → HasRisen r r' → RunUnread quiet left left' t t1 r r' j
 unread_next quiet left mid left' a m j n t t1 r r' p adv risen =
     unread quiet left mid left' a j n t t1 r r' adv.fetched.got p (goes a adv.text mid left' adv.fetched) adv.came.0 (subst NoLf adv.fetched.parts adv.came.2) risen
 
 pub unread_at_limit : (quiet : Bool) (left mid left' : Option (List ℕ)) (a m : Lined) (j : Benched) (n : ℕ) (t t1 : Option (List ℕ)) (r r' : ℕ)
-    → Progress quiet left mid a j n t t1 → Looks a m mid left' (Err ends.ReadFault) → HasRisen r r' → RunUnread quiet left left' t t1 r r' j.journal
+    → Progress quiet left mid a j n t t1 → Looks a m mid left' (Err ends.ReadFault) → HasRisen r r' → RunUnread quiet left left' t t1 r r' j
 unread_at_limit quiet left mid left' a m j n t t1 r r' p look risen =
     let empty : NoLf [] = λ k small. absurd (omega arith) in
     unread quiet left mid left' a j n t t1 r r' look.got p (goes_looking a m mid left' (Err ends.ReadFault) look) look.found.0 (subst NoLf (sym look.found.1) empty) risen
@@ -208,10 +215,10 @@ unread_at_limit quiet left mid left' a m j n t t1 r r' p look risen =
 
 -- it is refused as it stands
 refused_line : (quiet : Bool) (left left' : Option (List ℕ)) (done : List (List ℕ)) (m : Lined) (j new : Benched) (n k : ℕ) (t t1 t2 : Option (List ℕ))
-    → (o : ObeyedBy done j) → n ≡ 1 + length done → t1 ≡ with_end t (report_text quiet j.journal) → GaveNext left left' done m → LineRefused j new n k m.line t1 t2
-    → RunRefused quiet left t t2 new.journal k
-refused_line quiet left left' done m j new n k t t1 t2 o number written next s =
-    let P : Benched → Type 0 = λ x. RunRefused quiet left t t2 x.journal k in
+    → (o : ObeyedBy done j) → AreWithinLimits done → n ≡ 1 + length done → t1 ≡ with_end t (report_text quiet j.journal) → GaveNext left left' done m → LineRefused j new n k m.line t1 t2
+    → RunRefused quiet left t t2 new k
+refused_line quiet left left' done m j new n k t t1 t2 o limits number written next s =
+    let P : Benched → Type 0 = λ x. RunRefused quiet left t t2 x k in
     let by = goes_on_by left left' next.text m.is_ended next.read next.ended in
     let it : P j = record {
       lines = record {
@@ -224,6 +231,7 @@ refused_line quiet left left' done m j new n k t t1 t2 o number written next s =
           parts = next.lines by.more by.follows;
           commands = (done_taken done j o).commands;
           taken = (done_taken done j o).taken;
+          limits = limits;
           obeyed = o.obeyed;
           number = s.number ∙ number;
           refused = inr (inr (λ is. s.refused (taken_there done j o m.line is)));
@@ -235,8 +243,8 @@ refused_line quiet left left' done m j new n k t t1 t2 o number written next s =
 
 -- the line is obeyed too
 front_with : (left left' : Option (List ℕ)) (done : List (List ℕ)) (m : Lined) (j new : Benched) (n : ℕ)
-    → ObeyedBy done j → n ≡ 1 + length done → GaveNext left left' done m → n ≤ most_lines → Follows j new n m.line → ObeysFront left new.journal
-front_with left left' done m j new n o number next few line =
+    → ObeyedBy done j → AreWithinLimits done → n ≡ 1 + length done → GaveNext left left' done m → n ≤ most_lines → Follows j new n m.line → ObeysFront left new
+front_with left left' done m j new n o limits number next few line =
     let by = goes_on_by left left' next.text m.is_ended next.read next.ended in
     record {
       input = next.text ++ by.more;
@@ -245,30 +253,36 @@ front_with left left' done m j new n o number next few line =
         front = done ++ m.line ∷ [];
         rest = lines_of (m.held ++ by.more);
         parts = next.lines by.more by.follows ∙ sym (append_assoc done (m.line ∷ []) (lines_of (m.held ++ by.more)));
-        obeyed = (obeyed_more done j new m.line n o line number few next.short).obeyed;
+        limits = limits_more done m.line limits (omega (arith, number, few)) next.short;
+        obeyed = (obeyed_more done j new m.line n o line number).obeyed;
       };
     }
 
 -- it isn't
-front_without : (left left' : Option (List ℕ)) (done : List (List ℕ)) (m : Lined) (j : Benched) (journal : List Entry)
-    → ObeyedBy done j → GaveNext left left' done m → journal ≡ j.journal → ObeysFront left journal
-front_without left left' done m j journal o next same =
+front_without : (left left' : Option (List ℕ)) (done : List (List ℕ)) (m : Lined) (j new : Benched)
+    → ObeyedBy done j → AreWithinLimits done → GaveNext left left' done m → Lost j new → ObeysFront left new
+front_without left left' done m j new o limits next lost =
     let by = goes_on_by left left' next.text m.is_ended next.read next.ended in
-    let O : List Entry → Type 0 = λ js. AreObeyed done js in
     record {
       input = next.text ++ by.more;
       told = by.told;
-      obeyed = record { front = done; rest = m.line ∷ lines_of (m.held ++ by.more); parts = next.lines by.more by.follows; obeyed = subst O (sym same) o.obeyed };
+      obeyed = record {
+        front = done;
+        rest = m.line ∷ lines_of (m.held ++ by.more);
+        parts = next.lines by.more by.follows;
+        limits = limits;
+        obeyed = obeyed_lost done j new o lost;
+      };
     }
 
 cut_line : (quiet : Bool) (left left' : Option (List ℕ)) (done : List (List ℕ)) (m : Lined) (j new : Benched) (n : ℕ) (t t1 t2 : Option (List ℕ)) (w w1 w2 : ℕ)
-    → ObeyedBy done j → n ≡ 1 + length done → t1 ≡ with_end t (report_text quiet j.journal) → GaveNext left left' done m → n ≤ most_lines → w ≤ w1 → LineCut quiet j new n m.line t1 t2 w1 w2
-    → EndsUnwritten quiet left t t2 w w2 new.journal
-cut_line quiet left left' done m j new n t t1 t2 w w1 w2 o number written next few count s =
+    → ObeyedBy done j → AreWithinLimits done → n ≡ 1 + length done → t1 ≡ with_end t (report_text quiet j.journal) → GaveNext left left' done m → n ≤ most_lines → w ≤ w1 → LineCut quiet j new n m.line t1 t2 w1 w2
+    → EndsUnwritten quiet left t t2 w w2 new
+cut_line quiet left left' done m j new n t t1 t2 w w1 w2 o limits number written next few count s =
     let G : Option (List ℕ) → Type 0 = λ x. GainsFront x t2 (entry_text quiet s.entry) in
     record {
       risen = rises_at_last w w1 w2 count s.risen;
-      lines = front_with left left' done m j new n o number next few s.follows;
+      lines = front_with left left' done m j new n o limits number next few s.follows;
       before = j.journal;
       last = s.entry;
       entries = s.follows.added ∙ ap (λ es. j.journal ++ es) s.one;
@@ -276,30 +290,30 @@ cut_line quiet left left' done m j new n t t1 t2 w w1 w2 o number written next f
     }
 
 lost_line : (quiet : Bool) (left left' : Option (List ℕ)) (done : List (List ℕ)) (m : Lined) (j new : Benched) (t t1 t2 : Option (List ℕ))
-    → ObeyedBy done j → t1 ≡ with_end t (report_text quiet j.journal) → GaveNext left left' done m → LineLost j new t1 t2 → RunLost quiet left t t2 new.journal
-lost_line quiet left left' done m j new t t1 t2 o written next s = record {
-  lines = front_without left left' done m j new.journal o next s.journal;
-  written = s.same ∙ written ∙ ap (λ js. with_end t (report_text quiet js)) (sym s.journal);
+    → ObeyedBy done j → AreWithinLimits done → t1 ≡ with_end t (report_text quiet j.journal) → GaveNext left left' done m → LineLost j new t1 t2 → RunLost quiet left t t2 new
+lost_line quiet left left' done m j new t t1 t2 o limits written next s = record {
+  lines = front_without left left' done m j new o limits next s.lost;
+  written = s.same ∙ written ∙ ap (λ js. with_end t (report_text quiet js)) (sym s.lost.journal);
 }
 
 -- a line that was tried ended the run
 pub line_stops : (quiet : Bool) (left left' : Option (List ℕ)) (done : List (List ℕ)) (m : Lined) (j new : Benched) (n : ℕ) (t t1 t2 : Option (List ℕ)) (r r' w w1 w2 : ℕ) (stop : Stop)
-    → ObeyedBy done j → n ≡ 1 + length done → t1 ≡ with_end t (report_text quiet j.journal) → GaveNext left left' done m → n ≤ most_lines → w ≤ w1 → LineStops quiet j new n m.line t1 t2 w1 w2 stop
-    → RunStops quiet left left' t t2 r r' w w2 new.journal stop
-line_stops quiet left left' done m j new n t t1 t2 r r' w w1 w2 (Refused k) o number written next few count s = refused_line quiet left left' done m j new n k t t1 t2 o number written next s
-line_stops quiet left left' done m j new n t t1 t2 r r' w w1 w2 ReadFault o number written next few count s = absurd s
-line_stops quiet left left' done m j new n t t1 t2 r r' w w1 w2 WriteFault o number written next few count s = cut_line quiet left left' done m j new n t t1 t2 w w1 w2 o number written next few count s
-line_stops quiet left left' done m j new n t t1 t2 r r' w w1 w2 Memory o number written next few count s = lost_line quiet left left' done m j new t t1 t2 o written next s
+    → ObeyedBy done j → AreWithinLimits done → n ≡ 1 + length done → t1 ≡ with_end t (report_text quiet j.journal) → GaveNext left left' done m → n ≤ most_lines → w ≤ w1 → LineStops quiet j new n m.line t1 t2 w1 w2 stop
+    → RunStops quiet left left' t t2 r r' w w2 new stop
+line_stops quiet left left' done m j new n t t1 t2 r r' w w1 w2 (Refused k) o limits number written next few count s = refused_line quiet left left' done m j new n k t t1 t2 o limits number written next s
+line_stops quiet left left' done m j new n t t1 t2 r r' w w1 w2 ReadFault o limits number written next few count s = absurd s
+line_stops quiet left left' done m j new n t t1 t2 r r' w w1 w2 WriteFault o limits number written next few count s = cut_line quiet left left' done m j new n t t1 t2 w w1 w2 o limits number written next few count s
+line_stops quiet left left' done m j new n t t1 t2 r r' w w1 w2 Memory o limits number written next few count s = lost_line quiet left left' done m j new t t1 t2 o limits written next s
 
 -- memory was wanting before a line was obeyed
-pub lost_at_once : (quiet : Bool) (left t : Option (List ℕ)) (j : List Entry) → j ≡ [] → RunLost quiet left t t j
-lost_at_once quiet left t j none =
-    let P : List Entry → Type 0 = λ js. RunLost quiet left t t js in
-    let front : (lines : List (List ℕ)) → FrontIsObeyed lines [] = λ lines. record { front = []; rest = lines; parts = refl; obeyed = obeyed_none } in
-    let it : P [] = record { lines = lines_at_once left front; written = written_none quiet t } in
+pub lost_at_once : (quiet : Bool) (left t : Option (List ℕ)) (b : Benched) → b ≡ new_bench → RunLost quiet left t t b
+lost_at_once quiet left t b none =
+    let P : Benched → Type 0 = λ x. RunLost quiet left t t x in
+    let front : (lines : List (List ℕ)) → FrontIsObeyed lines new_bench = λ lines. record { front = []; rest = lines; parts = refl; limits = no_limits; obeyed = obeyed_new.obeyed } in
+    let it : P new_bench = record { lines = lines_at_once left front; written = written_none quiet t } in
     subst P (sym none) it
   where
-    lines_at_once : (left : Option (List ℕ)) → ((lines : List (List ℕ)) → FrontIsObeyed lines []) → ObeysFront left []
+    lines_at_once : (left : Option (List ℕ)) → ((lines : List (List ℕ)) → FrontIsObeyed lines new_bench) → ObeysFront left new_bench
     lines_at_once None front = record { input = []; told = tt; obeyed = front (lines_of []) }
     lines_at_once (Some bytes) front = record { input = bytes; told = refl; obeyed = front (lines_of bytes) }
 
@@ -319,19 +333,19 @@ fault_behind t t1 t2 w w1 w2 report fault first count (inr (risen, front)) =
     let G : Option (List ℕ) → Type 0 = λ o. GainsFront o t2 fault in
     inr (rises_at_last w w1 w2 count risen, subst G (with_end-nil t1 ∙ first) front)
 
-pub ends_refused : (quiet : Bool) (left t t1 t2 : Option (List ℕ)) (w w1 w2 : ℕ) (j : List Entry) (n : ℕ) (line : List ℕ)
+pub ends_refused : (quiet : Bool) (left t t1 t2 : Option (List ℕ)) (w w1 w2 : ℕ) (j : Benched) (n : ℕ) (line : List ℕ)
     → RunRefused quiet left t t1 j n → line ≡ line_fault n → w ≤ w1 → AddsFault [] line t1 t2 w1 w2 → EndsRefused quiet left t t2 w w2 j
 ends_refused quiet left t t1 t2 w w1 w2 j n line s is count added =
-    let A : List ℕ → Type 0 = λ x. AddsFault (report_text quiet j) x t t2 w w2 in
-    record { number = n; lines = s.lines; written = subst A is (fault_behind t t1 t2 w w1 w2 (report_text quiet j) line s.written count added) }
+    let A : List ℕ → Type 0 = λ x. AddsFault (report_text quiet j.journal) x t t2 w w2 in
+    record { number = n; lines = s.lines; written = subst A is (fault_behind t t1 t2 w w1 w2 (report_text quiet j.journal) line s.written count added) }
 
-pub ends_unread : (quiet : Bool) (left left' t t1 t2 : Option (List ℕ)) (r r' w w1 w2 : ℕ) (j : List Entry)
+pub ends_unread : (quiet : Bool) (left left' t t1 t2 : Option (List ℕ)) (r r' w w1 w2 : ℕ) (j : Benched)
     → RunUnread quiet left left' t t1 r r' j → w ≤ w1 → AddsFault [] read_fault t1 t2 w1 w2 → EndsUnread quiet left left' t t2 r r' w w2 j
 ends_unread quiet left left' t t1 t2 r r' w w1 w2 j s count added =
-    record { risen = s.risen; lines = s.lines; written = fault_behind t t1 t2 w w1 w2 (report_text quiet j) read_fault s.written count added }
+    record { risen = s.risen; lines = s.lines; written = fault_behind t t1 t2 w w1 w2 (report_text quiet j.journal) read_fault s.written count added }
 
 -- where every line is taken, none is the first that is refused
-pub none_refused : (lines : List (List ℕ)) (j : List Entry) (n : ℕ) → AllTaken lines → FirstRefused lines j n → ⊥
+pub none_refused : (lines : List (List ℕ)) (j : Benched) (n : ℕ) → AllTaken lines → FirstRefused lines j n → ⊥
 none_refused lines j n all f =
     let number : n ≡ 1 + length f.before = f.number in
     let few : length lines ≤ most_lines = all.limits.few in
@@ -345,7 +359,7 @@ none_refused lines j n all f =
           elim why [ inl long ↦ omega arith | inr nothing ↦ nothing (taken_at first_state f.before f.line f.after all.commands f.commands spelled all.taken.accepted f.taken.spelled) ])
     ]
 
-pub taken_not_refused : (left : Option (List ℕ)) (bytes : List ℕ) (j : List Entry) (n : ℕ) → left ≡ Some bytes → AllTaken (lines_of bytes) → RefusesLine left j n → ⊥
+pub taken_not_refused : (left : Option (List ℕ)) (bytes : List ℕ) (j : Benched) (n : ℕ) → left ≡ Some bytes → AllTaken (lines_of bytes) → RefusesLine left j n → ⊥
 taken_not_refused left bytes j n is all s =
     let P : Option (List ℕ) → Type 0 = λ o. IfSome o (λ b. s.input ≡ b) in
     let F : List ℕ → Type 0 = λ x. FirstRefused (lines_of x) j n in

@@ -3,25 +3,22 @@ use Rattle.std.proofs.Common.{◌≡◌, ℕ, suc, ◌+◌, ◌<◌, ◌≤◌, 
 use Rattle.std.proofs.Math.Seq.{drop-cons}
 use Rattle.std.proofs.lemmas.List.{length-take-le, take-append-drop, take_more}
 use Rattle.bench_script.specs.declared.command.Command.{Command}
-use Rattle.bench_script.specs.Limits.{most_lines, AreWithinLimits}
 use Rattle.bench_world.specs.declared.entry.Entry.{Entry}
 use Rattle.bench_world.specs.Legal.{first_state}
 use Rattle.bench_world.specs.Obeying.{Benched}
 use Rattle.bench_world.specs.Taking.{AreSpelled, AreTaken, IsTaken}
 use Rattle.bench_world.proofs.Shapes.{taken_at}
-use Rattle.nfc_bench.specs.Run.{AreObeyed, FrontIsObeyed}
-use Rattle.nfc_bench.specs.Stops.{Follows, ObeyedBy}
-use Rattle.nfc_bench.proofs.Progress.{obeyed_more}
+use Rattle.nfc_bench.specs.Stops.{FirstAreObeyed, Follows, Lost, ObeyedBy}
+use Rattle.nfc_bench.proofs.Progress.{obeyed_lost, obeyed_more}
 use Rattle.nfc_bench.proofs.Endings.{done_taken, taken_there}
 
 -- the line at the next place is obeyed too
-pub obeyed_next : (lines : List (List ℕ)) (place : ℕ) (old new : Benched) → place < length lines → AreWithinLimits lines → ObeyedBy (take place lines) old → Follows old new (place + 1) (get_or lines place [])
+pub obeyed_next : (lines : List (List ℕ)) (place : ℕ) (old new : Benched) → place < length lines → ObeyedBy (take place lines) old → Follows old new (place + 1) (get_or lines place [])
     → ObeyedBy (take (place + 1) lines) new
-obeyed_next lines place old new within limits obeyed follows =
-    let few : length lines ≤ most_lines = limits.few in
+obeyed_next lines place old new within obeyed follows =
     let front : length (take place lines) ≡ place = length-take-le place lines (omega arith) in
     subst (λ ls. ObeyedBy ls new) (sym (take_more lines place [] within))
-    (obeyed_more (take place lines) old new (get_or lines place []) (place + 1) obeyed follows (omega (arith, front)) (omega (arith, few)) (limits.short place [] within))
+    (obeyed_more (take place lines) old new (get_or lines place []) (place + 1) obeyed follows (omega (arith, front)))
 
 -- where all lines are taken, it isn't refused
 pub taken_next : (lines : List (List ℕ)) (commands : List Command) (place : ℕ) (b : Benched) → place < length lines → AreTaken lines commands → ObeyedBy (take place lines) b → IsTaken b.state (get_or lines place [])
@@ -34,11 +31,11 @@ taken_next lines commands place b within taken obeyed =
     let it = done_taken done b obeyed in
     taken_there done b obeyed line (taken_at first_state done line rest commands it.commands spelled taken.accepted it.taken.spelled)
 
--- want of memory leaves the journal of those before it
-pub front_obeyed : (lines : List (List ℕ)) (place : ℕ) (b : Benched) (journal : List Entry) → ObeyedBy (take place lines) b → journal ≡ b.journal → FrontIsObeyed lines journal
-front_obeyed lines place b journal obeyed same = record {
+-- want of memory leaves those before it obeyed
+pub front_obeyed : (lines : List (List ℕ)) (place : ℕ) (old new : Benched) → ObeyedBy (take place lines) old → Lost old new → FirstAreObeyed lines new
+front_obeyed lines place old new obeyed lost = record {
   front = take place lines;
   rest = drop place lines;
   parts = sym (take-append-drop place lines);
-  obeyed = subst (λ js. AreObeyed (take place lines) js) (sym same) obeyed.obeyed;
+  obeyed = obeyed_lost (take place lines) old new obeyed lost;
 }

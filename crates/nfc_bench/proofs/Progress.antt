@@ -12,17 +12,18 @@ use Rattle.nfc_io.specs.Reading.{Lined, new_lined, Fetches, Advances, GivesLine}
 use Rattle.nfc_io.proofs.InOrder.{ended_behind}
 use Rattle.nfc_io.proofs.Lines.{lines_front, whole_front, lines_last}
 use Rattle.bench_world.specs.declared.entry.Entry.{Entry}
-use Rattle.bench_world.specs.Journal.{LeadsTo}
+use Rattle.bench_world.specs.Journal.{LeadsTo, Legal}
+use Rattle.bench_world.specs.LinkLaw.{LinksAccept}
 use Rattle.bench_world.specs.Legal.{State, Joins, Given, first_state, no_joins}
 use Rattle.bench_world.specs.Obeying.{Benched, new_bench}
 use Rattle.bench_world.specs.Report.{report_text}
 use Rattle.bench_world.proofs.LinkLaw.{link_law}
 use Rattle.bench_world.proofs.OneJournal.{one_legal}
 use Rattle.bench_script.specs.Limits.{most_lines, longest_line, AreWithinLimits}
-use Rattle.nfc_bench.specs.Run.{AreObeyed, Leaves, ReadsInTime}
+use Rattle.nfc_bench.specs.Run.{AreObeyed, ReadsInTime}
 use Rattle.nfc_bench.specs.declared.top.lines.Stop.{Stop}
 use Rattle.nfc_bench.specs.declared.top.lines.Stop.TheVariants.{Refused, ReadFault, WriteFault, Memory}
-use Rattle.nfc_bench.specs.Stops.{Follows, LineDone, LineStops, ObeyedBy, LeavesUnless}
+use Rattle.nfc_bench.specs.Stops.{Follows, IsSoundUnless, LineDone, LineStops, Lost, ObeyedBy}
 use Rattle.nfc_bench.proofs.Limits.{limits_more, limits_begun, no_limits}
 use Rattle.nfc_bench.proofs.ScriptText.{stops_at_once}
 use Rattle.nfc_bench.proofs.Journals.{legal_more, legal_none, written_more, written_none}
@@ -36,37 +37,41 @@ most_given [] h = tt
 most_given (g ∷ gs) h = (h.0, most_given gs h.1)
 
 -- a legal journal of some lines is the only one of them
-abbrev is_obeyed : (lines : List (List ℕ)) (numbers : List Joins) (journal : List Entry) (last : State) → LeadsTo lines numbers journal last → AreMost numbers → AreWithinLimits lines → AreObeyed lines journal
-is_obeyed lines numbers journal last leads most limits = record {
-  legal = record { numbers = numbers; last = last; leads = leads };
+abbrev is_obeyed : (lines : List (List ℕ)) (numbers : List Joins) (b : Benched) → LeadsTo lines numbers b.journal b.state → AreMost numbers → AreObeyed lines b
+is_obeyed lines numbers b leads most = record {
+  legal = record { numbers = numbers; last = b.state; leads = leads };
   most = most;
-  only = λ other others t is same. sym (one_legal lines numbers others journal other last t leads is same);
-  limits = limits;
-  links = link_law lines numbers journal last leads;
+  only = λ other t is. sym (one_legal lines numbers b.journal other b.state t leads is);
+  links = link_law lines numbers b.journal b.state leads;
+  machines = λ sound. refl;
 }
 
-pub obeyed_none : AreObeyed [] []
-obeyed_none = is_obeyed [] [] [] first_state legal_none tt no_limits
-
 -- where lines lead a bench to its state, it obeyed them
-obeyed_by : (lines : List (List ℕ)) (numbers : List Joins) (b : Benched) → LeadsTo lines numbers b.journal b.state → AreMost numbers → AreWithinLimits lines → b.spoiled ≡ false → ObeyedBy lines b
-obeyed_by lines numbers b leads most limits sound = record { obeyed = is_obeyed lines numbers b.journal b.state leads most limits; machines = refl; sound = sound }
+obeyed_by : (lines : List (List ℕ)) (numbers : List Joins) (b : Benched) → LeadsTo lines numbers b.journal b.state → AreMost numbers → b.spoiled ≡ false → ObeyedBy lines b
+obeyed_by lines numbers b leads most sound = record { obeyed = is_obeyed lines numbers b leads most; sound = sound }
 
 pub obeyed_new : ObeyedBy [] new_bench
-obeyed_new = obeyed_by [] [] new_bench legal_none tt no_limits refl
+obeyed_new = obeyed_by [] [] new_bench legal_none tt refl
 
 -- and the other way
 pub leads_to : (lines : List (List ℕ)) (b : Benched) (o : ObeyedBy lines b) → LeadsTo lines o.obeyed.legal.numbers b.journal b.state
-leads_to lines b o = subst (LeadsTo lines o.obeyed.legal.numbers b.journal) o.machines o.obeyed.legal.leads
+leads_to lines b o = subst (LeadsTo lines o.obeyed.legal.numbers b.journal) (o.obeyed.machines o.sound) o.obeyed.legal.leads
 
-pub leaves_by : (lines : List (List ℕ)) (b : Benched) → ObeyedBy lines b → Leaves b
-leaves_by lines b o = let leads = leads_to lines b o in record { given = leads.given; steps = leads.steps; sound = o.sound }
+-- a bench that wants memory behind some lines obeyed them
+pub obeyed_lost : (lines : List (List ℕ)) (old new : Benched) → ObeyedBy lines old → Lost old new → AreObeyed lines new
+obeyed_lost lines old new o lost =
+    let P : List Entry → Type 0 = λ js. (legal : Legal lines js) × AllByRecursion (λ j. j ≡ no_joins) legal.numbers
+    × ((other : List Entry) (last : State) → LeadsTo lines legal.numbers other last → other ≡ js) × LinksAccept legal.numbers js
+    × (new.spoiled ≡ false → legal.last ≡ new.state) in
+    let it : P new.journal = subst P (sym lost.journal)
+    (o.obeyed.legal, o.obeyed.most, o.obeyed.only, o.obeyed.links, λ sound. o.obeyed.machines o.sound ∙ ap (λ (b : Benched). b.state) (sym (lost.machines sound))) in
+    record { legal = it.0; most = it.1; only = it.2; links = it.3; machines = it.4 }
 
 -- one more line is obeyed
-pub obeyed_more : (ls : List (List ℕ)) (old new : Benched) (l : List ℕ) (n : ℕ) → ObeyedBy ls old → Follows old new n l → n ≡ 1 + length ls → n ≤ most_lines → length l ≤ longest_line → ObeyedBy (ls ++ l ∷ []) new
-obeyed_more ls old new l n obeyed follows at few fits =
+pub obeyed_more : (ls : List (List ℕ)) (old new : Benched) (l : List ℕ) (n : ℕ) → ObeyedBy ls old → Follows old new n l → n ≡ 1 + length ls → ObeyedBy (ls ++ l ∷ []) new
+obeyed_more ls old new l n obeyed follows at =
     obeyed_by (ls ++ l ∷ []) (obeyed.obeyed.legal.numbers ++ map (λ (g : Given). g.joins) follows.given) new (legal_more ls obeyed.obeyed.legal.numbers old new l n (leads_to ls old obeyed) follows at)
-    (all_append (λ j. j ≡ no_joins) obeyed.obeyed.legal.numbers (map (λ (g : Given). g.joins) follows.given) obeyed.obeyed.most (most_given follows.given follows.most)) (limits_more ls l obeyed.obeyed.limits (omega arith) fits) follows.sound
+    (all_append (λ j. j ≡ no_joins) obeyed.obeyed.legal.numbers (map (λ (g : Given). g.joins) follows.given) obeyed.obeyed.most (most_given follows.given follows.most)) follows.sound
 
 -- The lines that a reader gave are obeyed, and their entries written; the next line has this number. What was read is these lines
 -- and what the reader holds, and whatever follows belongs to what it holds; at the source's end nothing follows.
@@ -77,6 +82,7 @@ pub record Progress (quiet : Bool) (left left' : Option (List ℕ)) (reader : Li
   pub lines : (more : List ℕ) → (reader.is_ended ≡ true → more ≡ []) → lines_of (text ++ more) ≡ done ++ lines_of (reader.held ++ more)
   pub whole : (more : List ℕ) → reader.is_ended ≡ false → whole_lines (text ++ more) ≡ done ++ whole_lines (reader.held ++ more)
   pub ended : reader.is_ended ≡ true → IfSome left' (λ rest. rest ≡ [])
+  pub limits : AreWithinLimits done
   pub obeyed : ObeyedBy done bench
   pub number : n ≡ 1 + length done
   pub written : taken' ≡ with_end taken (report_text quiet bench.journal)
@@ -93,6 +99,7 @@ progress_start quiet left t a b new none =
       lines = λ more follows. refl;
       whole = λ more going. refl;
       ended = λ over. absurd cc;
+      limits = no_limits;
       obeyed = obeyed_new;
       number = refl;
       written = written_none quiet t;
@@ -151,7 +158,7 @@ in_time quiet left mid left' a j n t t1 text p few f =
             front = p.text ++ w.front;
             chunk = w.chunk;
             read = read_on left mid left' p.text f.got p.read f.read ∙ ap (λ x. with_front x left') (ap (λ x. p.text ++ x) w.parts ∙ sym (append_assoc p.text w.front w.chunk));
-            short = subst W (sym lines) (limits_begun p.done (a.held ++ w.front) p.obeyed.obeyed.limits (omega arith) w.none w.short);
+            short = subst W (sym lines) (limits_begun p.done (a.held ++ w.front) p.limits (omega arith) w.none w.short);
             size = w.size;
           })
     ]
@@ -213,25 +220,26 @@ gave_next quiet left mid left' a m j n t t1 p few adv =
 
 -- it is obeyed
 pub progress_more : (quiet : Bool) (left left' : Option (List ℕ)) (m : Lined) (done : List (List ℕ)) (j new : Benched) (n : ℕ) (t t1 t2 : Option (List ℕ))
-    → ObeyedBy done j → n ≡ 1 + length done → t1 ≡ with_end t (report_text quiet j.journal) → GaveNext left left' done m → n ≤ most_lines → LineDone quiet j new n m.line t1 t2
+    → ObeyedBy done j → AreWithinLimits done → n ≡ 1 + length done → t1 ≡ with_end t (report_text quiet j.journal) → GaveNext left left' done m → n ≤ most_lines → LineDone quiet j new n m.line t1 t2
     → Progress quiet left left' m new (n + 1) t t2
-progress_more quiet left left' m done j new n t t1 t2 obeyed number written next few line = record {
+progress_more quiet left left' m done j new n t t1 t2 obeyed limits number written next few line = record {
   text = next.text;
   read = next.read;
   done = done ++ m.line ∷ [];
   lines = λ more follows. next.lines more follows ∙ sym (append_assoc done (m.line ∷ []) (lines_of (m.held ++ more)));
   whole = λ more going. next.whole more going ∙ sym (append_assoc done (m.line ∷ []) (whole_lines (m.held ++ more)));
   ended = next.ended;
-  obeyed = obeyed_more done j new m.line n obeyed line.follows number few next.short;
+  limits = limits_more done m.line limits (omega (arith, number, few)) next.short;
+  obeyed = obeyed_more done j new m.line n obeyed line.follows number;
   number = omega (arith, number, length-append done (m.line ∷ []));
   written = written_more quiet t t1 t2 j.journal new.journal line.follows.entries written line.written line.follows.added;
   time = next.time;
 }
 
--- A line was tried: where memory isn't wanting, the machines are in the state that the journal leaves.
-pub line_leaves : (quiet : Bool) (done : List (List ℕ)) (old new : Benched) (n : ℕ) (l : List ℕ) (t t' : Option (List ℕ)) (w w' : ℕ) (s : Stop)
-    → ObeyedBy done old → n ≡ 1 + length done → n ≤ most_lines → length l ≤ longest_line → LineStops quiet old new n l t t' w w' s → LeavesUnless (Err s) new
-line_leaves quiet done old new n l t t' w w' (Refused m) o at few fits s fed = subst Leaves (sym s.stays) (leaves_by done old o)
-line_leaves quiet done old new n l t t' w w' ReadFault o at few fits s fed = absurd s
-line_leaves quiet done old new n l t t' w w' WriteFault o at few fits s fed = leaves_by (done ++ l ∷ []) new (obeyed_more done old new l n o s.follows at few fits)
-line_leaves quiet done old new n l t t' w w' Memory o at few fits s fed = absurd (fed refl)
+-- A line was tried: unless memory was wanting, the bench isn't spoiled.
+pub line_sound : (quiet : Bool) (old new : Benched) (n : ℕ) (l : List ℕ) (t t' : Option (List ℕ)) (w w' : ℕ) (s : Stop)
+    → old.spoiled ≡ false → LineStops quiet old new n l t t' w w' s → IsSoundUnless (Err s) new
+line_sound quiet old new n l t t' w w' (Refused m) sound s fed = ap (λ (b : Benched). b.spoiled) s.stays ∙ sound
+line_sound quiet old new n l t t' w w' ReadFault sound s fed = absurd s
+line_sound quiet old new n l t t' w w' WriteFault sound s fed = s.follows.sound
+line_sound quiet old new n l t t' w w' Memory sound s fed = absurd (fed refl)

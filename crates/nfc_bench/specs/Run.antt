@@ -15,9 +15,9 @@ use Rattle.nfc_bench.specs.declared.top.words.Form.{Form}
 use Rattle.nfc_bench.specs.declared.top.words.Form.TheVariants.{Run, Make}
 use Rattle.nfc_bench.specs.declared.top.program.WordsFault.{WordsFault}
 use Rattle.nfc_bench.specs.declared.top.program.WordsFault.TheVariants.{Memory, NoText}
-use Rattle.bench_world.specs.Legal.{State, Given, Joins, EachLegal, first_state, no_joins}
+use Rattle.bench_world.specs.Legal.{State, no_joins}
 use Rattle.bench_world.specs.Obeying.{Benched}
-use Rattle.bench_world.specs.Journal.{LeadsTo, Legal, AgreeFor}
+use Rattle.bench_world.specs.Journal.{LeadsTo, Legal}
 use Rattle.bench_world.specs.LinkLaw.{LinksAccept}
 use Rattle.bench_world.specs.Taking.{IsTaken, AreTaken, standing_of}
 use Rattle.bench_world.specs.Report.{entry_text, report_text}
@@ -61,43 +61,39 @@ read_fault = codes "fault 3 read\n"
 abbrev pub line_fault : ℕ → List ℕ
 line_fault n = codes "fault 2 line " ++ decimal n ++ codes "\n"
 
--- These lines were obeyed, and this is their journal: it is legal where both ends of a link join as many PDUs as fit in
--- each payload, and no other one is, by numbers of PDUs that are the same wherever a command may take any. And it keeps
--- the law of links.
-pub record AreObeyed (lines : List (List ℕ)) (journal : List Entry) : Type 0 where
-  pub legal : Legal lines journal
+-- A bench obeyed these lines: its journal is legal for them where both ends of a link join as many PDUs as fit in each
+-- payload, no other one is by the same numbers of PDUs, and it keeps the law of links. Unless want of memory spoiled the
+-- bench, its machines are in the state that the journal leads to by these numbers.
+pub record AreObeyed (lines : List (List ℕ)) (b : Benched) : Type 0 where
+  pub legal : Legal lines b.journal
   pub most : AllByRecursion (λ j. j ≡ no_joins) legal.numbers
-  pub only : (other : List Entry) (numbers : List Joins) (last : State) → LeadsTo lines numbers other last → AgreeFor journal legal.numbers numbers → other ≡ journal
-  pub limits : AreWithinLimits lines
-  pub links : LinksAccept legal.numbers journal
+  pub only : (other : List Entry) (last : State) → LeadsTo lines legal.numbers other last → other ≡ b.journal
+  pub links : LinksAccept legal.numbers b.journal
+  pub machines : b.spoiled ≡ false → legal.last ≡ b.state
 
--- The first of these lines were obeyed, and this is their journal.
-pub record FrontIsObeyed (lines : List (List ℕ)) (journal : List Entry) : Type 0 where
+-- It obeyed the first of these lines, which are within the limits.
+pub record FrontIsObeyed (lines : List (List ℕ)) (b : Benched) : Type 0 where
   pub front : List (List ℕ)
   pub rest : List (List ℕ)
   pub parts : lines ≡ front ++ rest
-  pub obeyed : AreObeyed front journal
-
--- The machines are in the state that the journal leaves.
-pub record Leaves (b : Benched) : Type 0 where
-  pub given : List Given
-  pub steps : EachLegal first_state given b.journal b.state
-  pub sound : b.spoiled ≡ false
+  pub limits : AreWithinLimits front
+  pub obeyed : AreObeyed front b
 
 -- Line n is refused behind what stands there: for its number, for its length, or as it stands.
 abbrev pub IsRefused : State → ℕ → List ℕ → Type 0
 IsRefused s n line = (most_lines < n) ⊎ ((longest_line < length line) ⊎ (IsTaken s line → ⊥))
 
 -- Line n is the first of these lines that is refused: those before it are taken, and it isn't behind what they spell.
--- They were obeyed, and this is their journal.
-pub record FirstRefused (lines : List (List ℕ)) (journal : List Entry) (n : ℕ) : Type 0 where
+-- They were obeyed, and are within the limits.
+pub record FirstRefused (lines : List (List ℕ)) (b : Benched) (n : ℕ) : Type 0 where
   pub before : List (List ℕ)
   pub line : List ℕ
   pub after : List (List ℕ)
   pub parts : lines ≡ before ++ line ∷ after
   pub commands : List Command
   pub taken : AreTaken before commands
-  pub obeyed : AreObeyed before journal
+  pub limits : AreWithinLimits before
+  pub obeyed : AreObeyed before b
   pub number : n ≡ 1 + length before
   pub refused : IsRefused (standing_of commands) n line
 
@@ -109,29 +105,31 @@ pub record AllTaken (lines : List (List ℕ)) : Type 0 where
 
 -- Which lines count. There is an input; it is the source's, where the source tells its bytes.
 
--- the input was read to its end, and all its lines were obeyed
-pub record ObeysAll (left left' : Option (List ℕ)) (journal : List Entry) : Type 0 where
+-- the input was read to its end, and all its lines are within the limits, and were obeyed
+pub record ObeysAll (left left' : Option (List ℕ)) (b : Benched) : Type 0 where
   pub input : List ℕ
   pub told : IfSome left (λ bytes. (input ≡ bytes) × (left' ≡ Some []))
-  pub obeyed : AreObeyed (lines_of input) journal
+  pub limits : AreWithinLimits (lines_of input)
+  pub obeyed : AreObeyed (lines_of input) b
 
 -- line n of the input is the first that is refused
-pub record RefusesLine (left : Option (List ℕ)) (journal : List Entry) (n : ℕ) : Type 0 where
+pub record RefusesLine (left : Option (List ℕ)) (b : Benched) (n : ℕ) : Type 0 where
   pub input : List ℕ
   pub told : IfSome left (λ bytes. input ≡ bytes)
-  pub first : FirstRefused (lines_of input) journal n
+  pub first : FirstRefused (lines_of input) b n
 
--- some bytes were read, and their whole lines were obeyed
-pub record ObeysWhole (left left' : Option (List ℕ)) (journal : List Entry) : Type 0 where
+-- some bytes were read, and their whole lines are within the limits, and were obeyed
+pub record ObeysWhole (left left' : Option (List ℕ)) (b : Benched) : Type 0 where
   pub read : List ℕ
   pub told : left ≡ with_front read left'
-  pub obeyed : AreObeyed (whole_lines read) journal
+  pub limits : AreWithinLimits (whole_lines read)
+  pub obeyed : AreObeyed (whole_lines read) b
 
 -- the first lines of the input were obeyed
-pub record ObeysFront (left : Option (List ℕ)) (journal : List Entry) : Type 0 where
+pub record ObeysFront (left : Option (List ℕ)) (b : Benched) : Type 0 where
   pub input : List ℕ
   pub told : IfSome left (λ bytes. input ≡ bytes)
-  pub obeyed : FrontIsObeyed (lines_of input) journal
+  pub obeyed : FrontIsObeyed (lines_of input) b
 
 -- The sink gained the report and the fault line, or, where its count rose, the report and a front of that line.
 abbrev pub AddsFault : List ℕ → List ℕ → Option (List ℕ) → Option (List ℕ) → ℕ → ℕ → Type 0
@@ -139,35 +137,35 @@ AddsFault report fault taken taken' writes writes' =
     (taken' ≡ with_end taken (report ++ fault)) ⊎ (HasRisen writes writes' × GainsFront (with_end taken report) taken' fault)
 
 -- Status 0: every line was obeyed, and its entry written.
-pub record EndsDone (quiet : Bool) (left left' taken taken' : Option (List ℕ)) (journal : List Entry) : Type 0 where
-  pub lines : ObeysAll left left' journal
-  pub written : taken' ≡ with_end taken (report_text quiet journal)
+pub record EndsDone (quiet : Bool) (left left' taken taken' : Option (List ℕ)) (b : Benched) : Type 0 where
+  pub lines : ObeysAll left left' b
+  pub written : taken' ≡ with_end taken (report_text quiet b.journal)
 
 -- Status 2: a line was the first that is refused.
-pub record EndsRefused (quiet : Bool) (left taken taken' : Option (List ℕ)) (writes writes' : ℕ) (journal : List Entry) : Type 0 where
+pub record EndsRefused (quiet : Bool) (left taken taken' : Option (List ℕ)) (writes writes' : ℕ) (b : Benched) : Type 0 where
   pub number : ℕ
-  pub lines : RefusesLine left journal number
-  pub written : AddsFault (report_text quiet journal) (line_fault number) taken taken' writes writes'
+  pub lines : RefusesLine left b number
+  pub written : AddsFault (report_text quiet b.journal) (line_fault number) taken taken' writes writes'
 
 -- Status 3: the source failed, behind some bytes.
-pub record EndsUnread (quiet : Bool) (left left' taken taken' : Option (List ℕ)) (reads reads' writes writes' : ℕ) (journal : List Entry) : Type 0 where
+pub record EndsUnread (quiet : Bool) (left left' taken taken' : Option (List ℕ)) (reads reads' writes writes' : ℕ) (b : Benched) : Type 0 where
   pub risen : HasRisen reads reads'
-  pub lines : ObeysWhole left left' journal
-  pub written : AddsFault (report_text quiet journal) read_fault taken taken' writes writes'
+  pub lines : ObeysWhole left left' b
+  pub written : AddsFault (report_text quiet b.journal) read_fault taken taken' writes writes'
 
 -- Status 4: the sink failed, within the text of the last entry.
-pub record EndsUnwritten (quiet : Bool) (left taken taken' : Option (List ℕ)) (writes writes' : ℕ) (journal : List Entry) : Type 0 where
+pub record EndsUnwritten (quiet : Bool) (left taken taken' : Option (List ℕ)) (writes writes' : ℕ) (b : Benched) : Type 0 where
   pub risen : HasRisen writes writes'
-  pub lines : ObeysFront left journal
+  pub lines : ObeysFront left b
   pub before : List Entry
   pub last : Entry
-  pub entries : journal ≡ before ++ last ∷ []
+  pub entries : b.journal ≡ before ++ last ∷ []
   pub written : GainsFront (with_end taken (report_text quiet before)) taken' (entry_text quiet last)
 
 -- Status 5: memory was wanting. All entries were written.
-pub record EndsMemory (quiet : Bool) (left taken taken' : Option (List ℕ)) (writes writes' : ℕ) (journal : List Entry) : Type 0 where
-  pub lines : ObeysFront left journal
-  pub written : AddsFault (report_text quiet journal) memory_fault taken taken' writes writes'
+pub record EndsMemory (quiet : Bool) (left taken taken' : Option (List ℕ)) (writes writes' : ℕ) (b : Benched) : Type 0 where
+  pub lines : ObeysFront left b
+  pub written : AddsFault (report_text quiet b.journal) memory_fault taken taken' writes writes'
 
 -- So much was read: some bytes in which no line is refused for its number or its length, and behind them at most those
 -- of one call.
@@ -194,32 +192,34 @@ Completes old new n =
 -- last, by its status.
 pub record RanScript {S : Type 0} (quiet : Bool) (old new : Seen S) (n : ℕ) : Type 0 where
   pub status : (n ≡ 0) ⊎ ((2 ≤ n) × (n ≤ 5))
-  pub done : n ≡ 0 → EndsDone quiet old.left new.left old.taken new.taken new.bench.journal
+  pub done : n ≡ 0 → EndsDone quiet old.left new.left old.taken new.taken new.bench
   pub still : n ≡ 0 → (new.reads ≡ old.reads) × (new.writes ≡ old.writes)
-  pub refused : n ≡ 2 → EndsRefused quiet old.left old.taken new.taken old.writes new.writes new.bench.journal
-  pub unread : n ≡ 3 → EndsUnread quiet old.left new.left old.taken new.taken old.reads new.reads old.writes new.writes new.bench.journal
-  pub unwritten : n ≡ 4 → EndsUnwritten quiet old.left old.taken new.taken old.writes new.writes new.bench.journal
-  pub memory : n ≡ 5 → EndsMemory quiet old.left old.taken new.taken old.writes new.writes new.bench.journal
+  pub refused : n ≡ 2 → EndsRefused quiet old.left old.taken new.taken old.writes new.writes new.bench
+  pub unread : n ≡ 3 → EndsUnread quiet old.left new.left old.taken new.taken old.reads new.reads old.writes new.writes new.bench
+  pub unwritten : n ≡ 4 → EndsUnwritten quiet old.left old.taken new.taken old.writes new.writes new.bench
+  pub memory : n ≡ 5 → EndsMemory quiet old.left old.taken new.taken old.writes new.writes new.bench
   pub complete : Completes old new n
-  -- unless memory was wanting, the machines are in the state that the journal leaves
-  pub machines : (n ≡ 5 → ⊥) → Leaves new.bench
+  -- nothing but want of memory spoils the bench
+  pub sound : (n ≡ 5 → ⊥) → new.bench.spoiled ≡ false
   pub stop : ReadsInTime old.left new.left
   pub bound : ReadsAtMost most_read old.left new.left
 
 -- A run over a workload. Status 0: every line was obeyed, and the line about them written.
-pub record EndsMade (seed count : ℕ) (taken taken' : Option (List ℕ)) (journal : List Entry) : Type 0 where
-  pub obeyed : AreObeyed (workload_lines seed count) journal
-  pub written : taken' ≡ with_end taken (made_line seed count journal)
+pub record EndsMade (seed count : ℕ) (taken taken' : Option (List ℕ)) (b : Benched) : Type 0 where
+  pub limits : AreWithinLimits (workload_lines seed count)
+  pub obeyed : AreObeyed (workload_lines seed count) b
+  pub written : taken' ≡ with_end taken (made_line seed count b.journal)
 
 -- Status 4: every line was obeyed, and the sink failed within the line about them.
-pub record EndsUntold (seed count : ℕ) (taken taken' : Option (List ℕ)) (writes writes' : ℕ) (journal : List Entry) : Type 0 where
+pub record EndsUntold (seed count : ℕ) (taken taken' : Option (List ℕ)) (writes writes' : ℕ) (b : Benched) : Type 0 where
   pub risen : HasRisen writes writes'
-  pub obeyed : AreObeyed (workload_lines seed count) journal
-  pub written : GainsFront taken taken' (made_line seed count journal)
+  pub limits : AreWithinLimits (workload_lines seed count)
+  pub obeyed : AreObeyed (workload_lines seed count) b
+  pub written : GainsFront taken taken' (made_line seed count b.journal)
 
 -- Status 5: memory was wanting, and nothing was told of the lines that were obeyed.
-pub record EndsUnmade (seed count : ℕ) (taken taken' : Option (List ℕ)) (writes writes' : ℕ) (journal : List Entry) : Type 0 where
-  pub obeyed : FrontIsObeyed (workload_lines seed count) journal
+pub record EndsUnmade (seed count : ℕ) (taken taken' : Option (List ℕ)) (writes writes' : ℕ) (b : Benched) : Type 0 where
+  pub obeyed : FrontIsObeyed (workload_lines seed count) b
   pub written : AddsFault [] memory_fault taken taken' writes writes'
 
 -- What a run over a workload did: no line is refused, whatever happens to the frames, and the source is left as it was.
@@ -227,13 +227,13 @@ pub record RanWorkload {S : Type 0} (seed count : ℕ) (old new : Seen S) (n : �
   pub status : (n ≡ 0) ⊎ ((n ≡ 4) ⊎ (n ≡ 5))
   pub lines : AreTaken (workload_lines seed count) (workload_commands seed count)
   pub source : new.source ≡ old.source
-  pub done : n ≡ 0 → EndsMade seed count old.taken new.taken new.bench.journal
+  pub done : n ≡ 0 → EndsMade seed count old.taken new.taken new.bench
   pub still : n ≡ 0 → new.writes ≡ old.writes
-  pub unwritten : n ≡ 4 → EndsUntold seed count old.taken new.taken old.writes new.writes new.bench.journal
-  pub memory : n ≡ 5 → EndsUnmade seed count old.taken new.taken old.writes new.writes new.bench.journal
+  pub unwritten : n ≡ 4 → EndsUntold seed count old.taken new.taken old.writes new.writes new.bench
+  pub memory : n ≡ 5 → EndsUnmade seed count old.taken new.taken old.writes new.writes new.bench
   pub complete : (HasRisen old.writes new.writes → ⊥) → (n ≡ 0) ⊎ (n ≡ 5)
-  -- unless memory was wanting, the machines are in the state that the journal leaves
-  pub machines : (n ≡ 5 → ⊥) → Leaves new.bench
+  -- nothing but want of memory spoils the bench
+  pub sound : (n ≡ 5 → ⊥) → new.bench.spoiled ≡ false
 
 -- What a run of a form did: which statuses there are and what each means is the form's own.
 abbrev pub RanAs : {S : Type 0} → Form → Seen S → Seen S → ℕ → Type 0

@@ -11,7 +11,7 @@ use Rattle.bench_world.specs.Obeying.{Benched}
 use Rattle.bench_world.specs.Journal.{Numbered}
 use Rattle.bench_world.specs.Taking.{IsTaken}
 use Rattle.bench_world.specs.Report.{entry_text, report_text}
-use Rattle.nfc_bench.specs.Run.{Leaves, AreObeyed, ObeysFront, RefusesLine, ObeysWhole, EndsUnwritten}
+use Rattle.nfc_bench.specs.Run.{AreObeyed, ObeysFront, RefusesLine, ObeysWhole, EndsUnwritten}
 
 -- A line was obeyed: the journal gained its entry, if it asks for something, and the machines are in the state behind
 -- that. As many PDUs as fit were joined in each payload.
@@ -54,9 +54,14 @@ pub record LineCut (quiet : Bool) (old new : Benched) (n : ℕ) (l : List ℕ) (
   pub written : GainsFront taken taken' (entry_text quiet entry)
   pub risen : HasRisen writes writes'
 
--- Memory was wanting: the journal stays, and nothing was written.
-pub record LineLost (old new : Benched) (taken taken' : Option (List ℕ)) : Type 0 where
+-- Memory was wanting: the journal stays, and so do the machines of a bench that isn't spoiled.
+pub record Lost (old new : Benched) : Type 0 where
   pub journal : new.journal ≡ old.journal
+  pub machines : new.spoiled ≡ false → new ≡ old
+
+-- ... and nothing was written
+pub record LineLost (old new : Benched) (taken taken' : Option (List ℕ)) : Type 0 where
+  pub lost : Lost old new
   pub same : taken' ≡ taken
 
 -- why a line ended the run
@@ -66,37 +71,43 @@ LineStops quiet old new n l t t' w w' ReadFault = ⊥
 LineStops quiet old new n l t t' w w' WriteFault = LineCut quiet old new n l t t' w w'
 LineStops quiet old new n l t t' w w' Memory = LineLost old new t t'
 
--- These lines were obeyed by a bench, whose machines are in the state that its journal leaves.
+-- A bench that isn't spoiled obeyed these lines.
 pub record ObeyedBy (lines : List (List ℕ)) (b : Benched) : Type 0 where
-  pub obeyed : AreObeyed lines b.journal
-  pub machines : obeyed.legal.last ≡ b.state
+  pub obeyed : AreObeyed lines b
   pub sound : b.spoiled ≡ false
 
--- a run that isn't short of memory leaves the machines so
-abbrev pub LeavesUnless : Result (Unit {0}) Stop → Benched → Type 0
-LeavesUnless r b = (r ≡ Err Memory → ⊥) → Leaves b
+-- A bench obeyed the first of these lines.
+pub record FirstAreObeyed (lines : List (List ℕ)) (b : Benched) : Type 0 where
+  pub front : List (List ℕ)
+  pub rest : List (List ℕ)
+  pub parts : lines ≡ front ++ rest
+  pub obeyed : AreObeyed front b
+
+-- a run that isn't short of memory spoils nothing
+abbrev pub IsSoundUnless : Result (Unit {0}) Stop → Benched → Type 0
+IsSoundUnless r b = (r ≡ Err Memory → ⊥) → b.spoiled ≡ false
 
 -- the last entry
 abbrev pub IsLast : List Entry → Entry → Type 0
 IsLast journal entry = (js : List Entry) (e : Entry) → journal ≡ js ++ e ∷ [] → entry ≡ e
 
 -- What a run did before it writes a fault line.
-pub record RunRefused (quiet : Bool) (left taken taken' : Option (List ℕ)) (journal : List Entry) (n : ℕ) : Type 0 where
-  pub lines : RefusesLine left journal n
-  pub written : taken' ≡ with_end taken (report_text quiet journal)
+pub record RunRefused (quiet : Bool) (left taken taken' : Option (List ℕ)) (b : Benched) (n : ℕ) : Type 0 where
+  pub lines : RefusesLine left b n
+  pub written : taken' ≡ with_end taken (report_text quiet b.journal)
 
-pub record RunUnread (quiet : Bool) (left left' taken taken' : Option (List ℕ)) (reads reads' : ℕ) (journal : List Entry) : Type 0 where
+pub record RunUnread (quiet : Bool) (left left' taken taken' : Option (List ℕ)) (reads reads' : ℕ) (b : Benched) : Type 0 where
   pub risen : HasRisen reads reads'
-  pub lines : ObeysWhole left left' journal
-  pub written : taken' ≡ with_end taken (report_text quiet journal)
+  pub lines : ObeysWhole left left' b
+  pub written : taken' ≡ with_end taken (report_text quiet b.journal)
 
-pub record RunLost (quiet : Bool) (left taken taken' : Option (List ℕ)) (journal : List Entry) : Type 0 where
-  pub lines : ObeysFront left journal
-  pub written : taken' ≡ with_end taken (report_text quiet journal)
+pub record RunLost (quiet : Bool) (left taken taken' : Option (List ℕ)) (b : Benched) : Type 0 where
+  pub lines : ObeysFront left b
+  pub written : taken' ≡ with_end taken (report_text quiet b.journal)
 
 -- why a run stopped
-abbrev pub RunStops : Bool → Option (List ℕ) → Option (List ℕ) → Option (List ℕ) → Option (List ℕ) → ℕ → ℕ → ℕ → ℕ → List Entry → Stop → Type 0
-RunStops quiet left left' t t' r r' w w' journal (Refused n) = RunRefused quiet left t t' journal n
-RunStops quiet left left' t t' r r' w w' journal ReadFault = RunUnread quiet left left' t t' r r' journal
-RunStops quiet left left' t t' r r' w w' journal WriteFault = EndsUnwritten quiet left t t' w w' journal
-RunStops quiet left left' t t' r r' w w' journal Memory = RunLost quiet left t t' journal
+abbrev pub RunStops : Bool → Option (List ℕ) → Option (List ℕ) → Option (List ℕ) → Option (List ℕ) → ℕ → ℕ → ℕ → ℕ → Benched → Stop → Type 0
+RunStops quiet left left' t t' r r' w w' b (Refused n) = RunRefused quiet left t t' b n
+RunStops quiet left left' t t' r r' w w' b ReadFault = RunUnread quiet left left' t t' r r' b
+RunStops quiet left left' t t' r r' w w' b WriteFault = EndsUnwritten quiet left t t' w w' b
+RunStops quiet left left' t t' r r' w w' b Memory = RunLost quiet left t t' b

@@ -4,7 +4,7 @@ ghost use Rattle.std.specs.Prelude.{map, string_bytes, ◌⊎◌, ◌≡◌, ◌
 ghost use Rattle.nfc_io.specs.Counts.{HasRisen};
 ghost use Rattle.nfc_io.specs.Lines.{lines_of};
 ghost use Rattle.nfc_bench.specs.Limits.{most_read};
-ghost use Rattle.nfc_bench.specs.Run.{Ran, sees, line_fault, AllTaken, AddsFault, Leaves, EndsDone, EndsRefused, EndsUnread, EndsUnwritten, EndsMemory, ReadsInTime, ReadsAtMost};
+ghost use Rattle.nfc_bench.specs.Run.{Ran, sees, line_fault, AllTaken, AddsFault, EndsDone, EndsRefused, EndsUnread, EndsUnwritten, EndsMemory, ReadsInTime, ReadsAtMost};
 ghost use Rattle.bench_world.specs.Obeying.{new_bench};
 
 #[cfg(test)]
@@ -84,22 +84,22 @@ fn run_and_tell<S: Source, K: Sink>(
     ensures status { (result ≡ 0) ⊎ ((2 ≤ result) × (result ≤ 5)) }
 
     ensures done { result ≡ 0 → EndsDone quiet (S.left source.old)
-        (S.left source.new) (K.taken sink.old) (K.taken sink.new) bench.new.journal }
+        (S.left source.new) (K.taken sink.old) (K.taken sink.new) bench.new }
     ensures still { result ≡ 0 → (S.faults source.new ≡ S.faults source.old) × (K.faults sink.new ≡ K.faults sink.old) }
     ensures refused { result ≡ 2 → EndsRefused quiet (S.left source.old)
-        (K.taken sink.old) (K.taken sink.new) (K.faults sink.old) (K.faults sink.new) bench.new.journal }
+        (K.taken sink.old) (K.taken sink.new) (K.faults sink.old) (K.faults sink.new) bench.new }
     ensures unread { result ≡ 3 → EndsUnread quiet (S.left source.old)
         (S.left source.new) (K.taken sink.old) (K.taken sink.new) (S.faults source.old) (S.faults source.new)
-        (K.faults sink.old) (K.faults sink.new) bench.new.journal }
+        (K.faults sink.old) (K.faults sink.new) bench.new }
     ensures unwritten { result ≡ 4 → EndsUnwritten quiet (S.left source.old)
-        (K.taken sink.old) (K.taken sink.new) (K.faults sink.old) (K.faults sink.new) bench.new.journal }
+        (K.taken sink.old) (K.taken sink.new) (K.faults sink.old) (K.faults sink.new) bench.new }
     ensures memory { result ≡ 5 → EndsMemory quiet (S.left source.old)
-        (K.taken sink.old) (K.taken sink.new) (K.faults sink.old) (K.faults sink.new) bench.new.journal }
+        (K.taken sink.old) (K.taken sink.new) (K.faults sink.old) (K.faults sink.new) bench.new }
     ensures complete { (bytes : List ℕ) → S.left source.old ≡ Some bytes
         → AllTaken (lines_of bytes) → (HasRisen (S.faults source.old) (S.faults source.new) → ⊥)
         → (HasRisen (K.faults sink.old) (K.faults sink.new) → ⊥) → (result ≡ 0) ⊎ (result ≡ 5) }
 
-    ensures machines { (result ≡ 5 → ⊥) → Leaves bench.new }
+    ensures sound { (result ≡ 5 → ⊥) → bench.new.spoiled ≡ false }
 
     ensures stop { ReadsInTime (S.left source.old) (S.left source.new) }
     ensures bound { ReadsAtMost most_read (S.left source.old) (S.left source.new) }

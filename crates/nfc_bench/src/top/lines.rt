@@ -2,7 +2,7 @@
 
 ghost use Rattle.std.specs.Prelude.{◌≡◌, ◌<◌, ◌≤◌, length, OnOk, IfErr};
 ghost use Rattle.nfc_bench.specs.Run.{EndsDone, ReadsInTime};
-ghost use Rattle.nfc_bench.specs.Stops.{IsLast, LineDone, LineStops, RunStops, LeavesUnless};
+ghost use Rattle.nfc_bench.specs.Stops.{IsLast, LineDone, LineStops, RunStops, IsSoundUnless};
 ghost use Rattle.bench_world.specs.Obeying.{new_bench};
 
 use super::obeying::obey_text;
@@ -72,13 +72,13 @@ pub fn run_script<S: Source, K: Sink>(
 ) -> Result<(), Stop>
     requires { bench.old ≡ new_bench }
     ensures ok { OnOk result (EndsDone quiet (S.left source.old) (S.left source.new) (K.taken sink.old)
-        (K.taken sink.new) bench.new.journal) }
+        (K.taken sink.new) bench.new) }
     ensures still { OnOk result ((S.faults source.new ≡ S.faults source.old)
         × (K.faults sink.new ≡ K.faults sink.old)) }
     ensures err { IfErr result
         (λ s. RunStops quiet (S.left source.old) (S.left source.new) (K.taken sink.old) (K.taken sink.new)
-        (S.faults source.old) (S.faults source.new) (K.faults sink.old) (K.faults sink.new) bench.new.journal s) }
-    ensures machines { LeavesUnless result bench.new }
+        (S.faults source.old) (S.faults source.new) (K.faults sink.old) (K.faults sink.new) bench.new s) }
+    ensures sound { IsSoundUnless result bench.new }
     ensures stop { ReadsInTime (S.left source.old) (S.left source.new) }
     ensures reads { S.faults source.old ≤ S.faults source.new }
     ensures writes { K.faults sink.old ≤ K.faults sink.new }

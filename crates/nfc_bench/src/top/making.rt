@@ -6,7 +6,7 @@ ghost use Rattle.bench_world.specs.Obeying.{new_bench};
 ghost use Rattle.bench_world.specs.Taking.{AreTaken};
 ghost use Rattle.workload.specs.Workload.{IsCount, workload_lines, workload_commands};
 ghost use Rattle.nfc_bench.specs.Made.{tally_line};
-ghost use Rattle.nfc_bench.specs.Run.{Leaves, EndsMade, EndsUntold, EndsUnmade};
+ghost use Rattle.nfc_bench.specs.Run.{EndsMade, EndsUntold, EndsUnmade};
 
 use super::counting::{Tally, tally_of};
 use super::obeying::{Lines, obey_all};
@@ -68,14 +68,14 @@ pub fn make_and_tell<K: Sink>(
     requires valid { IsCount count }
     ensures status { (result ≡ 0) ⊎ ((result ≡ 4) ⊎ (result ≡ 5)) }
     ensures lines { AreTaken (workload_lines seed count) (workload_commands seed count) }
-    ensures done { result ≡ 0 → EndsMade seed count (K.taken sink.old) (K.taken sink.new) bench.new.journal }
+    ensures done { result ≡ 0 → EndsMade seed count (K.taken sink.old) (K.taken sink.new) bench.new }
     ensures still { result ≡ 0 → K.faults sink.new ≡ K.faults sink.old }
     ensures unwritten { result ≡ 4 → EndsUntold seed count (K.taken sink.old) (K.taken sink.new)
-        (K.faults sink.old) (K.faults sink.new) bench.new.journal }
+        (K.faults sink.old) (K.faults sink.new) bench.new }
     ensures memory { result ≡ 5 → EndsUnmade seed count (K.taken sink.old) (K.taken sink.new)
-        (K.faults sink.old) (K.faults sink.new) bench.new.journal }
+        (K.faults sink.old) (K.faults sink.new) bench.new }
     ensures complete { (HasRisen (K.faults sink.old) (K.faults sink.new) → ⊥) → (result ≡ 0) ⊎ (result ≡ 5) }
-    ensures machines { (result ≡ 5 → ⊥) → Leaves bench.new }
+    ensures sound { (result ≡ 5 → ⊥) → bench.new.spoiled ≡ false }
     ensures writes { K.faults sink.old ≤ K.faults sink.new }
 {
     let Some(workload) = Workload::new(seed, count) else {

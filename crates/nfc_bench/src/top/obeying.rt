@@ -1,12 +1,10 @@
 //! Obeying lines, one by one.
 
 ghost use Rattle.std.specs.Prelude.{◌≡◌, ◌<◌, [], ℕ, List, length, slice_index_or, IfOk, OnOk, IsErrOf};
-ghost use Rattle.bench_script.specs.Limits.{AreWithinLimits};
 ghost use Rattle.bench_script.specs.declared.command.Command.{Command};
 ghost use Rattle.bench_world.specs.Obeying.{new_bench};
 ghost use Rattle.bench_world.specs.Taking.{IsTaken, AreTaken};
-ghost use Rattle.nfc_bench.specs.Run.{FrontIsObeyed};
-ghost use Rattle.nfc_bench.specs.Stops.{LineObeyed, ObeyedBy};
+ghost ghost use Rattle.nfc_bench.specs.Stops.{FirstAreObeyed, LineObeyed, Lost, ObeyedBy};
 
 use arrayvec::ArrayVec;
 use bench_script::{Command, LineFault, parse_line};
@@ -38,7 +36,7 @@ pub fn obey_text(
     ensures ok { IfOk result (λ asks. LineObeyed bench.old bench.new line text.now asks) }
     ensures refused { IsErrOf result ObeyFault.Refused → (bench.new ≡ bench.old)
         × (IsTaken bench.old.state text.now → ⊥) }
-    ensures memory { IsErrOf result ObeyFault.Memory → bench.new.journal ≡ bench.old.journal }
+    ensures memory { IsErrOf result ObeyFault.Memory → Lost bench.old bench.new }
 {
     let command = match parse_line(alloc, text) {
         Ok(command) => command,
@@ -57,11 +55,10 @@ pub fn obey_text(
 
 /// Obeys lines on a new bench, from the first to the last; where one isn't obeyed, none behind it is.
 pub fn obey_all<L: Lines>(alloc: Global, lines: &L, bench: &mut Bench) -> Result<(), ObeyFault>
-    requires new { bench.old ≡ new_bench }
-    requires limits { AreWithinLimits (L.lines lines.now) }
+    requires { bench.old ≡ new_bench }
     ensures ok { OnOk result (ObeyedBy (L.lines lines.now) bench.new) }
     ensures refused { IsErrOf result ObeyFault.Refused → (cs : List Command) → AreTaken (L.lines lines.now) cs → ⊥ }
-    ensures memory { IsErrOf result ObeyFault.Memory → FrontIsObeyed (L.lines lines.now) bench.new.journal }
+    ensures memory { IsErrOf result ObeyFault.Memory → FirstAreObeyed (L.lines lines.now) bench.new }
 {
     'lines: for place in 0..lines.count() {
         match obey_text(alloc, place + 1, &lines.line(place), bench) {

@@ -5,8 +5,8 @@ use Rattle.bench_world.specs.declared.bench.ObeyFault.{ObeyFault}
 use Rattle.bench_world.specs.declared.bench.ObeyFault.TheVariants as faults
 use Rattle.bench_world.specs.declared.entry.Answer.{Answer}
 use Rattle.bench_script.specs.declared.command.Command.{Command}
-use Rattle.bench_world.specs.Legal.{Accepts}
-use Rattle.bench_world.specs.Obeying.{Machines, IsCutOffBy, joins_for, under, state_at}
+use Rattle.bench_world.specs.Legal.{Accepts, joins_for}
+use Rattle.bench_world.specs.Obeying.{Machines, IsCutOffBy, under, state_at}
 use Rattle.bench_world.specs.declared.inbox.LinkRange.{LinkRange}
 use Rattle.bench_world.specs.World.{FarEnd}
 use Rattle.bench_world.specs.Peers.{Peers}

@@ -23,7 +23,7 @@ returns-in-Some-Run g c =
       unwritten = e.unwritten;
       memory = e.memory;
       complete = e.complete;
-      machines = e.machines;
+      sound = e.sound;
       stop = e.stop;
       bound = e.bound;
     } in
@@ -54,7 +54,7 @@ returns-in-Some-Make g c =
       unwritten = e.unwritten;
       memory = e.memory;
       complete = e.complete;
-      machines = e.machines;
+      sound = e.sound;
     } in
     record {
       ran = record {

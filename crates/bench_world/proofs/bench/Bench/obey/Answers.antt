@@ -1,6 +1,7 @@
 use Rattle.std.proofs.Common.{◌≡◌, ◌++◌, ◌∷◌, [], List, rules, refl, sym, ◌∙◌, ap, subst, Err}
 use Rattle.bench_world.specs.declared.entry.Entry.{Entry}
-use Rattle.bench_world.specs.Obeying.{Obeys, IsSettled, joins_for}
+use Rattle.bench_world.specs.Legal.{joins_for}
+use Rattle.bench_world.specs.Obeying.{Obeys, IsSettled}
 use Rattle.bench_world.proofs.Legality.{untouched}
 use Rattle.bench_world.proofs.Benches.{cut_most, seen, both_ways, spoils, adds_entry, settled_untraced}
 use Rattle.bench_world.proofs.bench.Bench.obey.Goals as goal

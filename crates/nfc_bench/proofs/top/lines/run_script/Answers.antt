@@ -6,13 +6,13 @@ use Rattle.nfc_io.specs.declared.line_reader.LineStop.TheVariants.{ReadFault, To
 use Rattle.bench_world.specs.Obeying.{Benched}
 use Rattle.nfc_bench.specs.Stops.{LineDone, LineStops}
 use Rattle.nfc_bench.proofs.ScriptText.{stops_at_once}
-use Rattle.nfc_bench.proofs.Progress.{GaveNext, progress_start, progress_more, gave_next, in_time, line_leaves}
+use Rattle.nfc_bench.proofs.Progress.{GaveNext, progress_start, progress_more, gave_next, in_time, line_sound}
 use Rattle.nfc_bench.proofs.Endings.{lost_at_once, unread_next, too_long, too_many, looks_in_time, line_stops}
 use Rattle.nfc_bench.proofs.top.lines.run_script.Goals as goal
 
 pub returns-in_default-clause-err : goal.returns-in_default-clause-err
 returns-in_default-clause-err g c =
-    lost_at_once c.args.quiet (g.S.Source.left c.args.source.now) (g.K.Sink.taken c.args.sink.now) c.args.bench.now.journal (ap (λ (b : Benched). b.journal) c.requires)
+    lost_at_once c.args.quiet (g.S.Source.left c.args.source.now) (g.K.Sink.taken c.args.sink.now) c.args.bench.now c.requires
 
 pub returns-in_default-clause-stop : goal.returns-in_default-clause-stop
 returns-in_default-clause-stop g c = stops_at_once (g.S.Source.left c.args.source.now)
@@ -81,27 +81,12 @@ returns-in-Err-clause-err g c =
     let L : List ℕ → Type 0 = λ l. LineStops c.args.quiet c.lines.bench c.obey_line.new.bench c.lines.line l t1 t2 w1 w2 c.in-Err.stop in
     let stops : L m.line = subst L c.line.ensures c.in-Err.ensures.err in
     line_stops c.args.quiet left left' p.done m c.lines.bench c.obey_line.new.bench c.lines.line t t1 t2 (g.S.Source.faults c.args.source.now) (g.S.Source.faults c.advance.new.source) w w1 w2 c.in-Err.stop
-    p.obeyed p.number p.written next few (omega (arith, c.lines.invariant.writes)) stops
+    p.obeyed p.limits p.number p.written next few (omega (arith, c.lines.invariant.writes)) stops
 
-pub returns-in-Err-clause-machines : goal.returns-in-Err-clause-machines
-returns-in-Err-clause-machines g c =
-    let left : Option (List ℕ) = g.S.Source.left c.args.source.now in
-    let mid : Option (List ℕ) = g.S.Source.left c.lines.source in
-    let left' : Option (List ℕ) = g.S.Source.left c.advance.new.source in
-    let t : Option (List ℕ) = g.K.Sink.taken c.args.sink.now in
-    let t1 : Option (List ℕ) = g.K.Sink.taken c.lines.sink in
-    let t2 : Option (List ℕ) = g.K.Sink.taken c.obey_line.new.sink in
-    let w1 : ℕ = g.K.Sink.faults c.lines.sink in
-    let w2 : ℕ = g.K.Sink.faults c.obey_line.new.sink in
-    let m : Lined = c.advance.new.self in
-    let few : c.lines.line ≤ 1000 = omega (arith, c.lines-test.true) in
-    let p = c.lines.invariant.progress in
-    let is : c.in-Ok-true.field-0 ≡ true = cc in
-    let adv : Advances c.lines.reader m mid left' (Ok true) = subst (λ b. Advances c.lines.reader m mid left' (Ok b)) is (c.in-Ok-true.ensures.next c.lines.invariant.going) in
-    let next : GaveNext left left' p.done m = gave_next c.args.quiet left mid left' c.lines.reader m c.lines.bench c.lines.line t t1 p few adv in
-    let L : List ℕ → Type 0 = λ l. LineStops c.args.quiet c.lines.bench c.obey_line.new.bench c.lines.line l t1 t2 w1 w2 c.in-Err.stop in
-    let stops : L m.line = subst L c.line.ensures c.in-Err.ensures.err in
-    line_leaves c.args.quiet p.done c.lines.bench c.obey_line.new.bench c.lines.line m.line t1 t2 w1 w2 c.in-Err.stop p.obeyed p.number few next.short stops
+pub returns-in-Err-clause-sound : goal.returns-in-Err-clause-sound
+returns-in-Err-clause-sound g c =
+    line_sound c.args.quiet c.lines.bench c.obey_line.new.bench c.lines.line c.line.result.now (g.K.Sink.taken c.lines.sink) (g.K.Sink.taken c.obey_line.new.sink)
+    (g.K.Sink.faults c.lines.sink) (g.K.Sink.faults c.obey_line.new.sink) c.in-Err.stop c.lines.invariant.progress.obeyed.sound c.in-Err.ensures.err
 
 pub returns-in-Err-clause-stop : goal.returns-in-Err-clause-stop
 returns-in-Err-clause-stop g c =
@@ -127,7 +112,7 @@ lines-preserved g c =
     let line : L m.line = subst L c.line.ensures c.in-Ok-obey_line.ensures.ok in
     let still : g.S.Source.faults c.advance.new.source ≡ g.S.Source.faults c.lines.source = c.in-Ok-true.ensures.still (λ e. absurd cc) in
     record {
-      progress = progress_more c.args.quiet left left' m p.done c.lines.bench c.obey_line.new.bench c.lines.line t t1 t2 p.obeyed p.number p.written next few line;
+      progress = progress_more c.args.quiet left left' m p.done c.lines.bench c.obey_line.new.bench c.lines.line t t1 t2 p.obeyed p.limits p.number p.written next few line;
       going = adv.came.going;
       few = omega (arith, few);
       reads = still ∙ c.lines.invariant.reads;

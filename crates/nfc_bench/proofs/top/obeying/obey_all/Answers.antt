@@ -8,7 +8,7 @@ use Rattle.nfc_bench.proofs.Obeying.{obeyed_next, taken_next, front_obeyed}
 use Rattle.nfc_bench.proofs.top.obeying.obey_all.Goals as goal
 
 pub lines-init : goal.lines-init
-lines-init g c = record { obeyed = subst (λ b. ObeyedBy [] b) (sym c.requires.new) obeyed_new }
+lines-init g c = record { obeyed = subst (λ b. ObeyedBy [] b) (sym c.requires) obeyed_new }
 
 pub lines-preserved : goal.lines-preserved
 lines-preserved g c =
@@ -17,7 +17,7 @@ lines-preserved g c =
     let same : c.deref.result.now ≡ get_or lines c.lines.place [] = c.deref.ensures.0 ∙ c.line.ensures in
     let follows : Follows c.lines.bench c.obey_text.new.bench (c.lines.place + 1) (get_or lines c.lines.place []) =
     subst (Follows c.lines.bench c.obey_text.new.bench (c.lines.place + 1)) same c.in-Ok.ensures.ok.follows in
-    record { obeyed = obeyed_next lines c.lines.place c.lines.bench c.obey_text.new.bench within c.requires.limits c.lines.invariant.obeyed follows }
+    record { obeyed = obeyed_next lines c.lines.place c.lines.bench c.obey_text.new.bench within c.lines.invariant.obeyed follows }
 
 pub returns-in-Err-clause-refused : goal.returns-in-Err-clause-refused
 returns-in-Err-clause-refused g c = λ is commands taken.
@@ -31,7 +31,7 @@ returns-in-Err-clause-refused g c = λ is commands taken.
 pub returns-in-Err-clause-memory : goal.returns-in-Err-clause-memory
 returns-in-Err-clause-memory g c = λ is.
     let fault : c.in-Err.fault ≡ Memory = cc in
-    front_obeyed (g.L.Lines.lines c.args.lines.now) c.lines.place c.lines.bench c.obey_text.new.bench.journal c.lines.invariant.obeyed (c.in-Err.ensures.memory (ap Err fault))
+    front_obeyed (g.L.Lines.lines c.args.lines.now) c.lines.place c.lines.bench c.obey_text.new.bench c.lines.invariant.obeyed (c.in-Err.ensures.memory (ap Err fault))
 
 pub returns-clause-ok : goal.returns-clause-ok
 returns-clause-ok g c =

@@ -22,3 +22,14 @@ returns-clause-ok c =
     let adds : Adds old new c.args.line c.in-Ok.command = adds_of old new c.args.line c.in-Ok.command c.in-Ok-obey.ensures.ok c.in_default.not-Skip in
     let it = follows_entry old new c.args.line c.args.text.now c.in-Ok.command (asks_something c.args.text.now c.in-Ok.command c.in-Ok.ensures.ok c.in_default.not-Skip) c.in-Ok.ensures.ok adds in
     record { follows = it.0; asked = (adds.entry, it.1) }
+
+-- where memory is wanting
+lost_by : (old new : Benched) (c : Command) → LacksMemory old new c → (v : Bool) → old.spoiled ≡ v → Lost old new
+lost_by old new c lacks true is =
+    let same : new ≡ old = lacks.1 is in record { journal = ap (λ (b : Benched). b.journal) same; machines = λ sound. same }
+lost_by old new c lacks false is =
+    let spoils : Spoils old new c = lacks.0 is in
+    record {
+      journal = ap (λ (b : Benched). b.journal) spoils.is;
+      machines = λ sound. absurd (let clash : true ≡ false = sym (ap (λ (b : Benched). b.spoiled) spoils.is) ∙ sound in cc);
+    }
