@@ -173,13 +173,6 @@ links_stay s joins c es told quiet =
     let S : Peers → Option OpenLink → State = λ p l. record { world = w; queue = queue_after (changed s c).queue es; peers = p; link = l } in
     ap (λ p. S p (link_after s joins c es told)) (same_peers s joins c es told quiet) ∙ ap (S (changed s c).peers) (same_link s joins c es told quiet)
 
--- whichever numbers there are
-pub any_numbers : {told : Option Told} (s t : State) (g : Given) (c : Command) (es : List Event) → (UsesFars c → ⊥) → FrontOf s g c es told t → (ns ms : Joins) → state_after s ns c es told ≡ state_after s ms c es told
-any_numbers {told} s t g c es quiet front ns ms =
-    let q : DoesQuietly devices device_linked peer_ends (changed s c).world es = does_quietly s t g c es quiet front (changed s c).world in
-    let S : WholeWorld → State = λ w. record { world = with_numbers w []; queue = queue_after (changed s c).queue es; peers = (changed s c).peers; link = (changed s c).link } in
-    links_stay s ns c es told quiet ∙ ap S (q.numbers ns.far) ∙ sym (ap S (q.numbers ms.far)) ∙ sym (links_stay s ms c es told quiet)
-
 -- The far ends that are above a field stay in such events.
 stay_long : (ds es : List Device) → AllStayDevices ds es → length es ≡ length ds
 stay_long [] [] p = refl

@@ -31,6 +31,7 @@ pub mod HeldOn
 pub mod ReadBehind
 pub mod OneAnswer
 pub mod QuietHearing
+pub mod Tales
 pub mod OneJournal
 pub mod Shapes
 pub mod Quiet
@@ -68,5 +69,6 @@ pub mod StoriesStand
 pub mod StoriesHere
 pub mod StoriesStep
 pub mod StoriesOnLink
+pub mod SameStories
 pub mod LinkLaw
 pub mod PeersNumbered

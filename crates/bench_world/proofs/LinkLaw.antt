@@ -30,7 +30,7 @@ use Rattle.bench_world.specs.Linking.{LinkTells, link_if, own_general}
 use Rattle.bench_world.specs.LinkLaw.{AreCounted, KeepsLinkLaw, LinksAccept, LinkLaw, TellsInbox, told_by_stories, told_link, told_links, peer_under}
 use Rattle.bench_world.specs.Links.{OpenLink, end_numbered, ended, ended_unless, is_with}
 use Rattle.bench_world.specs.Peers.{Peers, new_end, next_number, placed_under}
-use Rattle.bench_world.specs.Stories.{Story, Stretch, begun_in, first_of, story_if, goes_on, last_goes_on, open_goes_on, puts_in, state_from, stories_behind, stories_from, stretch_of}
+use Rattle.bench_world.specs.Stories.{Story, Stretch, begun_in, first_of, story_if, last_goes_on, open_goes_on, puts_in, state_from, stretch_of, stories_of}
 use Rattle.bench_world.proofs.AtNumbers.{AreHeld, Held, held, held_at, at_number, held_offered, held_under, at_own_place, more_held, same_held, with_held}
 use Rattle.bench_world.proofs.FarStays.{far_stay}
 use Rattle.bench_world.proofs.HeldOn.{nothing_sent}
@@ -41,6 +41,9 @@ use Rattle.bench_world.proofs.StoriesOnLink.{call_over, came_to_end, link_begins
 use Rattle.bench_world.proofs.StoriesStand.{View, at, Closed, Opened, Open, IsInStep, closed_keep, closed_told, open_keep, open_told}
 use Rattle.bench_world.proofs.StoriesStep.{as_many_held, as_many_offered, as_many_with, base_held, many_numbers, no_link, own_below, peer_more, peer_stands, removed_stands, same_link, same_peer, same_tag, tag_more, tag_stands}
 use Rattle.bench_world.proofs.Unlinking.{count_ended, same_numbers}
+use Rattle.bench_world.proofs.Tales.{goes_on, stories_behind, stories_from}
+use Rattle.bench_world.specs.ByPayloads.{IsByPayloads}
+use Rattle.bench_world.proofs.SameStories.{same_from}
 
 abbrev view_by : Peers → List (Option Held) → View
 view_by p ks = record { numbers = p.numbers; placed = next_number p; links = p.links; held = ks }
@@ -403,12 +406,19 @@ all_keep v (Some l) ys stand = (open_keep v l.peer ys stand, stand.opened.base.c
 pub link_law : LinkLaw
 link_law lines numbers journal last leads =
     subst (λ ns. LinksAccept ns journal) leads.joins
-    (let stand = along first_state last leads.given journal [] first_stand leads.steps in
-    let all = all_keep (view_of last) last.link (stories_from first_state [] (map (λ (g : Given). g.joins) leads.given) journal) stand.stand in
+    (let ns : List Joins = map (λ (g : Given). g.joins) leads.given in
+    let ys : List Story = stories_from first_state [] ns journal in
+    let stand = along first_state last leads.given journal [] first_stand leads.steps in
+    let all = all_keep (view_of last) last.link ys stand.stand in
+    let whole : stories_of ns journal ≡ ys =
+    same_from step first_state last leads.given journal [] [] first_stand (subst (λ es. EachLegal first_state leads.given es last) (sym (append-nil journal)) leads.steps) in
     record {
-      accept = all.0;
-      arrived = steps_kept first_state leads.given journal last [] (record { all = tt; going = tt }) leads.steps;
-      linked = all_numbers first_state last leads.given journal [] first_stand leads.steps;
-      counted = all.1;
-      inboxes = λ before e behind id split is. inbox_along first_state last leads.given before e behind [] id first_stand (subst (λ es. EachLegal first_state leads.given es last) split leads.steps) is;
+      accept = subst (AllByRecursion KeepsLinkLaw) (sym whole) all.0;
+      arrived = subst (AllByRecursion IsByPayloads) (sym whole) (steps_kept first_state leads.given journal last [] (record { all = tt; going = tt }) leads.steps);
+      linked = ap (map (λ (y : Story). y.number)) whole ∙ all_numbers first_state last leads.given journal [] first_stand leads.steps;
+      counted = subst (AreCounted 1) (sym whole) all.1;
+      inboxes = λ before e behind id split is.
+          let steps : EachLegal first_state leads.given (before ++ e ∷ behind) last = subst (λ es. EachLegal first_state leads.given es last) split leads.steps in
+          subst (λ zs. TellsInbox (state_from first_state ns before) zs id e.answer) (sym (same_from step first_state last leads.given before (e ∷ behind) [] first_stand steps))
+          (inbox_along first_state last leads.given before e behind [] id first_stand steps is);
     })

@@ -30,11 +30,12 @@ use Rattle.bench_world.specs.Legal.{State, Given, AnswerLaw, EachLegal, GetLaw, 
 use Rattle.bench_world.specs.Linking.{link_if, own_general}
 use Rattle.bench_world.specs.Links.{OpenLink, begun_if, end_numbered, ended_unless, is_number, is_with}
 use Rattle.bench_world.specs.Peers.{Peers, end_offered, new_end, next_number, placed_under, with_place_changed, without_place}
-use Rattle.bench_world.specs.Stories.{Story, Stretch, begun_in, goes_on, open_goes_on, stories_behind, stories_from, stretch_of}
+use Rattle.bench_world.specs.Stories.{Story, Stretch, begun_in, open_goes_on, stretch_of}
 use Rattle.bench_world.proofs.PayloadsOn.{IsOffered, Kept, begun_kept, came_kept, none_kept, stays_kept}
 use Rattle.bench_world.proofs.HeldOn.{nothing_sent}
 use Rattle.bench_world.proofs.OnLink.{none_numbered}
 use Rattle.bench_world.proofs.Unlinking.{same_numbers}
+use Rattle.bench_world.proofs.Tales.{goes_on, stories_behind, stories_from}
 
 abbrev Ends : Type 0
 Ends = List (Option FarEnd)

@@ -21,11 +21,12 @@ use Rattle.bench_world.specs.ByPayloads.{AcceptsUntil, IsByPayloads, Place, end_
 use Rattle.bench_world.specs.Calls.{IfLinked, OfEnd}
 use Rattle.bench_world.specs.Legal.{State, Joins}
 use Rattle.bench_world.specs.Links.{OpenLink, end_numbered}
-use Rattle.bench_world.specs.Stories.{ByLink, Story, Stretch, accepted_in, accepted_of, arrived_by, brought_by, first_of, gained_by, goes_on, last_goes_on, open_goes_on, story_if, values_in, values_of}
+use Rattle.bench_world.specs.Stories.{ByLink, Story, Stretch, arrived_by, brought_by, first_of, last_goes_on, open_goes_on, story_if, values_in, values_of}
 use Rattle.bench_world.proofs.CountedOn.{brought_on, counted_on}
 use Rattle.bench_world.proofs.PutsTold.{accepted_more}
 use Rattle.bench_world.proofs.ServerRuns.{AreOfBytes, answered_is, arrivals_front, arrivals_put, behind_then, bytes_are, bytes_then, payloads_are, payloads_then, place_front, place_puts}
 use Rattle.bench_world.proofs.StoriesStand.{all_more, last_story}
+use Rattle.bench_world.proofs.Tales.{accepted_in, accepted_of, gained_by, goes_on}
 
 -- the story of the link that is open, and its peer's end, whose server may give other values by now
 pub record OnLink (l : OpenLink) (s : State) (y : Story) : Type 0 where

@@ -17,11 +17,12 @@ use Rattle.bench_world.specs.Legal.{State}
 use Rattle.bench_world.specs.Links.{OpenLink, accepted_by, end_numbered, accepted_at, ended, with_last_ended}
 use Rattle.bench_world.specs.LinkLaw.{AcceptsPuts, KeepsLinkLaw}
 use Rattle.bench_world.specs.Peers.{Peers, next_number}
-use Rattle.bench_world.specs.Stories.{Opener, ByLink, LinkPut, Story, Stretch, arrived_by, told_put, puts_in, accepted_of, accepted_in, gained_by, goes_on, last_goes_on, open_goes_on}
+use Rattle.bench_world.specs.Stories.{Opener, ByLink, LinkPut, Story, Stretch, arrived_by, told_put, puts_in, last_goes_on, open_goes_on}
 use Rattle.bench_world.proofs.AtNumbers.{Held, held, held_at}
 use Rattle.bench_world.proofs.PeersNumbered.{HavePlaces}
 use Rattle.bench_world.proofs.PutsTold.{InStep, in_step_accepts, taken_more, refused_more, none_more, one_more, with_none, with_one}
 use Rattle.bench_world.proofs.StoriesStand.{View, at, Closed, Opened, Open, IsInStep, in_step_keeps, closed_here, view_ended, came, went_on, open_came}
+use Rattle.bench_world.proofs.Tales.{accepted_of, accepted_in, gained_by, goes_on}
 
 abbrev pub view_at : Peers → List (Option FarEnd) → View
 view_at p fars = record { numbers = p.numbers; placed = next_number p; links = p.links; held = map held fars }

@@ -37,11 +37,12 @@ use Rattle.bench_world.specs.Linking.{LinkTells, LinkEnds, TellsLoss, link_if}
 use Rattle.bench_world.specs.Links.{OpenLink, ended_unless, begun_if, end_numbered, accepted_at}
 use Rattle.bench_world.specs.Peers.{Peers, next_number, placed_under}
 use Rattle.bench_world.specs.LinkLaw.{KeepsLinkLaw}
-use Rattle.bench_world.specs.Stories.{Story, Stretch, arrived_by, puts_in, gained_by, goes_on, last_goes_on, first_of, story_if, told_put}
+use Rattle.bench_world.specs.Stories.{Story, Stretch, arrived_by, puts_in, last_goes_on, first_of, story_if, told_put}
 use Rattle.bench_world.proofs.AtNumbers.{Held, held, held_at, at_number, at_own_place, with_held}
 use Rattle.bench_world.proofs.PeersNumbered.{HavePlaces}
 use Rattle.bench_world.proofs.StoriesHere.{view_at, view_of, Stand, gain, over_closed, count_is, taken_by, TakesSo, takes_so, put_to, KeptBy, kept_by}
 use Rattle.bench_world.proofs.StoriesStand.{at, Closed, Opened, Open, IsInStep, opened_more, view_more, open_here, view_begun, found_after}
+use Rattle.bench_world.proofs.Tales.{gained_by, goes_on}
 
 -- A call that came to its end doesn't tell of a link that ended; and only then is the link still open, to the same peer.
 never_lost : (e : Ending) (loss : Loss) → told_ending e ≡ answers.LinkEnded loss → ⊥

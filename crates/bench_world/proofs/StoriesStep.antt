@@ -15,7 +15,7 @@ use Rattle.bench_world.specs.Links.{OpenLink, is_number, is_with, ended}
 use Rattle.bench_world.specs.Legal.{State, changed, begun}
 use Rattle.bench_world.specs.Opened.{AreNumbered}
 use Rattle.bench_world.specs.Peers.{Peers, next_number, placed_under, without_place, without_number, with_place_changed}
-use Rattle.bench_world.specs.Stories.{Story, Stretch, puts_in, goes_on, open_goes_on, begun_in, stories_behind}
+use Rattle.bench_world.specs.Stories.{Story, Stretch, puts_in, open_goes_on, begun_in}
 use Rattle.bench_world.proofs.AtNumbers.{Held, adding, held, IfHeld, AreHeld, with_held, held_placed, at_placed, at_new, at_left, still_held, held_without, held_gone, numbered_without}
 use Rattle.bench_world.proofs.PeersNumbered.{HavePlaces, places_less}
 use Rattle.bench_world.proofs.PlacesKept.{numbered_tag, numbered_peer}
@@ -23,6 +23,7 @@ use Rattle.bench_world.proofs.Removing.{as_many_gone}
 use Rattle.bench_world.proofs.StoriesHere.{view_at, view_of, PlacesOf, StandBy, Stand, open_stands, still_stands, ended_closed}
 use Rattle.bench_world.proofs.Unlinking.{same_numbers}
 use Rattle.bench_world.proofs.StoriesStand.{View, at, Closed, Open, IsCovered, closed_still, open_still}
+use Rattle.bench_world.proofs.Tales.{goes_on, stories_behind}
 
 -- the link that is open, if one is, is to a peer with such a number
 pub peer_below : (v : View) (n : ℕ) (ys : List Story) → Open v n ys → n < v.placed

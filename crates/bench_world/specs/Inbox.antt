@@ -23,6 +23,10 @@ abbrev pub chosen : {X : Type 0} → (ℕ → Bool) → ℕ → List X → List 
 chosen choose n [] = []
 chosen choose n (x ∷ xs) = if choose n then x ∷ chosen choose (n + 1) xs else chosen choose (n + 1) xs
 
+-- what a peer's list gained in the range of a link
+abbrev pub gained_in : LinkRange → List Accepted → List Accepted
+gained_in l ms = chosen (is_in l) 0 ms
+
 -- messages as they are told of a link, each with the SAP that it came from
 abbrev pub told_of : ℕ → List Accepted → List Received
 told_of link ms = map (λ (m : Accepted). record { link = link; source = m.source; message = m.message }) ms
@@ -30,7 +34,7 @@ told_of link ms = map (λ (m : Accepted). record { link = link; source = m.sourc
 -- for each link of this peer, ascending, the messages of its range; the first link of the list has this number
 abbrev pub told_by_links : ℕ → List LinkRange → ℕ → List Accepted → List Received
 told_by_links n [] peer ms = []
-told_by_links n (l ∷ ls) peer ms = (if nat_eq l.peer peer then told_of n (chosen (is_in l) 0 ms) else []) ++ told_by_links (n + 1) ls peer ms
+told_by_links n (l ∷ ls) peer ms = (if nat_eq l.peer peer then told_of n (gained_in l ms) else []) ++ told_by_links (n + 1) ls peer ms
 
 -- first what came on no link, as of link 0, and then what came on each
 abbrev pub inbox_of : List LinkRange → ℕ → List Accepted → List Received

@@ -1,7 +1,7 @@
 -- The story of each link of a bench: how it was opened and to which end, what happened while it was open, what was put
 -- on it and how that was told, and what its peer accepted on it (NFC Forum SNEP 1.0; that links have numbers is this
 -- project's own). A later command adds its case.
-use Rattle.std.specs.Prelude.{ℕ, drop, length, List, [], ◌∷◌, ◌++◌, Option, Some, None}
+use Rattle.std.specs.Prelude.{ℕ, zero, suc, drop, get_or, length, List, [], ◌∷◌, ◌++◌, Option, Some, None}
 use Rattle.nfc_base.specs.declared.event.Event.{Event}
 use Rattle.dep_link.specs.DepLinks.{brought}
 use Rattle.snep_core.specs.Links.{Told, Success, Rejected, Unanswered, Put}
@@ -14,8 +14,10 @@ use Rattle.bench_script.specs.Messages.{message_of}
 use Rattle.bench_world.specs.declared.entry.Answer.{Answer}
 use Rattle.bench_world.specs.declared.entry.Answer.TheVariants as answers
 use Rattle.bench_world.specs.declared.entry.Entry.{Entry}
+use Rattle.bench_world.specs.declared.inbox.LinkRange.{LinkRange}
 use Rattle.bench_world.specs.Arrivals.{Arrival, arrivals_of}
 use Rattle.bench_world.specs.World.{FarEnd}
+use Rattle.bench_world.specs.Inbox.{gained_in}
 use Rattle.bench_world.specs.Links.{OpenLink, end_numbered}
 use Rattle.bench_world.specs.Linking.{own_general}
 use Rattle.bench_world.specs.Legal.{State, Joins, changed, end_of, first_state, state_after}
@@ -43,7 +45,7 @@ pub record LinkPut : Type 0 where
 -- The story of a link: the number that `linked` told; how it was opened; its peer, by its number among the peers; the
 -- general bytes that were said to it, and its end as the link began; what happened in the entries behind, while the
 -- link was open; what arrived at its peer by that; what was put on it, in order; and what the peer's list of accepted
--- messages gained on it.
+-- messages gained on it so far.
 pub record Story : Type 0 where
   pub number : ℕ
   pub opener : Opener
@@ -66,17 +68,30 @@ abbrev pub puts_in : Command → Option Answer → List LinkPut
 puts_in (commands.Put message) told = record { source = client_sap; put = record { message = message_of message; told = told_put told } } ∷ []
 puts_in c told = []
 
--- what the server of the peer with a number accepted so far
-abbrev pub accepted_of : Option FarEnd → List Accepted
-accepted_of None = []
-accepted_of (Some end) = end.service.accepted
+-- What the server of a peer accepted so far: it stands, or else this stayed of it.
+abbrev pub accepted_of : Option FarEnd → Option FarEnd → List Accepted
+accepted_of (Some end) gone = end.service.accepted
+accepted_of None (Some end) = end.service.accepted
+accepted_of None None = []
 
+-- so the peer with a number did, also one that was taken away
 abbrev pub accepted_in : ℕ → State → List Accepted
-accepted_in peer s = accepted_of (end_numbered peer s.peers.numbers s.world.fars)
+accepted_in peer s = accepted_of (end_numbered peer s.peers.numbers s.world.fars) (get_or s.peers.gone peer None)
 
--- what that list gained from one state to another
-abbrev pub gained_by : ℕ → State → State → List Accepted
-gained_by peer s t = drop (length (accepted_in peer s)) (accepted_in peer t)
+-- the range of the link with a number; the first is link 1
+abbrev pub range_of : ℕ → List LinkRange → Option LinkRange
+range_of zero ls = None
+range_of (suc n) [] = None
+range_of (suc zero) (l ∷ ls) = Some l
+range_of (suc (suc n)) (l ∷ ls) = range_of (suc n) ls
+
+-- What the list of a link's peer gained on it so far: what stands there in the link's range. An inbox tells just that.
+abbrev pub gained_by : State → Option LinkRange → List Accepted
+gained_by s None = []
+gained_by s (Some l) = gained_in l (accepted_in l.peer s)
+
+abbrev pub gained_on : State → ℕ → List Accepted
+gained_on s number = gained_by s (range_of number s.peers.links)
 
 -- the values that the server of the peer with a number gives
 abbrev pub values_of : Option FarEnd → List Offer
@@ -100,7 +115,7 @@ goes_on s x t y = record y {
   events = y.events ++ x.events;
   arrivals = y.arrivals ++ arrived_by s x y;
   puts = y.puts ++ puts_in x.command x.told;
-  gained = y.gained ++ gained_by y.peer s t;
+  gained = gained_on t y.number;
 }
 
 -- the link that is open is the last one

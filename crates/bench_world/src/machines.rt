@@ -350,9 +350,10 @@ impl Machines {
         }
     }
 
-    /// There is no room for the number of one link more.
+    /// As many links were made as there are numbers. Nothing is allocated to find out.
     pub fn is_full(&self) -> bool
-        ensures { result ≡ false → length self.now.peers.links + 1 < 2 ^ 32 }
+        ensures full { result ≡ true → length self.now.peers.links + 1 ≡ 2 ^ 32 }
+        ensures room { result ≡ false → length self.now.peers.links + 1 < 2 ^ 32 }
     {
         self.links.len() >= u32::MAX as usize
     }

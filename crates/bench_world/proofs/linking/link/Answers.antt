@@ -19,7 +19,7 @@ select_and_open-requires-clause-few c =
     let old : Machines = c.args.machines.now in
     let same : length (link_ended old).peers.links ≡ length old.peers.links = count_ended old.link old.peers old.ends in
     subst (λ (m : Machines). length m.peers.links + 1 < 4294967296) (sym c.end_link.ensures)
-    (subst (λ n. n + 1 < 4294967296) (sym same) (c.is_full.ensures c.if-is_full.false))
+    (subst (λ n. n + 1 < 4294967296) (sym same) (c.is_full.ensures.room c.if-is_full.false))
 
 pub returns-clause-ok : goal.returns-clause-ok
 returns-clause-ok c =
