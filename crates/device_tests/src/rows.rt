@@ -1,7 +1,7 @@
 //! What the tests' tables of steps are made of, and how a device goes through them.
 
-use crate::Device;
 use air_core::Listener;
+use bench_devices::Device;
 use nfc_base::{Frame, Mute, Tech};
 use std::alloc::Global;
 use std::process::Abort;

@@ -5,8 +5,8 @@ ghost use Rattle.llcp_pdu.specs.General.{IsMiu};
 
 use crate::rows::Step::{Dark, Hears, Light};
 use crate::rows::{Step, goes_through};
-use crate::{Device, PeerUpper, T2Upper};
 use air_core::Field;
+use bench_devices::{Device, PeerUpper, T2Upper};
 use nfca_poll::{Front, Ident, Kind, find_all};
 use std::alloc::Global;
 use std::test::Fail;

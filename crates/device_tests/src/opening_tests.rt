@@ -1,9 +1,9 @@
 //! Links to a peer that stands beside a tag.
 
 use crate::peer_tests::{ATR_REQ, peer, tag};
-use crate::{Device, open_link};
 use air_core::Field;
 use arrayvec::ArrayVec;
+use bench_devices::{Device, open_link};
 use nfc_base::{EndCause, Event, Fate, Frame, LinkEnd, Mute, Tech};
 use nfca_poll::{Ident, pick};
 use std::alloc::Global;
