@@ -31,7 +31,7 @@ if_follows c hs false m n p q = q
 follows : (t : CardState) (hs : List (List ℕ)) (b : Block) → Follows (taken (cut_of t hs) b) hs (block_table t b)
 follows t hs (Info more n c) = gathered_follows t hs more (t.chain ++ c.items) (nat_lt limit (length (t.chain ++ c.items)))
 follows t hs (Ack n) =
-    if_follows _ hs (n == t.number) _ _ (again_follows t hs t.last) (if_follows _ hs (if nat_lt 0 t.due then false else nat_lt 0 (length t.left)) _ _ (λ e. refl) (λ e. refl))
+    if_follows _ hs (n == t.number) _ _ (again_follows t hs t.last) (if_follows _ hs (if nat_lt 0 t.due then false else t.unsent) _ _ (λ e. refl) (λ e. refl))
 follows t hs (Nak n) = if_follows _ hs (n == t.number) _ _ (again_follows t hs t.last) (λ e. refl)
 follows t hs Deselect = λ e. refl
 follows t hs (Extend times) =
