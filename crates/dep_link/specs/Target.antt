@@ -2,6 +2,7 @@
 -- after a chain above 2,178 bytes, how often and by which value it asks for more time, and the code of its waiting time are
 -- this project's own.
 use Rattle.std.specs.Prelude.{ℕ, ◌≡◌, ◌-◌, ◌<◌, ◌≤◌, ◌==◌, nat_lt, Bool, true, false, List, [], ◌++◌, length, drop, Option, Some, None, if◌then◌else◌, IfSome}
+use Rattle.arrayvec.specs.ArrayVec.{ArrayVec}
 use Rattle.nfc_base.specs.Signal.{Signal}
 use Rattle.dep_pdu.specs.declared.frame.DepFrame.{DepFrame}
 use Rattle.dep_pdu.specs.declared.frame.DepFrame.TheVariants.{AtrReq, AtrRes, Info, Ack, Nack, Attention, Extend, DslReq, DslRes, RlsReq, RlsRes}
@@ -246,8 +247,14 @@ IsSaid (steps.Deliver payload) = Unit {0}
 IsSaid (steps.Asleep f) = IsSpelled f
 IsSaid (steps.Released f) = IsSpelled f
 
--- Where a target delivers a payload it expects the next PNI then: nothing that asks for an answer again delivers.
+-- A payload that a target delivers at a frame: the frame is the information with the PNI that is expected that ends its chain, and the
+-- next PNI is expected then.
+pub record IsNew (t : TargetState) (f : Signal) (xs : List ℕ) : Type 0 where
+  pub content : ArrayVec ℕ
+  pub brings : spelled f ≡ Some (Info false false t.expected content)
+  pub ends : xs ≡ t.chain ++ content.items
+  pub moves : (target_table t f).state.expected ≡ after t.expected
+
+-- What a target delivers is new each time: nothing that asks for an answer again delivers, and no frame with another PNI does.
 abbrev pub DeliversAnew : Type 0
-DeliversAnew =
-    (t : TargetState) (f : Signal) (xs : List ℕ) → (target_table t f).does ≡ steps.Deliver (record { items = xs })
-    → (target_table t f).state.expected ≡ after t.expected
+DeliversAnew = (t : TargetState) (f : Signal) (xs : List ℕ) → (target_table t f).does ≡ steps.Deliver (record { items = xs }) → IsNew t f xs
