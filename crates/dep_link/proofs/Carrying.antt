@@ -5,22 +5,21 @@ use Rattle.std.specs.Global.{Vec}
 use Rattle.std.proofs.lemmas.List.{append_cancel_left, drop-append-le}
 use Rattle.std.proofs.Math.Seq.{drop-append_seam}
 use Rattle.nfc_base.specs.Signal.{Signal}
-use Rattle.nfc_base.specs.Trace.{noise, breaks, of_break, other_than_pass}
+use Rattle.nfc_base.specs.Trace.{noise, breaks}
 use Rattle.nfc_base.specs.StopAndWait.{delivered_of}
 use Rattle.nfc_base.specs.Links.{Stepped, Stopped}
 use Rattle.nfc_base.specs.LinkTurns.{GivenBy, arrived}
 use Rattle.nfc_base.proofs.LinkTurns.{arrived_append}
 use Rattle.nfc_base.specs.declared.event.Event.{Event}
-use Rattle.nfc_base.specs.declared.event.Event.TheVariants.{Reset, Request, Answer, Clash}
-use Rattle.nfc_base.specs.declared.event.Fate.{Fate}
-use Rattle.nfc_base.specs.declared.event.Fate.TheVariants.{Pass, Damage, Lose, Break}
+use Rattle.nfc_base.specs.declared.event.Event.TheVariants.{Request}
+use Rattle.nfc_base.specs.declared.event.Fate.TheVariants.{Pass}
 use Rattle.nfc_base.specs.declared.carrier.EndCause.{EndCause}
 use Rattle.nfc_base.specs.declared.carrier.EndCause.TheVariants.{FieldLost, SixBad, Protocol, Memory}
 use Rattle.air_core.specs.Turn.{Air, moment}
 use Rattle.air_core.specs.Turning.{going_start}
 use Rattle.air_core.specs.declared.listener.Listener.{Ghosts}
 use Rattle.air_core.proofs.PlainTurns.{noise_append}
-use Rattle.air_core.proofs.LostField.{breaks-append}
+use Rattle.air_core.proofs.LostField.{breaks-append, breaks_noise}
 use Rattle.dep_pdu.specs.declared.frame.DepFrame.{DepFrame}
 use Rattle.dep_pdu.specs.declared.frame.DepFrame.TheVariants.{AtrReq, AtrRes, Info, Ack, Nack, Attention, Extend, DslReq, DslRes, RlsReq, RlsRes}
 use Rattle.dep_link.specs.declared.exchange.Unanswered.{Unanswered}
@@ -75,20 +74,6 @@ payloads_behind ps (RlsRes ∷ vs) n chain qs = payloads_behind ps vs n chain qs
 pub cut_then : (c : Cut) (vs ws : List DepFrame) → cut_by c (vs ++ ws) ≡ cut_by (cut_by c vs) ws
 cut_then c [] ws = refl
 cut_then c (v ∷ vs) ws = cut_then (taken c v) vs ws
-
--- a transmission that lost the field didn't pass
-break_noise : (x : Fate) → of_break x ≤ other_than_pass x
-break_noise Pass = omega arith
-break_noise Damage = omega arith
-break_noise Lose = omega arith
-break_noise Break = omega arith
-
-breaks_noise : (es : List Event) → breaks es ≤ noise es
-breaks_noise [] = omega arith
-breaks_noise (Reset ∷ es) = breaks_noise es
-breaks_noise (Request f x ∷ es) = let a = break_noise x in let b = breaks_noise es in omega (arith, a, b)
-breaks_noise (Answer g x ∷ es) = let a = break_noise x in let b = breaks_noise es in omega (arith, a, b)
-breaks_noise (Clash g x ∷ es) = let a = break_noise x in let b = breaks_noise es in omega (arith, a, b)
 
 module _ {L F : Type 0} (k : Ghosts L) (target : L → TargetState) (steps : F → List ℕ → List ℕ → F → Type 0) (stops : F → List ℕ → F → Type 0) (a : DepSeen L) (open_link : a.over ≡ None) (r : IsDepReady k target a)
     (out : List ℕ) (short : length out ≤ limit) (bytes : (i : ℕ) → slice_index out i < 256) (far far' : F) where
