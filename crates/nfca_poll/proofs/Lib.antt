@@ -16,6 +16,7 @@ pub mod RoundSteps
 pub mod EnquiryEnds
 pub mod TurnWalks
 pub mod TellingInventory
+pub mod TellingPickedV
 pub mod TellingResolution
 pub mod TellingRounds
 pub mod RoundCalls

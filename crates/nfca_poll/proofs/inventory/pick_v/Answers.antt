@@ -11,6 +11,7 @@ use Rattle.nfca_poll.proofs.Steady.{well_heard, vain_start, vain_turn, far_misse
 use Rattle.nfca_poll.proofs.Enquiring.{Reached, reached_start, reached_turn, enquires_err, enquires_end}
 use Rattle.nfca_poll.proofs.LostField.{lost_err}
 use Rattle.nfca_poll.proofs.Inventories.{asks_again, pick_again, pick_present, pick_strange, not_true}
+use Rattle.nfca_poll.proofs.TellingPickedV.{tells_picked_v}
 use Rattle.nfca_poll.proofs.inventory.pick_v.Goals as goal
 
 pub returns-in_err-answer-clause-turns : goal.returns-in_err-answer-clause-turns
@@ -107,3 +108,15 @@ returns-in-None-clause-cause g c lit s =
           (subst T c.inventory_req_of-request.ensures c.in_ok-answer.ensures.0) c.in-Whole.is s well in
           cc;
     }
+
+pub returns-in_err-answer-clause-told : goal.returns-in_err-answer-clause-told
+returns-in_err-answer-clause-told g c lit = tells_picked_v c.args.id g.L.Listener.machine c.args.field.now c.ask.new.field _ (returns-in_err-answer-clause-turns g c lit)
+
+pub returns-in-Some-clause-told : goal.returns-in-Some-clause-told
+returns-in-Some-clause-told g c lit = tells_picked_v c.args.id g.L.Listener.machine c.args.field.now c.ask.new.field _ (returns-in-Some-clause-turns g c lit)
+
+pub returns-in-None-clause-told : goal.returns-in-None-clause-told
+returns-in-None-clause-told g c lit = tells_picked_v c.args.id g.L.Listener.machine c.args.field.now c.ask.new.field _ (returns-in-None-clause-turns g c lit)
+
+pub returns-in-Collided-clause-told : goal.returns-in-Collided-clause-told
+returns-in-Collided-clause-told g c lit = tells_picked_v c.args.id g.L.Listener.machine c.args.field.now c.ask.new.field _ (returns-in-Collided-clause-turns g c lit)
