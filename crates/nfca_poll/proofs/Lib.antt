@@ -19,6 +19,7 @@ pub mod TellingInventory
 pub mod TellingPickedV
 pub mod TellingResolution
 pub mod TellingRounds
+pub mod GivenUp
 pub mod RoundCalls
 pub mod CallEnds
 pub mod Inventories
