@@ -1,11 +1,11 @@
 -- A call by rounds that is disturbed gave up each of its rounds, over any listeners: by what was heard, or since an identifier came again.
-use Rattle.std.proofs.Common.{◌≡◌, ◌⊎◌, inl, inr, ◌<◌, ◌≤◌, ℕ, ◌+◌, ◌-◌, List, [], ◌∷◌, ◌++◌, length, drop, take, map, slice_index, Bool, true, false, not, ◌&&◌, ◌||◌, nat_lt, nat_le, if◌then◌else◌, Option, Some, None, Result, Ok, Err, refl, sym, ◌∙◌, ap, subst, append_assoc, arith, take_all}
+use Rattle.std.proofs.Common.{◌≡◌, inl, inr, ◌<◌, ◌≤◌, ℕ, ◌+◌, ◌-◌, List, [], ◌∷◌, ◌++◌, length, drop, take, map, slice_index, Bool, true, false, not, ◌&&◌, ◌||◌, nat_lt, nat_le, if◌then◌else◌, Option, Some, None, Result, Err, refl, sym, ◌∙◌, ap, subst, append_assoc, arith, take_all}
 use Rattle.std.specs.List.{list_any}
 use Rattle.std.proofs.lemmas.List.{append-nil, length-append}
 use Rattle.std.proofs.lemmas.List.Folds.{list_any-append}
 use Rattle.nfc_base.specs.Signal.{Signal}
 use Rattle.nfc_base.specs.Bits.{bits, packed}
-use Rattle.nfc_base.specs.Trace.{Turn, turns, heard, back_of}
+use Rattle.nfc_base.specs.Trace.{Turn, turns, heard}
 use Rattle.nfc_base.specs.declared.event.Event.{Event}
 use Rattle.nfc_base.specs.declared.event.Event.TheVariants.{Reset}
 use Rattle.nfc_base.specs.declared.event.Fate.{Fate}
@@ -23,12 +23,12 @@ use Rattle.nfca_poll.specs.Levels.{identifier}
 use Rattle.nfca_poll.specs.Calls.{Reading, Calls, Sens, Slp, Sdd, Sel, call_of, call_frame}
 use Rattle.nfca_poll.specs.Crowd.{Each}
 use Rattle.nfca_poll.specs.Enquiry.{Progress, Reaches, Loses, progress, answer_of, Enquires}
-use Rattle.nfca_poll.specs.Poll.{Seek, Calling, Asking, Selecting, Ended, Nobody, Disturbed, BadAnswer, Found, seek_step, seek_next, completed, narrowed, selected, goes_on, kind_of, has_bit, is_one_byte, is_level, collision_bits}
+use Rattle.nfca_poll.specs.Poll.{Seek, Calling, Asking, Selecting, Ended, Nobody, Disturbed, BadAnswer, Found, seek_step, seek_next, selected, goes_on, kind_of, has_bit, is_one_byte, is_level, collision_bits}
 use Rattle.nfca_poll.specs.Seeking.{resolution}
 use Rattle.nfca_poll.specs.Rounds.{Aim, Search, Begins, Seeks, Sends, Told, most_rounds, most_found, next_round, has_found, is_same, met_or_taken, sought, searching, search_lit, search_next, finding, picking, all_devices, device_of}
 use Rattle.nfca_poll.specs.RoundTrace.{rounds}
 use Rattle.nfca_poll.specs.ByHeard.{has_missed}
-use Rattle.nfca_poll.specs.Twice.{Named, named_by, named_after, with_levels, is_last, selected_ids, CameAgain, IsGivenUp, AllGivenUp}
+use Rattle.nfca_poll.specs.Twice.{Named, named_by, named_after, with_levels, is_last, selected_ids, IsGivenUp, AllGivenUp}
 use Rattle.nfca_poll.proofs.EnquiryWalks.{after, holds, turn_fresh}
 use Rattle.nfca_poll.proofs.EnquiryEnds.{events_gained}
 use Rattle.nfca_poll.proofs.TurnWalks.{turns-append, IsTurn, turn_of}
