@@ -1,9 +1,9 @@
 //! A client at a far end that isn't this project's.
 
-use crate::SnepFault;
-use crate::client_tests::{Straight, client};
+use crate::ends::{Straight, client};
 use llcp_link::Counts;
 use nfc_base::Answerer;
+use snep_core::SnepFault;
 use std::alloc::{AllocError, Global};
 use std::process::Abort;
 use std::test::Fail;
