@@ -241,13 +241,18 @@ def check_tables(code):
 
 
 def check_proved(code):
-    """That docs/proved.md has each crate, and each public call of it with all its clauses; a row of a trait counts for its methods."""
+    """That docs/proved.md has each crate, and each public call of it with all its clauses; a row of a trait counts for its methods.
+    A library without public calls, as a crate of tests is, has a section without a table."""
     told = {}
-    for section, _, cell, clause in tables((ROOT / "docs" / "proved.md").read_text()):
+    text = (ROOT / "docs" / "proved.md").read_text()
+    sections = {line[3:].strip() for line in text.split("\n") if line.startswith("## ")}
+    for section, _, cell, clause in tables(text):
         for _, name in names_in(cell):
             told.setdefault(section, {}).setdefault(name, set()).update(NAMES.findall(clause))
     wrong = []
     for crate in code.crates:
+        if crate not in told and crate in sections and exported_names(crate) and not code.public_calls(crate):
+            continue
         if crate not in told:
             wrong.append(f"docs/proved.md: crate {crate} isn't there")
             continue

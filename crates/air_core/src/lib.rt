@@ -23,6 +23,3 @@ pub use fault::AirFault;
 pub use field::Field;
 pub use listener::Listener;
 pub use plain_link::{BAD_RECEPTIONS, PlainLink};
-
-#[cfg(test)]
-mod tests;

@@ -25,10 +25,3 @@ pub use polling::{SeenKind, Selection, is_named, place_of, select};
 pub use reading::read;
 pub use sweeping::{Everybody, sweep_field};
 pub use writing::write;
-
-#[cfg(test)]
-mod opening_tests;
-#[cfg(test)]
-mod peer_tests;
-#[cfg(test)]
-mod rows;

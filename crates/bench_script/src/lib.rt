@@ -7,13 +7,7 @@
 #![tactic(auto)]
 
 mod command;
-#[cfg(test)]
-mod link_tests;
 mod message;
-#[cfg(test)]
-mod peer_tests;
-#[cfg(test)]
-mod rows;
 mod script;
 mod writing;
 

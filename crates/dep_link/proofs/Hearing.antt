@@ -203,7 +203,7 @@ module _ (first m k : ℕ) (out : List ℕ) where
       receiving = refl;
       expects = h.expects;
       no_chain = h.no_chain;
-      left = rw (h.left, length-drop) (omega arith);
+      unsent = h.unsent ∙ lt-ltb t.most (length bytes) l;
       reply = rw (h.left, append_assoc, take-append-drop) h.reply;
       short_back = rw (h.left, append_assoc, take-append-drop) h.short_back;
     },
@@ -242,6 +242,7 @@ module _ (first m k : ℕ) (out : List ℕ) where
               expects = h.expects;
               no_chain = h.no_chain;
               no_left = rw (h.left, drop_all t.most bytes l) refl;
+              all_sent = h.unsent ∙ not_lt t.most (length bytes) l;
               asks = (h.bounds.some, h.bounds.fits);
               answers = (h.bounds.some_back, h.bounds.fits_back);
               busy = rw h.bounds.asks h.bounds.few;

@@ -17,6 +17,3 @@ mod write;
 
 pub use frame::DepFrame;
 pub use refusal::{DepKind, DepRefusal};
-
-#[cfg(test)]
-mod tests;

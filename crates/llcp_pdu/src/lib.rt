@@ -30,8 +30,3 @@ pub use param_walk::{ParamView, ParamWalk};
 pub use part::{FrmrReport, Part};
 pub use pdu::Pdu;
 pub use pdu_view::{PduView, view};
-
-#[cfg(test)]
-mod tests;
-#[cfg(test)]
-mod view_tests;

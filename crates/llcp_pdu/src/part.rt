@@ -1,11 +1,11 @@
 //! A PDU that holds no other.
 
 ghost use Rattle.std.specs.Prelude.{◌≡◌, ◌<◌, ◌++◌, IfOk, OnOk};
-ghost use Rattle.llcp_pdu.specs.Ranges.{IsPart};
+ghost use Rattle.llcp_pdu.specs.Ranges.{AreParams, IsPart};
 ghost use Rattle.llcp_pdu.specs.Spelling.{head, IsReport, report_bytes};
 ghost use Rattle.llcp_pdu.specs.Views.{IsChecked, IsOne, shown};
 ghost use Rattle.llcp_pdu.specs.Wire.{ptype_number};
-ghost use Rattle.llcp_pdu.specs.Writing.{part_bytes};
+ghost use Rattle.llcp_pdu.specs.Writing.{params_bytes, part_bytes};
 ghost use Rattle.llcp_pdu.specs.declared.pdu.Pdu.TheVariants.{One};
 
 use crate::header::{Header, Ptype};
@@ -136,29 +136,23 @@ impl Part {
         match self {
             Part::Symm => append_head(target, 0, Ptype::Symm, 0),
             Part::Ui { dsap, ssap, info } => {
-                append_head(target, *dsap, Ptype::Ui, *ssap)?;
-                target.extend_from_slice(info.as_slice())
+                append_with(target, *dsap, Ptype::Ui, *ssap, info.as_slice())
             }
             Part::Connect { dsap, ssap, params } => {
-                append_head(target, *dsap, Ptype::Connect, *ssap)?;
-                append_params(target, params.as_slice())
+                append_listing(target, *dsap, Ptype::Connect, *ssap, params.as_slice())
             }
             Part::Disc { dsap, ssap } => append_head(target, *dsap, Ptype::Disc, *ssap),
             Part::Cc { dsap, ssap, params } => {
-                append_head(target, *dsap, Ptype::Cc, *ssap)?;
-                append_params(target, params.as_slice())
+                append_listing(target, *dsap, Ptype::Cc, *ssap, params.as_slice())
             }
             Part::Dm { dsap, ssap, reason } => {
-                append_head(target, *dsap, Ptype::Dm, *ssap)?;
-                target.extend_from_slice(&[*reason])
+                append_with(target, *dsap, Ptype::Dm, *ssap, &[*reason])
             }
             Part::Frmr { dsap, ssap, report } => {
-                append_head(target, *dsap, Ptype::Frmr, *ssap)?;
-                target.extend_from_slice(&report.to_bytes())
+                append_with(target, *dsap, Ptype::Frmr, *ssap, &report.to_bytes())
             }
             Part::Snl(params) => {
-                append_head(target, DISCOVERY, Ptype::Snl, DISCOVERY)?;
-                append_params(target, params.as_slice())
+                append_listing(target, DISCOVERY, Ptype::Snl, DISCOVERY, params.as_slice())
             }
             Part::Info {
                 dsap,
@@ -167,18 +161,11 @@ impl Part {
                 nr,
                 info,
             } => {
-                append_head(target, *dsap, Ptype::Info, *ssap)?;
-                target.extend_from_slice(&[16 * *ns + *nr])?;
+                append_with(target, *dsap, Ptype::Info, *ssap, &[16 * *ns + *nr])?;
                 target.extend_from_slice(info.as_slice())
             }
-            Part::Rr { dsap, ssap, nr } => {
-                append_head(target, *dsap, Ptype::Rr, *ssap)?;
-                target.extend_from_slice(&[*nr])
-            }
-            Part::Rnr { dsap, ssap, nr } => {
-                append_head(target, *dsap, Ptype::Rnr, *ssap)?;
-                target.extend_from_slice(&[*nr])
-            }
+            Part::Rr { dsap, ssap, nr } => append_with(target, *dsap, Ptype::Rr, *ssap, &[*nr]),
+            Part::Rnr { dsap, ssap, nr } => append_with(target, *dsap, Ptype::Rnr, *ssap, &[*nr]),
         }
     }
 }
@@ -211,4 +198,37 @@ pub(crate) fn append_head(
 {
     let header = Header { dsap, ptype, ssap };
     target.extend_from_slice(&header.to_bytes())
+}
+
+/// Adds a header, and these bytes behind it.
+fn append_with(
+    target: &mut Vec<u8>,
+    dsap: u8,
+    ptype: Ptype,
+    ssap: u8,
+    rest: &[u8],
+) -> Result<(), AllocError>
+    requires dsap { dsap < 64 }
+    requires ssap { ssap < 64 }
+    ensures { OnOk result (target.new.items ≡ target.old.items ++ head dsap (ptype_number ptype) ssap ++ rest.now) }
+{
+    append_head(target, dsap, ptype, ssap)?;
+    target.extend_from_slice(rest)
+}
+
+/// Adds a header, and parameters behind it.
+fn append_listing(
+    target: &mut Vec<u8>,
+    dsap: u8,
+    ptype: Ptype,
+    ssap: u8,
+    params: &[Param],
+) -> Result<(), AllocError>
+    requires dsap { dsap < 64 }
+    requires ssap { ssap < 64 }
+    requires params { AreParams params.now }
+    ensures { OnOk result (target.new.items ≡ target.old.items ++ head dsap (ptype_number ptype) ssap ++ params_bytes params.now) }
+{
+    append_head(target, dsap, ptype, ssap)?;
+    append_params(target, params)
 }

@@ -15,8 +15,6 @@ mod plan;
 mod sink;
 mod source;
 mod standard;
-#[cfg(test)]
-mod tests;
 
 pub use failed::Failed;
 pub use law::lines_in_order;

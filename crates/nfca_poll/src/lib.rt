@@ -32,6 +32,3 @@ pub use level::Level;
 pub use resolution::resolve;
 pub use rounds::{find_all, pick};
 pub use upper::{UpKind, UpStep, Upper};
-
-#[cfg(test)]
-mod tests;

@@ -12,6 +12,3 @@ mod tag;
 pub use command::T4Command;
 pub use current::CurrentFile;
 pub use tag::{CONTAINER_ID, MOST_CODE, StoreFault, T4Tag, named_size};
-
-#[cfg(test)]
-mod tests;

@@ -13,6 +13,3 @@ mod tag;
 pub use answer::T5Answer;
 pub use command::T5Command;
 pub use tag::{NO_BLOCK, StoreFault, T5Tag};
-
-#[cfg(test)]
-mod tests;

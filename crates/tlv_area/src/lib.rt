@@ -34,8 +34,3 @@ pub use room::capacity;
 pub use space::{AreaMap, Space};
 pub use step::{Plan, Step};
 pub use walk::{Walk, Walker, find_message};
-
-#[cfg(test)]
-mod plan_tests;
-#[cfg(test)]
-mod tests;

@@ -1,0 +1,13 @@
+//! The tests of `bench_devices`, by its public calls: devices step by step, and links that are opened to a peer.
+//!
+//! They stand here since a crate with tests is proved a second time with them; of this crate nothing else is to be proved.
+#![tactic(auto)]
+
+#[cfg(test)]
+mod opening_tests;
+#[cfg(test)]
+mod peer_tests;
+#[cfg(test)]
+mod rows;
+#[cfg(test)]
+mod tag_tests;

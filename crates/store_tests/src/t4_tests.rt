@@ -1,0 +1,272 @@
+//! What Type 4 tags answer command by command, and the bytes of commands.
+
+ghost use Rattle.t4t_tag.specs.Spelling.{IsT4Command};
+
+use arrayvec::ArrayVec;
+use std::alloc::Global;
+use std::process::Abort;
+use std::test::Fail;
+use t4t_tag::{StoreFault, T4Command, T4Tag};
+
+/// A container of 15 bytes: reads of at most 59 bytes, updates of at most 13, a file E104h of 512 bytes, free to read
+/// and to write.
+const CONTAINER: [u8; 15] = [
+    0x00, 0x0F, 0x20, 0x00, 0x3B, 0x00, 0x0D, 0x04, 0x06, 0xE1, 0x04, 0x02, 0x00, 0x00, 0x00,
+];
+
+/// The same with reads of at most 15 bytes, and a file of 59 bytes.
+const SMALL: [u8; 15] = [
+    0x00, 0x0F, 0x20, 0x00, 0x0F, 0x00, 0x0D, 0x04, 0x06, 0xE1, 0x04, 0x00, 0x3B, 0x00, 0x00,
+];
+
+const SELECT_APPLICATION: [u8; 13] = [
+    0x00, 0xA4, 0x04, 0x00, 0x07, 0xD2, 0x76, 0x00, 0x00, 0x85, 0x01, 0x01, 0x00,
+];
+
+/// The same without the byte for the answer's length.
+const UNENDED: [u8; 12] = [
+    0x00, 0xA4, 0x04, 0x00, 0x07, 0xD2, 0x76, 0x00, 0x00, 0x85, 0x01, 0x01,
+];
+
+const SELECT_CONTAINER: [u8; 7] = [0x00, 0xA4, 0x00, 0x0C, 0x02, 0xE1, 0x03];
+
+const SELECT_NDEF: [u8; 7] = [0x00, 0xA4, 0x00, 0x0C, 0x02, 0xE1, 0x04];
+
+/// So many bytes, 0 but for these at their start.
+fn filled(alloc: Global, size: usize, head: &[u8]) -> Result<Vec<u8>, Fail> {
+    let mut bytes = head.to_vec(alloc)?;
+    bytes.resize(size, 0)?;
+    Ok(bytes)
+}
+
+/// A tag with this container and a file of so many bytes.
+fn tag(alloc: Global, container: &[u8], size: usize, head: &[u8]) -> Result<T4Tag, Fail> {
+    let container = container.to_vec(alloc)?;
+    Ok(T4Tag::new(8, container, filled(alloc, size, head)?)?)
+}
+
+/// A command, and the answer.
+type Row<'a> = (&'a [u8], &'a [u8]);
+
+/// A tag obeys these commands in order.
+fn obeys(rt: &impl Abort, tag: &mut T4Tag, rows: &[Row]) {
+    for (command, answer) in rows {
+        assert_eq!(rt; tag.obey(command).as_slice(), *answer, "at {command:?}");
+    }
+}
+
+#[test]
+fn reads_a_message(rt: HostRuntime) -> Result<(), Fail> {
+    let rows: [Row; 6] = [
+        (&SELECT_APPLICATION, &[0x90, 0x00]),
+        (&SELECT_CONTAINER, &[0x90, 0x00]),
+        (
+            &[0x00, 0xB0, 0x00, 0x00, 0x0F],
+            &[
+                0x00, 0x0F, 0x20, 0x00, 0x3B, 0x00, 0x0D, 0x04, 0x06, 0xE1, 0x04, 0x02, 0x00, 0x00,
+                0x00, 0x90, 0x00,
+            ],
+        ),
+        (&SELECT_NDEF, &[0x90, 0x00]),
+        (&[0x00, 0xB0, 0x00, 0x00, 0x02], &[0x00, 0x03, 0x90, 0x00]),
+        (
+            &[0x00, 0xB0, 0x00, 0x02, 0x03],
+            &[0xD0, 0x00, 0x00, 0x90, 0x00],
+        ),
+    ];
+    let mut tag = tag(rt.alloc(), &CONTAINER, 512, &[0x00, 0x03, 0xD0])?;
+    obeys(&rt, &mut tag, &rows);
+    Ok(())
+}
+
+#[test]
+fn reads_in_pieces_of_fifteen(rt: HostRuntime) -> Result<(), Fail> {
+    let rows: [Row; 8] = [
+        (&SELECT_APPLICATION, &[0x90, 0x00]),
+        (&SELECT_NDEF, &[0x90, 0x00]),
+        (&[0x00, 0xB0, 0x00, 0x00, 0x02], &[0x00, 0x39, 0x90, 0x00]),
+        (
+            &[0x00, 0xB0, 0x00, 0x02, 0x0F],
+            &[0xD0, 0, 0, 0, 0, 0, 0, 0, 0, 0, 0, 0, 0, 0, 0, 0x90, 0x00],
+        ),
+        (
+            &[0x00, 0xB0, 0x00, 0x2F, 0x0C],
+            &[0, 0, 0, 0, 0, 0, 0, 0, 0, 0, 0, 0, 0x90, 0x00],
+        ),
+        (&[0x00, 0xB0, 0x00, 0x00, 0x10], &[0x67, 0x00]),
+        (
+            &[0x00, 0xB0, 0x00, 0x11, 0x0F],
+            &[0, 0, 0, 0, 0, 0, 0, 0, 0, 0, 0, 0, 0, 0, 0, 0x90, 0x00],
+        ),
+        (
+            &[0x00, 0xB0, 0x00, 0x20, 0x0F],
+            &[0, 0, 0, 0, 0, 0, 0, 0, 0, 0, 0, 0, 0, 0, 0, 0x90, 0x00],
+        ),
+    ];
+    let mut tag = tag(rt.alloc(), &SMALL, 59, &[0x00, 0x39, 0xD0])?;
+    obeys(&rt, &mut tag, &rows);
+    Ok(())
+}
+
+/// What a tag answers while no file is selected.
+const REFUSED: [Row; 20] = [
+    (&[], &[0x67, 0x00]),
+    (&[0x00, 0xA4, 0x04], &[0x67, 0x00]),
+    (&[0x90, 0x5A, 0x00, 0x00], &[0x6E, 0x00]),
+    (&[0x00, 0x5A, 0x00, 0x00], &[0x6D, 0x00]),
+    (&[0x00, 0xA4, 0x04, 0x00], &[0x67, 0x00]),
+    (&[0x00, 0xA4, 0x04, 0x00, 0x00], &[0x67, 0x00]),
+    (&[0x00, 0xA4, 0x04, 0x00, 0x02, 0xD2], &[0x67, 0x00]),
+    (&[0x00, 0xA4, 0x04, 0x00, 0x01, 1, 2, 3], &[0x67, 0x00]),
+    (&[0x00, 0xA4, 0x04, 0x00, 0x01, 0xD2], &[0x6A, 0x82]),
+    (&[0x00, 0xA4, 0x00, 0x0C, 0x01, 0xE1], &[0x67, 0x00]),
+    (
+        &[0x00, 0xA4, 0x00, 0x0C, 0x03, 0xE1, 0x03, 0],
+        &[0x67, 0x00],
+    ),
+    (&SELECT_CONTAINER, &[0x6A, 0x82]),
+    (&SELECT_NDEF, &[0x6A, 0x82]),
+    (&[0x00, 0xA4, 0x04, 0x0C, 0x02, 0xE1, 0x03], &[0x6B, 0x00]),
+    (&[0x00, 0xB0, 0x00, 0x00], &[0x67, 0x00]),
+    (&[0x00, 0xB0, 0x00, 0x00, 0x0F], &[0x6A, 0x82]),
+    (&[0x00, 0xB0, 0x00, 0x00, 0x0F, 0x00], &[0x67, 0x00]),
+    (&[0x00, 0xD6, 0x00, 0x00], &[0x67, 0x00]),
+    (&[0x00, 0xD6, 0x00, 0x00, 0x00], &[0x67, 0x00]),
+    (&[0x00, 0xD6, 0x00, 0x00, 0x01, 0x07], &[0x6A, 0x82]),
+];
+
+#[test]
+fn refuses_with_no_file(rt: HostRuntime) -> Result<(), Fail> {
+    let mut tag = tag(rt.alloc(), &CONTAINER, 512, &[])?;
+    obeys(&rt, &mut tag, &REFUSED);
+    Ok(())
+}
+
+/// What a tag holds once its file got two bytes.
+fn has_kept(rt: &impl Abort, tag: &T4Tag) {
+    assert_eq!(rt; (tag.file().len(), tag.code()), (512, 8));
+    assert!(rt; tag.file().starts_with(&[1, 7, 8, 0]));
+    assert_eq!(rt; tag.container(), CONTAINER.as_slice());
+}
+
+/// What a tag answers from its selection on, refusals among the rest.
+const KEPT: [Row; 17] = [
+    (&UNENDED, &[0x90, 0x00]),
+    (&SELECT_CONTAINER, &[0x90, 0x00]),
+    (&[0x00, 0xD6, 0x00, 0x00, 0x01, 0x07], &[0x69, 0x82]),
+    (&[0x00, 0xB0, 0x00, 0x0E, 0x00], &[0x00, 0x90, 0x00]),
+    (&[0x00, 0xB0, 0x00, 0x0F, 0x01], &[0x6B, 0x00]),
+    (&[0x00, 0xA4, 0x00, 0x0C, 0x02, 0xE1, 0x05], &[0x6A, 0x82]),
+    (&[0x00, 0xB0, 0x00, 0x00, 0x02], &[0x00, 0x0F, 0x90, 0x00]),
+    (&SELECT_NDEF, &[0x90, 0x00]),
+    (&[0x00, 0xA4, 0x04, 0x00, 0x01, 0xD2], &[0x6A, 0x82]),
+    (&[0x00, 0xB0, 0x00, 0x00, 0x00], &[0x67, 0x00]),
+    (&[0x00, 0xB0, 0x00, 0x00, 0x3C], &[0x67, 0x00]),
+    (&[0x00, 0xB0, 0x02, 0x00, 0x01], &[0x6B, 0x00]),
+    (&[0x00, 0xB0, 0x80, 0x00, 0x01], &[0x6B, 0x00]),
+    (&[0x00, 0xB0, 0x01, 0xFF, 0x02], &[0x00, 0x90, 0x00]),
+    (&[0x00, 0xD6, 0x01, 0xFF, 0x02, 7, 7], &[0x6B, 0x00]),
+    (&[0x00, 0xD6, 0x00, 0x01, 0x02, 7, 8], &[0x90, 0x00]),
+    (&[0x00, 0xB0, 0x00, 0x00, 0x04], &[1, 7, 8, 0, 0x90, 0x00]),
+];
+
+#[test]
+fn keeps_its_file_through_refusals(rt: HostRuntime) -> Result<(), Fail> {
+    let mut tag = tag(rt.alloc(), &CONTAINER, 512, &[1, 2, 3])?;
+    obeys(&rt, &mut tag, &KEPT);
+    tag.dark();
+    obeys(&rt, &mut tag, &[(&SELECT_NDEF, &[0x6A, 0x82])]);
+    has_kept(&rt, &tag);
+    Ok(())
+}
+
+/// Three bytes of a container: the most that an update brings, and what reading and writing ask for; and what the tag
+/// answers to an update of two bytes, and to a read of two.
+type Guard<'a> = (u8, u8, u8, &'a [u8], &'a [u8]);
+
+fn guarded_tag(alloc: Global, guard: &Guard) -> Result<T4Tag, Fail> {
+    let mut container = CONTAINER;
+    [container[6], container[13], container[14]] = [guard.0, guard.1, guard.2];
+    tag(alloc, &container, 512, &[])
+}
+
+fn guards(rt: &impl Abort, tag: &mut T4Tag, guard: &Guard) {
+    let _opened = tag.obey(&SELECT_APPLICATION);
+    let _picked = tag.obey(&SELECT_NDEF);
+    let updated = tag.obey(&[0x00, 0xD6, 0x00, 0x00, 0x02, 0x00, 0x00]);
+    assert_eq!(rt; updated.as_slice(), guard.3, "at {guard:?}");
+    let content = tag.obey(&[0x00, 0xB0, 0x00, 0x00, 0x02]);
+    assert_eq!(rt; content.as_slice(), guard.4, "at {guard:?}");
+}
+
+#[test]
+fn obeys_its_container(rt: HostRuntime) -> Result<(), Fail> {
+    let rows: [Guard; 5] = [
+        (0x0D, 0x00, 0x00, &[0x90, 0x00], &[0, 0, 0x90, 0x00]),
+        (0x02, 0x00, 0x00, &[0x90, 0x00], &[0, 0, 0x90, 0x00]),
+        (0x01, 0x00, 0x00, &[0x67, 0x00], &[0, 0, 0x90, 0x00]),
+        (0x01, 0x00, 0xFF, &[0x69, 0x82], &[0, 0, 0x90, 0x00]),
+        (0x0D, 0x80, 0x00, &[0x90, 0x00], &[0x69, 0x82]),
+    ];
+    for guard in &rows {
+        guards(&rt, &mut guarded_tag(rt.alloc(), guard)?, guard);
+    }
+    Ok(())
+}
+
+/// A container's code, its length, its bytes 9 to 12, which are the file's identifier and size, and how many bytes the
+/// file has.
+type Stores = (u8, usize, [u8; 4], usize);
+
+/// Whether a tag takes them.
+fn are_taken(alloc: Global, stores: &Stores) -> Result<bool, Fail> {
+    let (code, length, control, size) = *stores;
+    let mut container = filled(alloc, 9, &[])?;
+    container.extend_from_slice(&control)?;
+    container.resize(length, 0)?;
+    Ok(T4Tag::new(code, container, filled(alloc, size, &[])?).is_ok())
+}
+
+#[test]
+fn takes_its_stores_alone(rt: HostRuntime) -> Result<(), Fail> {
+    let rows: [(Stores, bool); 10] = [
+        ((0, 15, [0xE1, 0x04, 0x00, 0x02], 2), true),
+        ((8, 64, [0xE1, 0x04, 0x00, 0x00], 0), true),
+        ((9, 15, [0xE1, 0x04, 0x00, 0x02], 2), false),
+        ((8, 14, [0xE1, 0x04, 0x00, 0x02], 2), false),
+        ((8, 65, [0xE1, 0x04, 0x00, 0x02], 2), false),
+        ((8, 15, [0xE1, 0x03, 0x00, 0x02], 2), false),
+        ((8, 15, [0x03, 0xE1, 0x00, 0x02], 2), true),
+        ((8, 15, [0xE1, 0x04, 0x7F, 0xFF], 0x7FFF), true),
+        ((8, 15, [0xE1, 0x04, 0x80, 0x00], 0x8000), false),
+        ((8, 15, [0xE1, 0x04, 0x00, 0x02], 3), false),
+    ];
+    for (stores, taken) in &rows {
+        assert_eq!(rt; are_taken(rt.alloc(), stores)?, *taken, "at {stores:?}");
+    }
+    assert_eq!(rt; StoreFault::BadStore.number(), 1);
+    Ok(())
+}
+
+/// A command is sent by these bytes.
+fn spells(rt: &impl Abort, command: &T4Command, bytes: &[u8])
+    requires { IsT4Command command.now }
+{
+    assert_eq!(rt; command.to_bytes().as_slice(), bytes);
+}
+
+#[test]
+fn spells_commands(rt: HostRuntime) -> Result<(), Fail> {
+    spells(&rt, &T4Command::SelectApplication, &SELECT_APPLICATION);
+    spells(&rt, &T4Command::SelectFile { id: 0xE104 }, &SELECT_NDEF);
+    let read = T4Command::ReadBinary {
+        offset: 0x7FFE,
+        count: 0x3B,
+    };
+    spells(&rt, &read, &[0x00, 0xB0, 0x7F, 0xFE, 0x3B]);
+    let mut content = ArrayVec::new();
+    content.try_extend_from_slice(&[0x01, 0x2C])?;
+    let update = T4Command::UpdateBinary { offset: 0, content };
+    spells(&rt, &update, &[0x00, 0xD6, 0x00, 0x00, 0x02, 0x01, 0x2C]);
+    Ok(())
+}
