@@ -13,7 +13,7 @@ use Rattle.hex.proofs.HexLemmas.{decode_of-ok}
 use Rattle.bench_script.specs.declared.message.Msg.{Msg}
 use Rattle.bench_script.specs.declared.message.Msg.TheVariants.{Hex, Gen}
 use Rattle.bench_script.specs.Script.{SpellsHex, SpellsWithin, SpellsCounted, SpellsMsg}
-use Rattle.bench_script.specs.Words.{HasNoColon, SpellsNoCount, Finds}
+use Rattle.bench_script.specs.Words.{HasNoColon, SpellsNoCount, SpellsNoHex}
 
 -- the bytes from the one at a place on
 abbrev counted_from : ℕ → ℕ → ℕ → List ℕ
@@ -96,15 +96,6 @@ colon_missing word rest begins none n s spelled =
     let all : HasNoColon (decimal n ++ 58 ∷ decimal s) = (let P : List ℕ → Type 0 = HasNoColon in subst P same none) in
     colon_after (decimal n) (decimal s) all
 
--- where nothing is found there is none
-pub none_found : (P : ℕ → Type 0) (o : Option ℕ) → Finds P o → o ≡ None → (n : ℕ) → P n → ⊥
-none_found P None found is n p = found n p
-none_found P (Some x) found is n p = cc
-
-pub nothing_found : (P : ℕ → Type 0) (o : Option ℕ) → Finds P o → ((x : ℕ) → o ≡ Some x → ⊥) → (n : ℕ) → P n → ⊥
-nothing_found P None found is n p = found n p
-nothing_found P (Some x) found is n p = is x refl
-
 -- a number before it, and one behind it
 pub count_missing : (word rest a b : List ℕ) → word ≡ codes "gen:" ++ rest → rest ≡ a ++ 58 ∷ b → HasNoColon a
     → ((n : ℕ) → SpellsWithin 0 65536 a n → ⊥) → SpellsNoCount word
@@ -119,7 +110,6 @@ start_missing word rest a b begins cut without none n s spelled =
     none s (parts.1, omega arith, (let byte : s < 256 = spelled.byte in omega arith))
 
 -- a word that spells neither counted bytes nor HEX spells no message
-pub no_message : (word : List ℕ) → SpellsNoCount word → ((bytes : List ℕ) → SpellsHex word bytes → ⊥)
-    → (message : Msg) → SpellsMsg word message → ⊥
-no_message word uncounted none (Hex bytes) s = none bytes s
+pub no_message : (word : List ℕ) → SpellsNoCount word → SpellsNoHex word → (message : Msg) → SpellsMsg word message → ⊥
+no_message word uncounted none (Hex bytes) s = none.none bytes s
 no_message word uncounted none (Gen n s) t = uncounted n s t

@@ -1,5 +1,5 @@
 -- No line spells two commands.
-use Rattle.std.proofs.Common.{◌≡◌, ◌≢◌, ℕ, zero, suc, ◌<◌, ◌≤◌, inl, inr, List, [], ◌∷◌, map, length, get_or, true, false, if◌then◌else◌, Ok, refl, sym, ◌∙◌, ap, subst, arith}
+use Rattle.std.proofs.Common.{◌≡◌, ◌≢◌, ℕ, zero, suc, ◌+◌, ◌==◌, ◌<◌, ◌≤◌, inl, inr, List, [], ◌∷◌, map, length, get_or, true, false, if◌then◌else◌, Ok, refl, sym, ◌∙◌, ap, subst, arith}
 use Rattle.std.specs.List.{onto_first}
 use Rattle.std.specs.Prelude.{codes}
 use Rattle.std.proofs.lemmas.Fmt.{decimal_injective}
@@ -15,7 +15,7 @@ use Rattle.bench_script.specs.declared.message.Msg.{Msg}
 use Rattle.bench_script.specs.declared.message.Msg.TheVariants.{Hex, Gen}
 use Rattle.bench_script.specs.declared.script.words.CommandName.{CommandName}
 use Rattle.bench_script.specs.declared.script.words.CommandName.TheVariants as names
-use Rattle.bench_script.specs.Words.{name_text}
+use Rattle.bench_script.specs.Words.{SpellsNoHex, name_text}
 use Rattle.bench_script.specs.Script.{words_of, is_skipped, SpellsHex, SpellsIdent, SpellsIdV, SpellsId, SpellsWithin, SpellsSize, SpellsCode, SpellsBlock, fate_letter, SpellsFates, SpellsMsg, SpelledBy, Spells, least_blocks, most_blocks, least_blocks_v, most_blocks_v, least_lr, most_lr, least_miu, most_miu, least_rw, most_rw, least_limit, most_limit, least_busy, most_busy, least_times, most_times, least_acceptable, most_acceptable}
 use Rattle.nfca_poll.specs.Ident.{IsIdent}
 use Rattle.t5t_tag.specs.Store.{IsBlockSize}
@@ -107,161 +107,183 @@ letter_at [] i d h = absurd (omega (arith, h))
 letter_at (f ∷ fs) zero d h = (f, refl)
 letter_at (f ∷ fs) (suc i) d h = letter_at fs i d (omega (arith, h))
 
--- the second byte of the second word
-abbrev kind_byte : List (List ℕ) → ℕ
-kind_byte (w ∷ (a ∷ b ∷ bs) ∷ ws) = b
-kind_byte ws = 0
-
--- `t4` isn't `t5`
-four_differs : (ws xs ys : List (List ℕ)) → ws ≡ codes "place" ∷ codes "t4" ∷ xs → ws ≡ codes "place" ∷ codes "t5" ∷ ys → ⊥
-four_differs ws xs ys p q = let h : 52 ≡ 53 = ap kind_byte (sym p ∙ q) in omega (arith, h)
-
 -- the first byte of the first word
 first_byte : List (List ℕ) → ℕ
 first_byte [] = 0
 first_byte ([] ∷ ws) = 0
 first_byte ((b ∷ bs) ∷ ws) = b
 
--- `dump` isn't `read`
-dump_differs : (ws xs ys : List (List ℕ)) → ws ≡ codes "dump" ∷ xs → ws ≡ codes "read" ∷ ys → ⊥
-unfolding first_byte
-dump_differs ws xs ys p q = let h : 100 ≡ 114 = ap first_byte (sym p ∙ q) in omega (arith, h)
+-- a word among others
+abbrev word : ℕ → List (List ℕ) → List ℕ
+word n ws = get_or ws n []
 
--- `inbox` isn't `fates`
-inbox_differs : (ws xs ys : List (List ℕ)) → ws ≡ codes "inbox" ∷ xs → ws ≡ codes "fates" ∷ ys → ⊥
-unfolding first_byte
-inbox_differs ws xs ys p q = let h : 105 ≡ 102 = ap first_byte (sym p ∙ q) in omega (arith, h)
+-- the sum of a word's bytes
+abbrev total : List ℕ → ℕ
+total [] = 0
+total (b ∷ bs) = b + total bs
 
--- `link` isn't `busy`
-link_differs : (ws xs ys : List (List ℕ)) → ws ≡ codes "link" ∷ xs → ws ≡ codes "busy" ∷ ys → ⊥
-unfolding first_byte
-link_differs ws xs ys p q = let h : 108 ≡ 98 = ap first_byte (sym p ∙ q) in omega (arith, h)
+-- a number of the words by which a command is told from others: that of its first, and of `place` that of its second
+abbrev key_by : List (List ℕ) → ℕ
+key_by ws = if total (word 0 ws) == 517 then 1000 + total (word 1 ws) else total (word 0 ws)
 
--- `lookup` isn't `remove`
-lookup_differs : (ws xs ys : List (List ℕ)) → ws ≡ codes "lookup" ∷ xs → ws ≡ codes "remove" ∷ ys → ⊥
-unfolding first_byte
-lookup_differs ws xs ys p q = let h : 108 ≡ 114 = ap first_byte (sym p ∙ q) in omega (arith, h)
+abbrev key_of : Command → ℕ
+key_of Skip = 0
+key_of (Fates a) = 531
+key_of (PlaceT2 a b c) = 1166
+key_of (PlaceT4 a b c d) = 1168
+key_of (PlaceT5 a b c d) = 1169
+key_of (PlacePeer a b c d e) = 1428
+key_of (Lock a b) = 425
+key_of (Busy a b c) = 451
+key_of (Offer a b c) = 530
+key_of (Remove a) = 654
+key_of (Dump a) = 438
+key_of (Inbox a) = 544
+key_of Find = 417
+key_of (Read a) = 412
+key_of (Write a b) = 555
+key_of (Link a b c) = 430
+key_of (Put a) = 345
+key_of (Get a b) = 320
+key_of (Lookup a) = 666
+key_of Unlink = 657
 
--- where the first words are alike, so are the values; words that differ spell no two commands
-pub spelled_one : (ws : List (List ℕ)) (c d : Command) → SpelledBy ws c → SpelledBy ws d → c ≡ d
-spelled_one ws (Fates a) (Fates b) (v, e, p) (w, f, q) =
-    let same : v ≡ w = cc in
+key_at : (ws : List (List ℕ)) (c : Command) → SpelledBy ws c → key_by ws ≡ key_of c
+key_at ws Skip p = absurd p
+key_at ws (Fates a) (w, is, p) = ap key_by is
+key_at ws (PlaceT2 a b c) (w, x, y, is, p, q, r) = ap key_by is
+key_at ws (PlaceT4 a b c d) (w, x, y, z, is, p, q, r, s) = ap key_by is
+key_at ws (PlaceT5 a b c d) (w, x, y, z, is, p, q, r, s) = ap key_by is
+key_at ws (PlacePeer a b c d e) (w, x, y, z, v, is, p, q, r, s, t) = ap key_by is
+key_at ws (Lock a b) (w, x, is, p, q) = ap key_by is
+key_at ws (Busy a b c) (w, x, y, is, p, q, r) = ap key_by is
+key_at ws (Offer a b c) (w, x, y, is, p, q, r) = ap key_by is
+key_at ws (Remove a) (w, is, p) = ap key_by is
+key_at ws (Dump a) (w, is, p) = ap key_by is
+key_at ws (Inbox a) (w, is, p) = ap key_by is
+key_at ws Find e = ap key_by e
+key_at ws (Read a) (w, is, p) = ap key_by is
+key_at ws (Write a b) (w, x, is, p, q) = ap key_by is
+key_at ws (Link a b c) (w, x, y, is, p, q, r) = ap key_by is
+key_at ws (Put a) (w, is, p) = ap key_by is
+key_at ws (Get a b) (w, x, is, p, q) = ap key_by is
+key_at ws (Lookup a) (w, is, p) = ap key_by is
+key_at ws Unlink e = ap key_by e
+
+-- where the first words are alike, so are the values
+spelled_alike : (ws : List (List ℕ)) (c d : Command) → key_of c ≡ key_of d → SpelledBy ws c → SpelledBy ws d → c ≡ d
+spelled_alike ws (Fates a) (Fates b) key (v, e, p) (w, f, q) =
+    let same : v ≡ w = ap (word 1) (sym e ∙ f) in
     ap (λ x. let c : Command = Fates x in c) (fates_one w a b (let P : List ℕ → Type 0 = λ t. SpellsFates t a in subst P same p) q)
-spelled_one ws (Remove i) (Remove j) (v, e, p) (w, f, q) =
-    let same : v ≡ w = cc in
+spelled_alike ws (Remove i) (Remove j) key (v, e, p) (w, f, q) =
+    let same : v ≡ w = ap (word 1) (sym e ∙ f) in
     ap (λ x. let c : Command = Remove x in c) (id_one w i j (let P : List ℕ → Type 0 = λ t. SpellsId t i in subst P same p) q)
-spelled_one ws (Lock i m) (Lock j n) (u, v, e, p, r) (u', v', e', p', r') =
-    let first : u ≡ u' = cc in
-    let second : v ≡ v' = cc in
+spelled_alike ws (Lock i m) (Lock j n) key (u, v, e, p, r) (u', v', e', p', r') =
+    let first : u ≡ u' = ap (word 1) (sym e ∙ e') in
+    let second : v ≡ v' = ap (word 2) (sym e ∙ e') in
     let ids : i ≡ j = id_one u' i j (let P : List ℕ → Type 0 = λ t. SpellsId t i in subst P first p) p' in
     let numbers : m ≡ n = block_one v' m n (let P : List ℕ → Type 0 = λ t. SpellsBlock t m in subst P second r) r' in
     cc
-spelled_one ws (Busy i m k) (Busy j n l) (u, v, w, e, p, r, s) (u', v', w', e', p', r', s') =
-    let first : u ≡ u' = cc in
-    let second : v ≡ v' = cc in
-    let third : w ≡ w' = cc in
+spelled_alike ws (Busy i m k) (Busy j n l) key (u, v, w, e, p, r, s) (u', v', w', e', p', r', s') =
+    let first : u ≡ u' = ap (word 1) (sym e ∙ e') in
+    let second : v ≡ v' = ap (word 2) (sym e ∙ e') in
+    let third : w ≡ w' = ap (word 3) (sym e ∙ e') in
     let ids : i ≡ j = id_one u' i j (let P : List ℕ → Type 0 = λ t. SpellsId t i in subst P first p) p' in
     let counts : m ≡ n = within_one least_busy most_busy (omega arith) v' m n (let P : List ℕ → Type 0 = λ t. SpellsWithin least_busy most_busy t m in subst P second r) r' in
     let times : k ≡ l = within_one least_times most_times (omega arith) w' k l (let P : List ℕ → Type 0 = λ t. SpellsWithin least_times most_times t k in subst P third s) s' in
     cc
-spelled_one ws (Offer i m g) (Offer j n h) (u, v, w, e, p, r, s) (u', v', w', e', p', r', s') =
-    let first : u ≡ u' = cc in
-    let second : v ≡ v' = cc in
-    let third : w ≡ w' = cc in
+spelled_alike ws (Offer i m g) (Offer j n h) key (u, v, w, e, p, r, s) (u', v', w', e', p', r', s') =
+    let first : u ≡ u' = ap (word 1) (sym e ∙ e') in
+    let second : v ≡ v' = ap (word 2) (sym e ∙ e') in
+    let third : w ≡ w' = ap (word 3) (sym e ∙ e') in
     let ids : i ≡ j = id_one u' i j (let P : List ℕ → Type 0 = λ t. SpellsId t i in subst P first p) p' in
     let keys : m ≡ n = hex_one v' m n (let P : List ℕ → Type 0 = λ t. SpellsHex t m in subst P second r) r' in
     let values : g ≡ h = hex_one w' g h (let P : List ℕ → Type 0 = λ t. SpellsHex t g in subst P third s) s' in
     cc
-spelled_one ws (Inbox i) (Inbox j) (v, e, p) (w, f, q) =
-    let same : v ≡ w = cc in
+spelled_alike ws (Inbox i) (Inbox j) key (v, e, p) (w, f, q) =
+    let same : v ≡ w = ap (word 1) (sym e ∙ f) in
     ap (λ x. let c : Command = Inbox x in c) (id_one w i j (let P : List ℕ → Type 0 = λ t. SpellsId t i in subst P same p) q)
-spelled_one ws (Dump i) (Dump j) (v, e, p) (w, f, q) =
-    let same : v ≡ w = cc in
+spelled_alike ws (Dump i) (Dump j) key (v, e, p) (w, f, q) =
+    let same : v ≡ w = ap (word 1) (sym e ∙ f) in
     ap (λ x. let c : Command = Dump x in c) (id_one w i j (let P : List ℕ → Type 0 = λ t. SpellsId t i in subst P same p) q)
-spelled_one ws Find Find p q = refl
-spelled_one ws (Read i) (Read j) (v, e, p) (w, f, q) =
-    let same : v ≡ w = cc in
+spelled_alike ws Find Find key p q = refl
+spelled_alike ws (Read i) (Read j) key (v, e, p) (w, f, q) =
+    let same : v ≡ w = ap (word 1) (sym e ∙ f) in
     ap (λ x. let c : Command = Read x in c) (id_one w i j (let P : List ℕ → Type 0 = λ t. SpellsId t i in subst P same p) q)
-spelled_one ws (Write i m) (Write j n) (u, v, e, p, r) (u', v', e', p', r') =
-    let first : u ≡ u' = cc in
-    let second : v ≡ v' = cc in
+spelled_alike ws (Write i m) (Write j n) key (u, v, e, p, r) (u', v', e', p', r') =
+    let first : u ≡ u' = ap (word 1) (sym e ∙ e') in
+    let second : v ≡ v' = ap (word 2) (sym e ∙ e') in
     let ids : i ≡ j = id_one u' i j (let P : List ℕ → Type 0 = λ t. SpellsId t i in subst P first p) p' in
     let messages : m ≡ n = message_one v' m n (let P : List ℕ → Type 0 = λ t. SpellsMsg t m in subst P second r) r' in
     cc
-spelled_one ws (Link i m g) (Link j n h) (u, v, w, e, p, r, s) (u', v', w', e', p', r', s') =
-    let first : u ≡ u' = cc in
-    let second : v ≡ v' = cc in
-    let third : w ≡ w' = cc in
+spelled_alike ws (Link i m g) (Link j n h) key (u, v, w, e, p, r, s) (u', v', w', e', p', r', s') =
+    let first : u ≡ u' = ap (word 1) (sym e ∙ e') in
+    let second : v ≡ v' = ap (word 2) (sym e ∙ e') in
+    let third : w ≡ w' = ap (word 3) (sym e ∙ e') in
     let ids : i ≡ j = ident_one u' i j (let P : List ℕ → Type 0 = λ t. SpellsIdent t i in subst P first p) p' in
     let units : m ≡ n = within_one least_miu most_miu (omega arith) v' m n (let P : List ℕ → Type 0 = λ t. SpellsWithin least_miu most_miu t m in subst P second r) r' in
     let windows : g ≡ h = within_one least_rw most_rw (omega arith) w' g h (let P : List ℕ → Type 0 = λ t. SpellsWithin least_rw most_rw t g in subst P third s) s' in
     cc
-spelled_one ws (Put a) (Put b) (v, e, p) (w, f, q) =
-    let same : v ≡ w = cc in
+spelled_alike ws (Put a) (Put b) key (v, e, p) (w, f, q) =
+    let same : v ≡ w = ap (word 1) (sym e ∙ f) in
     ap (λ x. let c : Command = Put x in c) (message_one w a b (let P : List ℕ → Type 0 = λ t. SpellsMsg t a in subst P same p) q)
-spelled_one ws (Get m g) (Get n h) (u, v, e, p, r) (u', v', e', p', r') =
-    let first : u ≡ u' = cc in
-    let second : v ≡ v' = cc in
+spelled_alike ws (Get m g) (Get n h) key (u, v, e, p, r) (u', v', e', p', r') =
+    let first : u ≡ u' = ap (word 1) (sym e ∙ e') in
+    let second : v ≡ v' = ap (word 2) (sym e ∙ e') in
     let sizes : m ≡ n = within_one least_acceptable most_acceptable (omega arith) u' m n (let P : List ℕ → Type 0 = λ t. SpellsWithin least_acceptable most_acceptable t m in subst P first p) p' in
     let keys : g ≡ h = hex_one v' g h (let P : List ℕ → Type 0 = λ t. SpellsHex t g in subst P second r) r' in
     cc
-spelled_one ws (Lookup a) (Lookup b) (v, e, p) (w, f, q) =
-    let same : v ≡ w = cc in
+spelled_alike ws (Lookup a) (Lookup b) key (v, e, p) (w, f, q) =
+    let same : v ≡ w = ap (word 1) (sym e ∙ f) in
     ap (λ x. let c : Command = Lookup x in c) (sym p.is ∙ same ∙ q.is)
-spelled_one ws Unlink Unlink p q = refl
-spelled_one ws (PlaceT2 i m g) (PlaceT2 j n h) (u, v, w, e, p, r, s) (u', v', w', e', p', r', s') =
-    let first : u ≡ u' = cc in
-    let second : v ≡ v' = cc in
-    let third : w ≡ w' = cc in
+spelled_alike ws Unlink Unlink key p q = refl
+spelled_alike ws (PlaceT2 i m g) (PlaceT2 j n h) key (u, v, w, e, p, r, s) (u', v', w', e', p', r', s') =
+    let first : u ≡ u' = ap (word 2) (sym e ∙ e') in
+    let second : v ≡ v' = ap (word 3) (sym e ∙ e') in
+    let third : w ≡ w' = ap (word 4) (sym e ∙ e') in
     let ids : i ≡ j = ident_one u' i j (let P : List ℕ → Type 0 = λ t. SpellsIdent t i in subst P first p) p' in
     let numbers : m ≡ n = within_one least_blocks most_blocks (omega arith) v' m n (let P : List ℕ → Type 0 = λ t. SpellsWithin least_blocks most_blocks t m in subst P second r) r' in
     let heads : g ≡ h = hex_one w' g h (let P : List ℕ → Type 0 = λ t. SpellsHex t g in subst P third s) s' in
     cc
-spelled_one ws (PlaceT4 i m k g) (PlaceT4 j n l h) (u, v, w, x, e, p, r, t, s) (u', v', w', x', e', p', r', t', s') =
-    let first : u ≡ u' = cc in
-    let second : v ≡ v' = cc in
-    let third : w ≡ w' = cc in
-    let fourth : x ≡ x' = cc in
+spelled_alike ws (PlaceT4 i m k g) (PlaceT4 j n l h) key (u, v, w, x, e, p, r, t, s) (u', v', w', x', e', p', r', t', s') =
+    let first : u ≡ u' = ap (word 2) (sym e ∙ e') in
+    let second : v ≡ v' = ap (word 3) (sym e ∙ e') in
+    let third : w ≡ w' = ap (word 4) (sym e ∙ e') in
+    let fourth : x ≡ x' = ap (word 5) (sym e ∙ e') in
     let ids : i ≡ j = ident_one u' i j (let P : List ℕ → Type 0 = λ t. SpellsIdent t i in subst P first p) p' in
     let numbers : m ≡ n = code_one v' m n (let P : List ℕ → Type 0 = λ t. SpellsCode t m in subst P second r) r' in
     let containers : k ≡ l = hex_one w' k l (let P : List ℕ → Type 0 = λ t. SpellsHex t k in subst P third t) t' in
     let heads : g ≡ h = hex_one x' g h (let P : List ℕ → Type 0 = λ t. SpellsHex t g in subst P fourth s) s' in
     cc
-spelled_one ws (PlaceT5 i m k g) (PlaceT5 j n l h) (u, v, w, x, e, p, r, t, s) (u', v', w', x', e', p', r', t', s') =
-    let first : u ≡ u' = cc in
-    let second : v ≡ v' = cc in
-    let third : w ≡ w' = cc in
-    let fourth : x ≡ x' = cc in
+spelled_alike ws (PlaceT5 i m k g) (PlaceT5 j n l h) key (u, v, w, x, e, p, r, t, s) (u', v', w', x', e', p', r', t', s') =
+    let first : u ≡ u' = ap (word 2) (sym e ∙ e') in
+    let second : v ≡ v' = ap (word 3) (sym e ∙ e') in
+    let third : w ≡ w' = ap (word 4) (sym e ∙ e') in
+    let fourth : x ≡ x' = ap (word 5) (sym e ∙ e') in
     let ids : i ≡ j = decode_of-same u' i j (let P : List ℕ → Type 0 = λ t. SpellsIdV t i in subst P first p).0 p'.0 in
     let numbers : m ≡ n = within_one least_blocks_v most_blocks_v (omega arith) v' m n (let P : List ℕ → Type 0 = λ t. SpellsWithin least_blocks_v most_blocks_v t m in subst P second r) r' in
     let sizes : k ≡ l = size_one w' k l (let P : List ℕ → Type 0 = λ t. SpellsSize t k in subst P third t) t' in
     let heads : g ≡ h = hex_one x' g h (let P : List ℕ → Type 0 = λ t. SpellsHex t g in subst P fourth s) s' in
     cc
-spelled_one ws (PlacePeer i m k g a) (PlacePeer j n l h b) (u, v, w, x, y, e, p, r, t, s, o) (u', v', w', x', y', e', p', r', t', s', o') =
-    let first : u ≡ u' = cc in
-    let second : v ≡ v' = cc in
-    let third : w ≡ w' = cc in
-    let fourth : x ≡ x' = cc in
-    let fifth : y ≡ y' = cc in
+spelled_alike ws (PlacePeer i m k g a) (PlacePeer j n l h b) key (u, v, w, x, y, e, p, r, t, s, o) (u', v', w', x', y', e', p', r', t', s', o') =
+    let first : u ≡ u' = ap (word 2) (sym e ∙ e') in
+    let second : v ≡ v' = ap (word 3) (sym e ∙ e') in
+    let third : w ≡ w' = ap (word 4) (sym e ∙ e') in
+    let fourth : x ≡ x' = ap (word 5) (sym e ∙ e') in
+    let fifth : y ≡ y' = ap (word 6) (sym e ∙ e') in
     let ids : i ≡ j = ident_one u' i j (let P : List ℕ → Type 0 = λ z. SpellsIdent z i in subst P first p) p' in
     let codes' : m ≡ n = within_one least_lr most_lr (omega arith) v' m n (let P : List ℕ → Type 0 = λ z. SpellsWithin least_lr most_lr z m in subst P second r) r' in
     let units : k ≡ l = within_one least_miu most_miu (omega arith) w' k l (let P : List ℕ → Type 0 = λ z. SpellsWithin least_miu most_miu z k in subst P third t) t' in
     let windows : g ≡ h = within_one least_rw most_rw (omega arith) x' g h (let P : List ℕ → Type 0 = λ z. SpellsWithin least_rw most_rw z g in subst P fourth s) s' in
     let limits : a ≡ b = within_one least_limit most_limit (omega arith) y' a b (let P : List ℕ → Type 0 = λ z. SpellsWithin least_limit most_limit z a in subst P fifth o) o' in
     cc
-spelled_one ws (PlaceT4 i m k g) (PlaceT5 j n l h) (u, v, w, x, e, p, r, t, s) (u', v', w', x', e', p', r', t', s') = absurd (four_differs ws (u ∷ v ∷ w ∷ x ∷ []) (u' ∷ v' ∷ w' ∷ x' ∷ []) e e')
-spelled_one ws (PlaceT5 i m k g) (PlaceT4 j n l h) (u, v, w, x, e, p, r, t, s) (u', v', w', x', e', p', r', t', s') = absurd (four_differs ws (u' ∷ v' ∷ w' ∷ x' ∷ []) (u ∷ v ∷ w ∷ x ∷ []) e' e)
-spelled_one ws (Dump i) (Read j) (v, e, p) (w, f, q) = absurd (dump_differs ws (v ∷ []) (w ∷ []) e f)
-spelled_one ws (Read i) (Dump j) (v, e, p) (w, f, q) = absurd (dump_differs ws (w ∷ []) (v ∷ []) f e)
-spelled_one ws (Inbox i) (Fates b) (v, e, p) (w, f, q) = absurd (inbox_differs ws (v ∷ []) (w ∷ []) e f)
-spelled_one ws (Fates a) (Inbox j) (v, e, p) (w, f, q) = absurd (inbox_differs ws (w ∷ []) (v ∷ []) f e)
-spelled_one ws (Link i m g) (Busy j n h) (u, v, w, e, p, r, s) (u', v', w', e', p', r', s') = absurd (link_differs ws (u ∷ v ∷ w ∷ []) (u' ∷ v' ∷ w' ∷ []) e e')
-spelled_one ws (Busy i m g) (Link j n h) (u, v, w, e, p, r, s) (u', v', w', e', p', r', s') = absurd (link_differs ws (u' ∷ v' ∷ w' ∷ []) (u ∷ v ∷ w ∷ []) e' e)
-spelled_one ws (Lookup i) (Remove j) (v, e, p) (w, f, q) = absurd (lookup_differs ws (v ∷ []) (w ∷ []) e f)
-spelled_one ws (Remove i) (Lookup j) (v, e, p) (w, f, q) = absurd (lookup_differs ws (w ∷ []) (v ∷ []) f e)
-spelled_one ws Skip d p q = absurd p
-spelled_one ws c Skip p q = absurd q
-spelled_one ws c d p q = absurd cc
+spelled_alike ws Skip d key p q = absurd p
+spelled_alike ws c Skip key p q = absurd q
+spelled_alike ws c d key p q = absurd (omega (arith, key))
+
+-- words spell one command
+pub spelled_one : (ws : List (List ℕ)) (c d : Command) → SpelledBy ws c → SpelledBy ws d → c ≡ d
+spelled_one ws c d p q = spelled_alike ws c d (sym (key_at ws c p) ∙ key_at ws d q) p q
 
 -- a line of several words that begins with no name spells nothing
 pub nameless : (w : List ℕ) (ws : List (List ℕ)) → ((n : CommandName) → w ≢ name_text n) → ws ≢ [] → (c : Command) → SpelledBy (w ∷ ws) c → ⊥
@@ -287,69 +309,65 @@ nameless w ws none some (Lookup name) (n, e, p) = none names.Lookup (let h : w �
 nameless w ws none some Unlink e = some (let h : ws ≡ [] = cc in h)
 
 -- three words of which the last is no HEX place no tag
-pub head_refused : (ws : List (List ℕ)) (i b h : List ℕ) → ws ≡ i ∷ b ∷ h ∷ [] → ((bytes : List ℕ) → SpellsHex h bytes → ⊥)
+pub head_refused : (ws : List (List ℕ)) (i b h : List ℕ) → ws ≡ i ∷ b ∷ h ∷ [] → SpellsNoHex h
     → (c : Command) → SpelledBy (codes "place" ∷ codes "t2" ∷ ws) c → ⊥
 head_refused ws i b h e none (PlaceT2 id n head) (i', b', h', e', p, q, r) =
     let same : h' ≡ h = cc in
-    none head (let P : List ℕ → Type 0 = λ t. SpellsHex t head in subst P same r)
+    none.none head (let P : List ℕ → Type 0 = λ t. SpellsHex t head in subst P same r)
 head_refused ws i b h e none Skip p = p
-head_refused ws i b h e none c p = cc
+head_refused ws i b h e none c p = omega (arith, key_at (codes "place" ∷ codes "t2" ∷ ws) c p)
 
 -- nor do four of which the last is none
-pub four_refused : (ws : List (List ℕ)) (i b s h : List ℕ) → ws ≡ i ∷ b ∷ s ∷ h ∷ [] → ((bytes : List ℕ) → SpellsHex h bytes → ⊥)
+pub four_refused : (ws : List (List ℕ)) (i b s h : List ℕ) → ws ≡ i ∷ b ∷ s ∷ h ∷ [] → SpellsNoHex h
     → (c : Command) → SpelledBy (codes "place" ∷ codes "t5" ∷ ws) c → ⊥
 four_refused ws i b s h e none (PlaceT5 id n k head) (i', b', s', h', e', p, q, t, r) =
     let same : h' ≡ h = cc in
-    none head (let P : List ℕ → Type 0 = λ t. SpellsHex t head in subst P same r)
-four_refused ws i b s h e none (PlaceT4 id n k head) (i', b', s', h', e', p, q, t, r) = four_differs (codes "place" ∷ codes "t5" ∷ ws) (i' ∷ b' ∷ s' ∷ h' ∷ []) ws e' refl
+    none.none head (let P : List ℕ → Type 0 = λ t. SpellsHex t head in subst P same r)
 four_refused ws i b s h e none Skip p = p
-four_refused ws i b s h e none c p = cc
+four_refused ws i b s h e none c p = omega (arith, key_at (codes "place" ∷ codes "t5" ∷ ws) c p)
 
 -- and so for a Type 4 tag, of whose words the last two are HEX
-pub container_refused : (ws : List (List ℕ)) (i b s h : List ℕ) → ws ≡ i ∷ b ∷ s ∷ h ∷ [] → ((bytes : List ℕ) → SpellsHex s bytes → ⊥)
+pub container_refused : (ws : List (List ℕ)) (i b s h : List ℕ) → ws ≡ i ∷ b ∷ s ∷ h ∷ [] → SpellsNoHex s
     → (c : Command) → SpelledBy (codes "place" ∷ codes "t4" ∷ ws) c → ⊥
 container_refused ws i b s h e none (PlaceT4 id n k head) (i', b', s', h', e', p, q, t, r) =
     let same : s' ≡ s = cc in
-    none k (let P : List ℕ → Type 0 = λ t. SpellsHex t k in subst P same t)
-container_refused ws i b s h e none (PlaceT5 id n k head) (i', b', s', h', e', p, q, t, r) =
-    four_differs (codes "place" ∷ codes "t4" ∷ ws) ws (i' ∷ b' ∷ s' ∷ h' ∷ []) refl e'
+    none.none k (let P : List ℕ → Type 0 = λ t. SpellsHex t k in subst P same t)
 container_refused ws i b s h e none Skip p = p
-container_refused ws i b s h e none c p = cc
+container_refused ws i b s h e none c p = omega (arith, key_at (codes "place" ∷ codes "t4" ∷ ws) c p)
 
-pub heads_refused : (ws : List (List ℕ)) (i b s h : List ℕ) → ws ≡ i ∷ b ∷ s ∷ h ∷ [] → ((bytes : List ℕ) → SpellsHex h bytes → ⊥)
+pub heads_refused : (ws : List (List ℕ)) (i b s h : List ℕ) → ws ≡ i ∷ b ∷ s ∷ h ∷ [] → SpellsNoHex h
     → (c : Command) → SpelledBy (codes "place" ∷ codes "t4" ∷ ws) c → ⊥
 heads_refused ws i b s h e none (PlaceT4 id n k head) (i', b', s', h', e', p, q, t, r) =
     let same : h' ≡ h = cc in
-    none head (let P : List ℕ → Type 0 = λ t. SpellsHex t head in subst P same r)
-heads_refused ws i b s h e none (PlaceT5 id n k head) (i', b', s', h', e', p, q, t, r) = four_differs (codes "place" ∷ codes "t4" ∷ ws) ws (i' ∷ b' ∷ s' ∷ h' ∷ []) refl e'
+    none.none head (let P : List ℕ → Type 0 = λ t. SpellsHex t head in subst P same r)
 heads_refused ws i b s h e none Skip p = p
-heads_refused ws i b s h e none c p = cc
+heads_refused ws i b s h e none c p = omega (arith, key_at (codes "place" ∷ codes "t4" ∷ ws) c p)
 
 -- an offer's key and its value are HEX
-pub key_refused : (ws : List (List ℕ)) (i k v : List ℕ) → ws ≡ i ∷ k ∷ v ∷ [] → ((bytes : List ℕ) → SpellsHex k bytes → ⊥)
+pub key_refused : (ws : List (List ℕ)) (i k v : List ℕ) → ws ≡ i ∷ k ∷ v ∷ [] → SpellsNoHex k
     → (c : Command) → SpelledBy (codes "offer" ∷ ws) c → ⊥
 key_refused ws i k v e none (Offer id key value) (i', k', v', e', p, q, r) =
     let same : k' ≡ k = cc in
-    none key (let P : List ℕ → Type 0 = λ t. SpellsHex t key in subst P same q)
+    none.none key (let P : List ℕ → Type 0 = λ t. SpellsHex t key in subst P same q)
 key_refused ws i k v e none Skip p = p
-key_refused ws i k v e none c p = cc
+key_refused ws i k v e none c p = omega (arith, key_at (codes "offer" ∷ ws) c p)
 
-pub value_refused : (ws : List (List ℕ)) (i k v : List ℕ) → ws ≡ i ∷ k ∷ v ∷ [] → ((bytes : List ℕ) → SpellsHex v bytes → ⊥)
+pub value_refused : (ws : List (List ℕ)) (i k v : List ℕ) → ws ≡ i ∷ k ∷ v ∷ [] → SpellsNoHex v
     → (c : Command) → SpelledBy (codes "offer" ∷ ws) c → ⊥
 value_refused ws i k v e none (Offer id key value) (i', k', v', e', p, q, r) =
     let same : v' ≡ v = cc in
-    none value (let P : List ℕ → Type 0 = λ t. SpellsHex t value in subst P same r)
+    none.none value (let P : List ℕ → Type 0 = λ t. SpellsHex t value in subst P same r)
 value_refused ws i k v e none Skip p = p
-value_refused ws i k v e none c p = cc
+value_refused ws i k v e none c p = omega (arith, key_at (codes "offer" ∷ ws) c p)
 
 -- the key of a get is HEX
-pub asked_key_refused : (ws : List (List ℕ)) (n k : List ℕ) → ws ≡ n ∷ k ∷ [] → ((bytes : List ℕ) → SpellsHex k bytes → ⊥)
+pub asked_key_refused : (ws : List (List ℕ)) (n k : List ℕ) → ws ≡ n ∷ k ∷ [] → SpellsNoHex k
     → (c : Command) → SpelledBy (codes "get" ∷ ws) c → ⊥
 asked_key_refused ws n k e none (Get acceptable key) (n', k', e', p, q) =
     let same : k' ≡ k = cc in
-    none key (let P : List ℕ → Type 0 = λ t. SpellsHex t key in subst P same q)
+    none.none key (let P : List ℕ → Type 0 = λ t. SpellsHex t key in subst P same q)
 asked_key_refused ws n k e none Skip p = p
-asked_key_refused ws n k e none c p = cc
+asked_key_refused ws n k e none c p = omega (arith, key_at (codes "get" ∷ ws) c p)
 
 -- a line that is skipped spells nothing else
 onto_begins : (b : ℕ) (ws : List (List ℕ)) → first_byte (onto_first b ws) ≡ b

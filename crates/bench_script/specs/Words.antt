@@ -5,16 +5,20 @@ use Rattle.bench_script.specs.declared.script.words.CommandName.TheVariants as n
 use Rattle.std.specs.Borrow.{Bor}
 use Rattle.bench_script.specs.declared.command.Command.{Command}
 use Rattle.std.specs.List.{All}
-use Rattle.bench_script.specs.Script.{words_of, SpelledBy, SpellsCounted}
+use Rattle.bench_script.specs.Script.{words_of, SpelledBy, SpellsCounted, SpellsHex}
 
 -- the first word, and the text behind its space, where there is one
 abbrev pub CutsWord : List ℕ → List ℕ → Option (List ℕ) → Type 0
 CutsWord text word None = words_of text ≡ word ∷ []
 CutsWord text word (Some rest) = words_of text ≡ word ∷ words_of rest
 
--- what is found is one of which P holds; where nothing is, P holds of none
-abbrev pub Finds : {T : Type 0} → (T → Type 0) → Option T → Type 0
-Finds {T} P o = MatchOption o ((x : T) → P x → ⊥) P
+-- P holds of none
+abbrev pub NoneOf : {T : Type 0} → (T → Type 0) → Type 0
+NoneOf {T} P = (x : T) → P x → ⊥
+
+-- the word spells no bytes
+pub record SpellsNoHex (word : List ℕ) : Type 0 where
+  pub none : (bytes : List ℕ) → SpellsHex word bytes → ⊥
 
 -- the words spell no command
 abbrev pub SpellsNone : List (List ℕ) → Type 0

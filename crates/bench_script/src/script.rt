@@ -155,10 +155,8 @@ fn fates_line(alloc: Global, rest: &[u8]) -> Result<Command, LineFault>
     let Some(word) = only_word(rest) else {
         return Err(LineFault::Refused);
     };
-    match fates_word(alloc, word)? {
-        Some(fates) => Ok(Command::Fates(fates)),
-        None => Err(LineFault::Refused),
-    }
+    let fates = fates_word(alloc, word)?;
+    Ok(Command::Fates(fates))
 }
 
 /// `lock ID BLOCK`, behind its first word.
@@ -169,13 +167,9 @@ fn lock_line(alloc: Global, rest: &[u8]) -> Result<Command, LineFault>
     let Some((id_text, block_text)) = two_words(rest) else {
         return Err(LineFault::Refused);
     };
-    let Some(id) = device_word(alloc, id_text)? else {
-        return Err(LineFault::Refused);
-    };
-    match block_word(alloc, block_text)? {
-        Some(block) => Ok(Command::Lock { id, block }),
-        None => Err(LineFault::Refused),
-    }
+    let id = device_word(alloc, id_text)?;
+    let block = block_word(alloc, block_text)?;
+    Ok(Command::Lock { id, block })
 }
 
 /// `busy ID COUNT TIMES`, behind its first word.
@@ -186,20 +180,13 @@ fn busy_line(alloc: Global, rest: &[u8]) -> Result<Command, LineFault>
     let Some((id_text, count_text, times_text)) = three_words(rest) else {
         return Err(LineFault::Refused);
     };
-    let Some(id) = device_word(alloc, id_text)? else {
-        return Err(LineFault::Refused);
-    };
-    let Some(count) = small_word(alloc, count_text, LEAST_BUSY, MOST_BUSY)? else {
-        return Err(LineFault::Refused);
-    };
-    match small_word(alloc, times_text, LEAST_TIMES, MOST_TIMES)? {
-        Some(times) => Ok(Command::Busy { id, count, times }),
-        None => Err(LineFault::Refused),
-    }
+    let id = device_word(alloc, id_text)?;
+    let count = small_word(alloc, count_text, LEAST_BUSY, MOST_BUSY)?;
+    let times = small_word(alloc, times_text, LEAST_TIMES, MOST_TIMES)?;
+    Ok(Command::Busy { id, count, times })
 }
 
 /// `offer ID HEX HEX`, behind its first word.
-#[tactic(auto, using(crate::proofs::Spelling::key_refused, crate::proofs::Spelling::value_refused))]
 fn offer_line(alloc: Global, rest: &[u8]) -> Result<Command, LineFault>
     ensures ok { IfOk result (λ c. SpelledBy (codes "offer" ∷ words_of rest.now) c) }
     ensures refused { IsErrOf result LineFault.Refused → SpellsNone (codes "offer" ∷ words_of rest.now) }
@@ -207,16 +194,10 @@ fn offer_line(alloc: Global, rest: &[u8]) -> Result<Command, LineFault>
     let Some((id_text, key_text, value_text)) = three_words(rest) else {
         return Err(LineFault::Refused);
     };
-    let Some(id) = device_word(alloc, id_text)? else {
-        return Err(LineFault::Refused);
-    };
-    let Some(key) = hex_word(alloc, key_text)? else {
-        return Err(LineFault::Refused);
-    };
-    match hex_word(alloc, value_text)? {
-        Some(value) => Ok(Command::Offer { id, key, value }),
-        None => Err(LineFault::Refused),
-    }
+    let id = device_word(alloc, id_text)?;
+    let key = hex_word(alloc, key_text)?;
+    let value = hex_word(alloc, value_text)?;
+    Ok(Command::Offer { id, key, value })
 }
 
 /// `remove ID`, behind its first word.
@@ -227,10 +208,8 @@ fn remove_line(alloc: Global, rest: &[u8]) -> Result<Command, LineFault>
     let Some(word) = only_word(rest) else {
         return Err(LineFault::Refused);
     };
-    match device_word(alloc, word)? {
-        Some(id) => Ok(Command::Remove { id }),
-        None => Err(LineFault::Refused),
-    }
+    let id = device_word(alloc, word)?;
+    Ok(Command::Remove { id })
 }
 
 /// `dump ID`, behind its first word.
@@ -241,10 +220,8 @@ fn dump_line(alloc: Global, rest: &[u8]) -> Result<Command, LineFault>
     let Some(word) = only_word(rest) else {
         return Err(LineFault::Refused);
     };
-    match device_word(alloc, word)? {
-        Some(id) => Ok(Command::Dump { id }),
-        None => Err(LineFault::Refused),
-    }
+    let id = device_word(alloc, word)?;
+    Ok(Command::Dump { id })
 }
 
 /// `inbox ID`, behind its first word.
@@ -255,10 +232,8 @@ fn inbox_line(alloc: Global, rest: &[u8]) -> Result<Command, LineFault>
     let Some(word) = only_word(rest) else {
         return Err(LineFault::Refused);
     };
-    match device_word(alloc, word)? {
-        Some(id) => Ok(Command::Inbox { id }),
-        None => Err(LineFault::Refused),
-    }
+    let id = device_word(alloc, word)?;
+    Ok(Command::Inbox { id })
 }
 
 /// `read ID`, behind its first word.
@@ -269,10 +244,8 @@ fn read_line(alloc: Global, rest: &[u8]) -> Result<Command, LineFault>
     let Some(word) = only_word(rest) else {
         return Err(LineFault::Refused);
     };
-    match device_word(alloc, word)? {
-        Some(id) => Ok(Command::Read { id }),
-        None => Err(LineFault::Refused),
-    }
+    let id = device_word(alloc, word)?;
+    Ok(Command::Read { id })
 }
 
 /// `write ID MSG`, behind its first word.
@@ -283,13 +256,9 @@ fn write_line(alloc: Global, rest: &[u8]) -> Result<Command, LineFault>
     let Some((id_text, message_text)) = two_words(rest) else {
         return Err(LineFault::Refused);
     };
-    let Some(id) = device_word(alloc, id_text)? else {
-        return Err(LineFault::Refused);
-    };
-    match message_word(alloc, message_text)? {
-        Some(message) => Ok(Command::Write { id, message }),
-        None => Err(LineFault::Refused),
-    }
+    let id = device_word(alloc, id_text)?;
+    let message = message_word(alloc, message_text)?;
+    Ok(Command::Write { id, message })
 }
 
 /// `place KIND ..`, behind its first word.
@@ -311,7 +280,6 @@ fn place_line(alloc: Global, rest: &[u8]) -> Result<Command, LineFault>
 }
 
 /// `place t2 ID BLOCKS HEX`, behind its second word.
-#[tactic(auto, using(crate::proofs::Spelling::head_refused))]
 fn place_t2(alloc: Global, rest: &[u8]) -> Result<Command, LineFault>
     ensures ok { IfOk result (λ c. SpelledBy (codes "place" ∷ codes "t2" ∷ words_of rest.now) c) }
     ensures refused { IsErrOf result LineFault.Refused → SpellsNone (codes "place" ∷ codes "t2" ∷ words_of rest.now) }
@@ -319,20 +287,13 @@ fn place_t2(alloc: Global, rest: &[u8]) -> Result<Command, LineFault>
     let Some((id_text, blocks_text, head_text)) = three_words(rest) else {
         return Err(LineFault::Refused);
     };
-    let Some(id) = ident_word(alloc, id_text)? else {
-        return Err(LineFault::Refused);
-    };
-    let Some(blocks) = within_word(alloc, blocks_text, LEAST_BLOCKS, MOST_BLOCKS)? else {
-        return Err(LineFault::Refused);
-    };
-    match hex_word(alloc, head_text)? {
-        Some(head) => Ok(Command::PlaceT2 { id, blocks, head }),
-        None => Err(LineFault::Refused),
-    }
+    let id = ident_word(alloc, id_text)?;
+    let blocks = within_word(alloc, blocks_text, LEAST_BLOCKS, MOST_BLOCKS)?;
+    let head = hex_word(alloc, head_text)?;
+    Ok(Command::PlaceT2 { id, blocks, head })
 }
 
 /// `place t4 ID CODE HEX HEX`, behind its second word.
-#[tactic(auto, using(crate::proofs::Spelling::container_refused, crate::proofs::Spelling::heads_refused))]
 fn place_t4(alloc: Global, rest: &[u8]) -> Result<Command, LineFault>
     ensures ok { IfOk result (λ c. SpelledBy (codes "place" ∷ codes "t4" ∷ words_of rest.now) c) }
     ensures refused { IsErrOf result LineFault.Refused → SpellsNone (codes "place" ∷ codes "t4" ∷ words_of rest.now) }
@@ -340,28 +301,19 @@ fn place_t4(alloc: Global, rest: &[u8]) -> Result<Command, LineFault>
     let Some((id_text, code_text, container_text, head_text)) = four_words(rest) else {
         return Err(LineFault::Refused);
     };
-    let Some(id) = ident_word(alloc, id_text)? else {
-        return Err(LineFault::Refused);
-    };
-    let Some(code) = code_word(alloc, code_text)? else {
-        return Err(LineFault::Refused);
-    };
-    let Some(container) = hex_word(alloc, container_text)? else {
-        return Err(LineFault::Refused);
-    };
-    match hex_word(alloc, head_text)? {
-        Some(head) => Ok(Command::PlaceT4 {
-            id,
-            code,
-            container,
-            head,
-        }),
-        None => Err(LineFault::Refused),
-    }
+    let id = ident_word(alloc, id_text)?;
+    let code = code_word(alloc, code_text)?;
+    let container = hex_word(alloc, container_text)?;
+    let head = hex_word(alloc, head_text)?;
+    Ok(Command::PlaceT4 {
+        id,
+        code,
+        container,
+        head,
+    })
 }
 
 /// `place t5 ID BLOCKS SIZE HEX`, behind its second word.
-#[tactic(auto, using(crate::proofs::Spelling::four_refused))]
 fn place_t5(alloc: Global, rest: &[u8]) -> Result<Command, LineFault>
     ensures ok { IfOk result (λ c. SpelledBy (codes "place" ∷ codes "t5" ∷ words_of rest.now) c) }
     ensures refused { IsErrOf result LineFault.Refused → SpellsNone (codes "place" ∷ codes "t5" ∷ words_of rest.now) }
@@ -369,24 +321,16 @@ fn place_t5(alloc: Global, rest: &[u8]) -> Result<Command, LineFault>
     let Some((id_text, blocks_text, size_text, head_text)) = four_words(rest) else {
         return Err(LineFault::Refused);
     };
-    let Some(id) = ident_word_v(alloc, id_text)? else {
-        return Err(LineFault::Refused);
-    };
-    let Some(blocks) = within_word(alloc, blocks_text, LEAST_BLOCKS_V, MOST_BLOCKS_V)? else {
-        return Err(LineFault::Refused);
-    };
-    let Some(size) = size_word(alloc, size_text)? else {
-        return Err(LineFault::Refused);
-    };
-    match hex_word(alloc, head_text)? {
-        Some(head) => Ok(Command::PlaceT5 {
-            id,
-            blocks,
-            size,
-            head,
-        }),
-        None => Err(LineFault::Refused),
-    }
+    let id = ident_word_v(alloc, id_text)?;
+    let blocks = within_word(alloc, blocks_text, LEAST_BLOCKS_V, MOST_BLOCKS_V)?;
+    let size = size_word(alloc, size_text)?;
+    let head = hex_word(alloc, head_text)?;
+    Ok(Command::PlaceT5 {
+        id,
+        blocks,
+        size,
+        head,
+    })
 }
 
 /// `place peer ID LR MIU RW LIMIT`, behind its second word.
@@ -397,26 +341,16 @@ fn place_peer(alloc: Global, rest: &[u8]) -> Result<Command, LineFault>
     let Some((id_text, lr_text, miu_text, rw_text, limit_text)) = five_words(rest) else {
         return Err(LineFault::Refused);
     };
-    let Some(id) = ident_word(alloc, id_text)? else {
-        return Err(LineFault::Refused);
-    };
-    let Some(lr) = small_word(alloc, lr_text, LEAST_LR, MOST_LR)? else {
-        return Err(LineFault::Refused);
-    };
-    let Some(miu) = within_word(alloc, miu_text, LEAST_MIU, MOST_MIU)? else {
-        return Err(LineFault::Refused);
-    };
-    let Some(rw) = small_word(alloc, rw_text, LEAST_RW, MOST_RW)? else {
-        return Err(LineFault::Refused);
-    };
-    match long_word(alloc, limit_text, LEAST_LIMIT, MOST_LIMIT)? {
-        Some(limit) => Ok(Command::PlacePeer {
-            id,
-            lr,
-            miu,
-            rw,
-            limit,
-        }),
-        None => Err(LineFault::Refused),
-    }
+    let id = ident_word(alloc, id_text)?;
+    let lr = small_word(alloc, lr_text, LEAST_LR, MOST_LR)?;
+    let miu = within_word(alloc, miu_text, LEAST_MIU, MOST_MIU)?;
+    let rw = small_word(alloc, rw_text, LEAST_RW, MOST_RW)?;
+    let limit = long_word(alloc, limit_text, LEAST_LIMIT, MOST_LIMIT)?;
+    Ok(Command::PlacePeer {
+        id,
+        lr,
+        miu,
+        rw,
+        limit,
+    })
 }

@@ -13,7 +13,7 @@ use Rattle.nfc_base.specs.declared.carrier.EndCause.TheVariants as cause
 use Rattle.nfc_base.specs.declared.carrier.LinkEnd.{LinkEnd}
 use Rattle.air_core.specs.World.{Machine}
 use Rattle.air_core.specs.Turn.{Air, TurnIs, Stops, Transmits}
-use Rattle.air_core.specs.Conversation.{Note, note, Got, Lost, Asks}
+use Rattle.air_core.specs.Conversation.{Note, Got, Lost, Asks}
 use Rattle.air_core.specs.Speaking.{Speaks}
 use Rattle.air_core.specs.declared.fault.AirFault.TheVariants as air
 use Rattle.air_core.proofs.Speaking.{SpeaksOn, on_start, on_turn, on_lost}

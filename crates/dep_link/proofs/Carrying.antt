@@ -11,8 +11,6 @@ use Rattle.nfc_base.specs.Links.{Stepped, Stopped}
 use Rattle.nfc_base.specs.LinkTurns.{GivenBy, arrived}
 use Rattle.nfc_base.proofs.LinkTurns.{arrived_append}
 use Rattle.nfc_base.specs.declared.event.Event.{Event}
-use Rattle.nfc_base.specs.declared.event.Event.TheVariants.{Request}
-use Rattle.nfc_base.specs.declared.event.Fate.TheVariants.{Pass}
 use Rattle.nfc_base.specs.declared.carrier.EndCause.{EndCause}
 use Rattle.nfc_base.specs.declared.carrier.EndCause.TheVariants.{FieldLost, SixBad, Protocol, Memory}
 use Rattle.air_core.specs.Turn.{Air, moment}

@@ -43,7 +43,7 @@ pub record IsBegun (i : InitState) (out : List ℕ) (now : InitState) (sent : Si
   pub now_is : now ≡ begun i out
   pub sent_is : sent ≡ air_frame (request (begun i out).core)
 
--- the payload came whole to whoever heard these frames, by those that arrived since it was begun
+-- whether the frames that arrived since a payload was begun brought it whole
 abbrev pub has_come : {L : Type 0} → DepSeen L → DepSeen L → Bool
 has_come a b = brings_payload a.initiator.core.number (frames_of (arrived (drop (length a.air.trace) b.air.trace)))
 

@@ -54,8 +54,8 @@ impl<'a, L: PeerListener> DepPair<'a, L> {
         }
     }
 
-    /// Carries one payload with whatever stands in the field: turns by the initiator's table, up to the reply or a fault, by which the
-    /// link is then over. `swap` is this with a peer that keeps to the target's table.
+    /// Carries one payload with whatever stands in the field: turns by the initiator's table, up to the reply or a
+    /// fault, by which the link is then over. `swap` is this with a peer that keeps to the target's table.
     pub fn exchange<A: Answerer>(
         &mut self,
         alloc: Global,

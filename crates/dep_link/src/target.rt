@@ -212,7 +212,10 @@ impl Target {
     fn first_piece(&mut self) -> DepFrame
         ensures value { result ≡ first_piece self.old self.old.left }
         ensures range { IsDepFrame result }
-        ensures step { self.new ≡ record self.old { left = drop self.old.most self.old.left; unsent = nat_lt self.old.most (length self.old.left) } }
+        ensures step { self.new ≡ record self.old {
+          left = drop self.old.most self.old.left;
+          unsent = nat_lt self.old.most (length self.old.left);
+        } }
     {
         let left = &self.reply.as_slice()[self.at..];
         let value = piece(true, self.most, (self.expected + 3) % 4, left);

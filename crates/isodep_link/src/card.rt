@@ -196,7 +196,10 @@ impl CardEnd {
     /// The first piece of its answer, which is sent with it.
     fn first_piece(&mut self) -> Block
         ensures value { result ≡ piece self.old.most self.old.number self.old.left }
-        ensures step { self.new ≡ record self.old { left = drop self.old.most self.old.left; unsent = nat_lt self.old.most (length self.old.left) } }
+        ensures step { self.new ≡ record self.old {
+          left = drop self.old.most self.old.left;
+          unsent = nat_lt self.old.most (length self.old.left);
+        } }
     {
         let left = &self.answer.as_slice()[self.at..];
         let block = piece(self.most, self.number, left);

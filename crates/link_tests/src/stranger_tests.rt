@@ -116,8 +116,8 @@ fn exchanged(alloc: Global, bytes: &[u8]) -> Result<(Told, Told, usize), Fail> {
     Ok((first, again, field.trace().len()))
 }
 
-/// A frame that isn't allowed ends the link, and nothing more is sent: one with another PNI, one that the initiator sends, no frame
-/// of NFC-DEP. The PNI moves on behind a reply, so the same frame again has another one than the next.
+/// A frame that isn't allowed ends the link, and nothing more is sent: one with another PNI, one that the initiator
+/// sends, no frame of NFC-DEP. The PNI moves on behind a reply, so the same frame again has another one than the next.
 #[test]
 fn answers_of_a_stranger(rt: HostRuntime) -> Result<(), Fail> {
     const REFUSED: Told = Err(LinkEnd {

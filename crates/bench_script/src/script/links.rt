@@ -25,16 +25,10 @@ pub fn link_line(alloc: Global, rest: &[u8]) -> Result<Command, LineFault>
     let Some((id_text, miu_text, rw_text)) = three_words(rest) else {
         return Err(LineFault::Refused);
     };
-    let Some(id) = ident_word(alloc, id_text)? else {
-        return Err(LineFault::Refused);
-    };
-    let Some(miu) = within_word(alloc, miu_text, LEAST_MIU, MOST_MIU)? else {
-        return Err(LineFault::Refused);
-    };
-    match small_word(alloc, rw_text, LEAST_RW, MOST_RW)? {
-        Some(rw) => Ok(Command::Link { id, miu, rw }),
-        None => Err(LineFault::Refused),
-    }
+    let id = ident_word(alloc, id_text)?;
+    let miu = within_word(alloc, miu_text, LEAST_MIU, MOST_MIU)?;
+    let rw = small_word(alloc, rw_text, LEAST_RW, MOST_RW)?;
+    Ok(Command::Link { id, miu, rw })
 }
 
 /// `put MSG`, behind its first word.
@@ -45,14 +39,11 @@ pub fn put_line(alloc: Global, rest: &[u8]) -> Result<Command, LineFault>
     let Some(word) = only_word(rest) else {
         return Err(LineFault::Refused);
     };
-    match message_word(alloc, word)? {
-        Some(message) => Ok(Command::Put { message }),
-        None => Err(LineFault::Refused),
-    }
+    let message = message_word(alloc, word)?;
+    Ok(Command::Put { message })
 }
 
 /// `get N HEX`, behind its first word.
-#[tactic(auto, using(crate::proofs::Spelling::asked_key_refused))]
 pub fn get_line(alloc: Global, rest: &[u8]) -> Result<Command, LineFault>
     ensures ok { IfOk result (λ c. SpelledBy (codes "get" ∷ words_of rest.now) c) }
     ensures refused { IsErrOf result LineFault.Refused → SpellsNone (codes "get" ∷ words_of rest.now) }
@@ -60,14 +51,9 @@ pub fn get_line(alloc: Global, rest: &[u8]) -> Result<Command, LineFault>
     let Some((acceptable_text, key_text)) = two_words(rest) else {
         return Err(LineFault::Refused);
     };
-    let Some(acceptable) = long_word(alloc, acceptable_text, LEAST_ACCEPTABLE, MOST_ACCEPTABLE)?
-    else {
-        return Err(LineFault::Refused);
-    };
-    match hex_word(alloc, key_text)? {
-        Some(key) => Ok(Command::Get { acceptable, key }),
-        None => Err(LineFault::Refused),
-    }
+    let acceptable = long_word(alloc, acceptable_text, LEAST_ACCEPTABLE, MOST_ACCEPTABLE)?;
+    let key = hex_word(alloc, key_text)?;
+    Ok(Command::Get { acceptable, key })
 }
 
 /// `lookup NAME`, behind its first word.
@@ -78,8 +64,6 @@ pub fn lookup_line(alloc: Global, rest: &[u8]) -> Result<Command, LineFault>
     let Some(word) = only_word(rest) else {
         return Err(LineFault::Refused);
     };
-    match name_word(alloc, word)? {
-        Some(name) => Ok(Command::Lookup { name }),
-        None => Err(LineFault::Refused),
-    }
+    let name = name_word(alloc, word)?;
+    Ok(Command::Lookup { name })
 }

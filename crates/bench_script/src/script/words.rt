@@ -1,6 +1,6 @@
 //! The words of a line.
 
-ghost use Rattle.std.specs.Prelude.{◌≡◌, ◌≢◌, ◌<◌, ◌^◌, ℕ, [], ◌∷◌, List, MatchOption, IfOk};
+ghost use Rattle.std.specs.Prelude.{◌≡◌, ◌≢◌, ◌<◌, ◌^◌, ℕ, [], ◌∷◌, List, MatchOption, IfOk, IsErrOf};
 ghost use Rattle.std.specs.Char.{is_ascii_graphic};
 ghost use Rattle.std.specs.List.{list_all};
 ghost use Rattle.nfc_base.specs.declared.event.Fate.{Fate as Becomes};
@@ -9,8 +9,9 @@ ghost use Rattle.std.specs.Fmt.{decimal};
 ghost use Rattle.bench_script.specs.Script.{words_of, SpellsHex, SpellsIdent, SpellsIdV, SpellsId, SpellsWithin, SpellsSize, SpellsCode, SpellsBlock, fate_letter, SpellsFates, SpellsCounted, SpellsMsg, SpellsName};
 ghost use Rattle.bench_script.specs.declared.command.DeviceId.{DeviceId as Named};
 ghost use Rattle.bench_script.specs.declared.script.words.CommandName.{CommandName as Names};
-ghost use Rattle.bench_script.specs.Words.{CutsWord, Finds, AreThree, AreFour, AreFive, NotOne, NotTwo, NotThree, NotFour, NotFive, HasNoColon, IsCutAtColon, SpellsNoCount, name_text};
+ghost use Rattle.bench_script.specs.Words.{CutsWord, NoneOf, AreThree, AreFour, AreFive, NotOne, NotTwo, NotThree, NotFour, NotFive, HasNoColon, IsCutAtColon, SpellsNoCount, SpellsNoHex, name_text};
 
+use super::LineFault;
 use crate::command::DeviceId;
 use crate::message::Msg;
 use hex::FromHexError;
@@ -138,61 +139,63 @@ pub fn three_words(text: &[u8]) -> Option<(&[u8], &[u8], &[u8])>
     }
 }
 
-/// The identifier that a word spells, if it does.
-pub fn ident_word(alloc: Global, word: &[u8]) -> Result<Option<Ident>, AllocError>
-    ensures { IfOk result (Finds (SpellsIdent word.now)) }
+/// The identifier that a word spells.
+pub fn ident_word(alloc: Global, word: &[u8]) -> Result<Ident, LineFault>
+    ensures ok { IfOk result (SpellsIdent word.now) }
+    ensures refused { IsErrOf result LineFault.Refused → NoneOf (SpellsIdent word.now) }
 {
     match hex::decode(alloc, word) {
         Ok(bytes) => match Ident::new(&bytes) {
-            Ok(id) => Ok(Some(id)),
-            Err(_) => Ok(None),
+            Ok(id) => Ok(id),
+            Err(_) => Err(LineFault::Refused),
         },
-        Err(FromHexError::OutOfMemory) => Err(AllocError),
-        Err(_) => Ok(None),
+        Err(FromHexError::OutOfMemory) => Err(LineFault::Memory),
+        Err(_) => Err(LineFault::Refused),
     }
 }
 
-/// The identifier of a Type 5 tag that a word spells, if it does.
-pub fn ident_word_v(alloc: Global, word: &[u8]) -> Result<Option<[u8; 8]>, AllocError>
-    ensures { IfOk result (Finds (SpellsIdV word.now)) }
+/// The identifier of a Type 5 tag that a word spells.
+pub fn ident_word_v(alloc: Global, word: &[u8]) -> Result<[u8; 8], LineFault>
+    ensures ok { IfOk result (SpellsIdV word.now) }
+    ensures refused { IsErrOf result LineFault.Refused → NoneOf (SpellsIdV word.now) }
 {
     match hex::decode(alloc, word) {
         Ok(bytes) => match bytes.as_slice().try_into() {
-            Ok(id) => Ok(Some(id)),
-            Err(_) => Ok(None),
+            Ok(id) => Ok(id),
+            Err(_) => Err(LineFault::Refused),
         },
-        Err(FromHexError::OutOfMemory) => Err(AllocError),
-        Err(_) => Ok(None),
+        Err(FromHexError::OutOfMemory) => Err(LineFault::Memory),
+        Err(_) => Err(LineFault::Refused),
     }
 }
 
-/// The identifier of a device that a word spells, if it does.
-pub fn device_word(alloc: Global, word: &[u8]) -> Result<Option<DeviceId>, AllocError>
-    ensures { IfOk result (Finds (SpellsId word.now)) }
+/// The identifier of a device that a word spells.
+pub fn device_word(alloc: Global, word: &[u8]) -> Result<DeviceId, LineFault>
+    ensures ok { IfOk result (SpellsId word.now) }
+    ensures refused { IsErrOf result LineFault.Refused → NoneOf (SpellsId word.now) }
 {
-    if let Some(id) = ident_word(alloc, word)? {
-        return Ok(Some(DeviceId::A(id)));
-    }
-    match ident_word_v(alloc, word)? {
-        Some(id) => Ok(Some(DeviceId::V(id))),
-        None => Ok(None),
+    match ident_word(alloc, word) {
+        Ok(id) => Ok(DeviceId::A(id)),
+        Err(LineFault::Refused) => Ok(DeviceId::V(ident_word_v(alloc, word)?)),
+        Err(LineFault::Memory) => Err(LineFault::Memory),
     }
 }
 
-/// The bytes that a word spells, if it does.
-pub fn hex_word(alloc: Global, word: &[u8]) -> Result<Option<Items<u8>>, AllocError>
-    ensures { IfOk result (Finds (SpellsHex word.now)) }
+/// The bytes that a word spells.
+pub fn hex_word(alloc: Global, word: &[u8]) -> Result<Items<u8>, LineFault>
+    ensures ok { IfOk result (SpellsHex word.now) }
+    ensures refused { IsErrOf result LineFault.Refused → SpellsNoHex word.now }
 {
     if word == b"-".as_slice() {
-        return Ok(Some(Items::new(Vec::new(alloc))));
+        return Ok(Items::new(Vec::new(alloc)));
     }
     if word.is_empty() {
-        return Ok(None);
+        return Err(LineFault::Refused);
     }
     match hex::decode(alloc, word) {
-        Ok(bytes) => Ok(Some(Items::new(bytes))),
-        Err(FromHexError::OutOfMemory) => Err(AllocError),
-        Err(_) => Ok(None),
+        Ok(bytes) => Ok(Items::new(bytes)),
+        Err(FromHexError::OutOfMemory) => Err(LineFault::Memory),
+        Err(_) => Err(LineFault::Refused),
     }
 }
 
@@ -215,73 +218,63 @@ fn number_word(alloc: Global, word: &[u8]) -> Result<Option<u32>, AllocError>
     }
 }
 
-/// The number between two limits that a word spells, if it does.
+/// The number between two limits that a word spells.
 #[tactic(auto, using(std::proofs::lemmas::Fmt::decimal_injective))]
-pub fn long_word(
-    alloc: Global,
-    word: &[u8],
-    least: u32,
-    most: u32,
-) -> Result<Option<u32>, AllocError>
-    ensures { IfOk result (Finds (SpellsWithin least most word.now)) }
+pub fn long_word(alloc: Global, word: &[u8], least: u32, most: u32) -> Result<u32, LineFault>
+    ensures ok { IfOk result (SpellsWithin least most word.now) }
+    ensures refused { IsErrOf result LineFault.Refused → NoneOf (SpellsWithin least most word.now) }
 {
     match number_word(alloc, word)? {
-        Some(n) if least <= n && n <= most => Ok(Some(n)),
-        _ => Ok(None),
+        Some(n) if least <= n && n <= most => Ok(n),
+        _ => Err(LineFault::Refused),
     }
 }
 
 /// Likewise a number of two bytes.
-pub fn within_word(
-    alloc: Global,
-    word: &[u8],
-    least: u16,
-    most: u16,
-) -> Result<Option<u16>, AllocError>
-    ensures { IfOk result (Finds (SpellsWithin least most word.now)) }
+pub fn within_word(alloc: Global, word: &[u8], least: u16, most: u16) -> Result<u16, LineFault>
+    ensures ok { IfOk result (SpellsWithin least most word.now) }
+    ensures refused { IsErrOf result LineFault.Refused → NoneOf (SpellsWithin least most word.now) }
 {
-    match long_word(alloc, word, least as u32, most as u32)? {
-        Some(n) => Ok(Some(n as u16)),
-        None => Ok(None),
-    }
+    Ok(long_word(alloc, word, least as u32, most as u32)? as u16)
 }
 
 /// Likewise a number of one byte.
-pub fn small_word(alloc: Global, word: &[u8], least: u8, most: u8) -> Result<Option<u8>, AllocError>
-    ensures { IfOk result (Finds (SpellsWithin least most word.now)) }
+pub fn small_word(alloc: Global, word: &[u8], least: u8, most: u8) -> Result<u8, LineFault>
+    ensures ok { IfOk result (SpellsWithin least most word.now) }
+    ensures refused { IsErrOf result LineFault.Refused → NoneOf (SpellsWithin least most word.now) }
 {
-    match within_word(alloc, word, least as u16, most as u16)? {
-        Some(n) => Ok(Some(n as u8)),
-        None => Ok(None),
-    }
+    Ok(long_word(alloc, word, least as u32, most as u32)? as u8)
 }
 
-/// The number of a block that a word spells, if it does.
-pub fn block_word(alloc: Global, word: &[u8]) -> Result<Option<u16>, AllocError>
-    ensures { IfOk result (Finds (SpellsBlock word.now)) }
+/// The number of a block that a word spells.
+pub fn block_word(alloc: Global, word: &[u8]) -> Result<u16, LineFault>
+    ensures ok { IfOk result (SpellsBlock word.now) }
+    ensures refused { IsErrOf result LineFault.Refused → NoneOf (SpellsBlock word.now) }
 {
     within_word(alloc, word, 0, u16::MAX)
 }
 
-/// The size of a Type 5 tag's blocks that a word spells, if it does.
+/// The size of a Type 5 tag's blocks that a word spells.
 #[tactic(auto, using(std::proofs::lemmas::Fmt::decimal_injective))]
-pub fn size_word(alloc: Global, word: &[u8]) -> Result<Option<u8>, AllocError>
-    ensures { IfOk result (Finds (SpellsSize word.now)) }
+pub fn size_word(alloc: Global, word: &[u8]) -> Result<u8, LineFault>
+    ensures ok { IfOk result (SpellsSize word.now) }
+    ensures refused { IsErrOf result LineFault.Refused → NoneOf (SpellsSize word.now) }
 {
     match number_word(alloc, word)? {
-        Some(n @ (4 | 8 | 16 | 32)) => Ok(Some(n as u8)),
-        _ => Ok(None),
+        Some(n @ (4 | 8 | 16 | 32)) => Ok(n as u8),
+        _ => Err(LineFault::Refused),
     }
 }
 
-/// The size code of a Type 4 tag that a word spells, if it does.
+/// The size code of a Type 4 tag that a word spells.
 #[tactic(auto, using(std::proofs::lemmas::Fmt::decimal_injective))]
-pub fn code_word(alloc: Global, word: &[u8]) -> Result<Option<u8>, AllocError>
-    ensures { IfOk result (Finds (SpellsCode word.now)) }
+pub fn code_word(alloc: Global, word: &[u8]) -> Result<u8, LineFault>
+    ensures ok { IfOk result (SpellsCode word.now) }
+    ensures refused { IsErrOf result LineFault.Refused → NoneOf (SpellsCode word.now) }
 {
     match number_word(alloc, word)? {
-        Some(n) if n <= MOST_CODE as u32 => Ok(Some(n as u8)),
-        _ => Ok(None),
+        Some(n) if n <= MOST_CODE as u32 => Ok(n as u8),
+        _ => Err(LineFault::Refused),
     }
 }
 
@@ -297,36 +290,32 @@ fn colon_parts(text: &[u8]) -> Option<(&[u8], &[u8])>
     None
 }
 
-/// How many bytes a word spells, and the first of them, if it spells counted bytes.
-fn counted_word(alloc: Global, word: &[u8]) -> Result<Option<(u32, u8)>, AllocError>
-    ensures { IfOk result (λ o. MatchOption o (SpellsNoCount word.now) (λ x. SpellsCounted word.now x.0 x.1)) }
+/// How many bytes a word spells, and the first of them, where it spells counted bytes.
+fn counted_word(alloc: Global, word: &[u8]) -> Result<(u32, u8), LineFault>
+    ensures ok { IfOk result (λ x. SpellsCounted word.now x.0 x.1) }
+    ensures refused { IsErrOf result LineFault.Refused → SpellsNoCount word.now }
 {
     let Some(rest) = word.strip_prefix(b"gen:") else {
-        return Ok(None);
+        return Err(LineFault::Refused);
     };
     let Some((count_text, start_text)) = colon_parts(rest) else {
-        return Ok(None);
+        return Err(LineFault::Refused);
     };
-    let Some(count) = long_word(alloc, count_text, 0, LONGEST_MESSAGE)? else {
-        return Ok(None);
-    };
-    match small_word(alloc, start_text, 0, u8::MAX)? {
-        Some(start) => Ok(Some((count, start))),
-        None => Ok(None),
-    }
+    let count = long_word(alloc, count_text, 0, LONGEST_MESSAGE)?;
+    let start = small_word(alloc, start_text, 0, u8::MAX)?;
+    Ok((count, start))
 }
 
-/// The message that a word spells, if it does.
+/// The message that a word spells.
 #[tactic(auto, using(crate::proofs::Messages::no_message))]
-pub fn message_word(alloc: Global, word: &[u8]) -> Result<Option<Msg>, AllocError>
-    ensures { IfOk result (Finds (SpellsMsg word.now)) }
+pub fn message_word(alloc: Global, word: &[u8]) -> Result<Msg, LineFault>
+    ensures ok { IfOk result (SpellsMsg word.now) }
+    ensures refused { IsErrOf result LineFault.Refused → NoneOf (SpellsMsg word.now) }
 {
-    if let Some((count, start)) = counted_word(alloc, word)? {
-        return Ok(Some(Msg::Gen { count, start }));
-    }
-    match hex_word(alloc, word)? {
-        Some(bytes) => Ok(Some(Msg::Hex(bytes))),
-        None => Ok(None),
+    match counted_word(alloc, word) {
+        Ok((count, start)) => Ok(Msg::Gen { count, start }),
+        Err(LineFault::Refused) => Ok(Msg::Hex(hex_word(alloc, word)?)),
+        Err(LineFault::Memory) => Err(LineFault::Memory),
     }
 }
 
@@ -337,14 +326,15 @@ fn is_graphic(word: &[u8]) -> bool
     word.iter().all(|b| b.is_ascii_graphic())
 }
 
-/// The name of a service that a word is, if it is one.
-pub fn name_word(alloc: Global, word: &[u8]) -> Result<Option<Items<u8>>, AllocError>
-    ensures { IfOk result (Finds (SpellsName word.now)) }
+/// The name of a service that a word is.
+pub fn name_word(alloc: Global, word: &[u8]) -> Result<Items<u8>, LineFault>
+    ensures ok { IfOk result (SpellsName word.now) }
+    ensures refused { IsErrOf result LineFault.Refused → NoneOf (SpellsName word.now) }
 {
     if word.is_empty() || word.len() > LONGEST_NAME || !is_graphic(word) {
-        return Ok(None);
+        return Err(LineFault::Refused);
     }
-    Ok(Some(Items::from_bytes(alloc, word)?))
+    Ok(Items::from_bytes(alloc, word)?)
 }
 
 /// The fate of a letter.
@@ -360,19 +350,24 @@ fn fate_of(letter: u8) -> Option<Fate>
     }
 }
 
-/// The fates that a word spells, if it does.
-pub fn fates_word(alloc: Global, word: &[u8]) -> Result<Option<Items<Fate>>, AllocError>
-    ensures { IfOk result (Finds (SpellsFates word.now)) }
+/// The fates that a word spells.
+pub fn fates_word(alloc: Global, word: &[u8]) -> Result<Items<Fate>, LineFault>
+    ensures ok { IfOk result (SpellsFates word.now) }
+    ensures refused { IsErrOf result LineFault.Refused → NoneOf (SpellsFates word.now) }
 {
     if word.is_empty() || word.len() > MOST_FATES {
-        return Ok(None);
+        return Err(LineFault::Refused);
     }
     let mut fates = Vec::new(alloc);
     for letter in word {
         match fate_of(*letter) {
-            Some(fate) => fates.push(fate)?,
-            None => return Ok(None),
+            Some(fate) => {
+                if fates.push(fate).is_err() {
+                    return Err(LineFault::Memory);
+                }
+            }
+            None => return Err(LineFault::Refused),
         }
     }
-    Ok(Some(Items::new(fates)))
+    Ok(Items::new(fates))
 }

@@ -3,8 +3,8 @@ use Rattle.bench_script.specs.Script.{fate_letter}
 use Rattle.bench_script.proofs.Spelling.{letter_at}
 use Rattle.bench_script.proofs.script.words.fates_word.Goals as goal
 
-pub returns-in-None : goal.returns-in-None
-returns-in-None c = λ fates spelled.
+pub returns-in-None-clause-refused : goal.returns-in-None-clause-refused
+returns-in-None-clause-refused c = λ is fates spelled.
     let i : ℕ = c.loop-letter.letter-index in
     let within : i < length (map fate_letter fates) = omega (arith, c.loop-letter-test.true, ap length spelled.letters) in
     let one = letter_at fates i 0 within in
