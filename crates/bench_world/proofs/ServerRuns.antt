@@ -23,21 +23,21 @@ abbrev pub AreOfBytes : List Arrival → Type 0
 AreOfBytes arrivals = AllByRecursion (λ (a : Arrival). AreBytes a.payload) arrivals
 
 -- An arrival as a run of the end: other values are given, the payload is taken, and one is given.
-offers : FarEnd → Arrival → Acted ServerState
+abbrev offers : FarEnd → Arrival → Acted ServerState
 offers l a = record { act = Else; after = end_at l a }
 
-takes : FarEnd → Arrival → Acted ServerState
+abbrev takes : FarEnd → Arrival → Acted ServerState
 takes l a = record { act = Takes a.payload; after = taken_from serving (end_at l a) a.payload }
 
-gives : FarEnd → Arrival → Acted ServerState
+abbrev gives : FarEnd → Arrival → Acted ServerState
 gives l a = record { act = Gives a.count; after = end_after l a }
 
-run_of : FarEnd → List Arrival → List (Acted ServerState)
+abbrev run_of : FarEnd → List Arrival → List (Acted ServerState)
 run_of l [] = []
 run_of l (a ∷ more) = offers l a ∷ takes l a ∷ gives l a ∷ run_of (end_after l a) more
 
 -- up to where the next one finds the end
-run_to : FarEnd → List Arrival → Arrival → List (Acted ServerState)
+abbrev run_to : FarEnd → List Arrival → Arrival → List (Acted ServerState)
 run_to l [] next = offers l next ∷ []
 run_to l (a ∷ more) next = offers l a ∷ takes l a ∷ gives l a ∷ run_to (end_after l a) more next
 

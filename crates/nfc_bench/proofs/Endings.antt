@@ -22,7 +22,7 @@ use Rattle.bench_world.specs.Legal.{first_state}
 use Rattle.bench_world.specs.Obeying.{Benched, new_bench}
 use Rattle.bench_world.specs.Taking.{AreSpelled, IsTaken, standing_of}
 use Rattle.bench_world.proofs.Shapes.{TakenAlike, legal_taken, taken_at, taken_too}
-use Rattle.nfc_bench.specs.Run.{AreObeyed, FrontIsObeyed, FirstRefused, AllTaken, RefusesLine, ObeysFront, AddsFault, line_fault, read_fault, EndsDone, EndsRefused, EndsUnread, EndsUnwritten, ReadsInTime}
+use Rattle.nfc_bench.specs.Run.{AreObeyed, FirstAreObeyed, FirstRefused, AllTaken, RefusesLine, ObeysFront, AddsFault, line_fault, read_fault, EndsDone, EndsRefused, EndsUnread, EndsUnwritten, ReadsInTime}
 use Rattle.nfc_bench.specs.Stops.{Follows, LineRefused, LineCut, LineLost, LineStops, Lost, ObeyedBy, RunRefused, RunUnread, RunLost, RunStops}
 use Rattle.nfc_bench.proofs.Limits.{all_at, IsShort, limits_more, no_limits}
 use Rattle.nfc_bench.proofs.Progress.{Progress, GaveNext, Goes, goes, lines_on, whole_on, ended_on, leads_to, obeyed_lost, obeyed_more, obeyed_new}
@@ -253,9 +253,9 @@ front_with left left' done m j new n o limits number next few line =
         front = done ++ m.line ∷ [];
         rest = lines_of (m.held ++ by.more);
         parts = next.lines by.more by.follows ∙ sym (append_assoc done (m.line ∷ []) (lines_of (m.held ++ by.more)));
-        limits = limits_more done m.line limits (omega (arith, number, few)) next.short;
         obeyed = (obeyed_more done j new m.line n o line number).obeyed;
       };
+      limits = limits_more done m.line limits (omega (arith, number, few)) next.short;
     }
 
 -- it isn't
@@ -270,9 +270,9 @@ front_without left left' done m j new o limits next lost =
         front = done;
         rest = m.line ∷ lines_of (m.held ++ by.more);
         parts = next.lines by.more by.follows;
-        limits = limits;
         obeyed = obeyed_lost done j new o lost;
       };
+      limits = limits;
     }
 
 cut_line : (quiet : Bool) (left left' : Option (List ℕ)) (done : List (List ℕ)) (m : Lined) (j new : Benched) (n : ℕ) (t t1 t2 : Option (List ℕ)) (w w1 w2 : ℕ)
@@ -309,13 +309,12 @@ line_stops quiet left left' done m j new n t t1 t2 r r' w w1 w2 Memory o limits 
 pub lost_at_once : (quiet : Bool) (left t : Option (List ℕ)) (b : Benched) → b ≡ new_bench → RunLost quiet left t t b
 lost_at_once quiet left t b none =
     let P : Benched → Type 0 = λ x. RunLost quiet left t t x in
-    let front : (lines : List (List ℕ)) → FrontIsObeyed lines new_bench = λ lines. record { front = []; rest = lines; parts = refl; limits = no_limits; obeyed = obeyed_new.obeyed } in
-    let it : P new_bench = record { lines = lines_at_once left front; written = written_none quiet t } in
+    let it : P new_bench = record { lines = lines_at_once left; written = written_none quiet t } in
     subst P (sym none) it
   where
-    lines_at_once : (left : Option (List ℕ)) → ((lines : List (List ℕ)) → FrontIsObeyed lines new_bench) → ObeysFront left new_bench
-    lines_at_once None front = record { input = []; told = tt; obeyed = front (lines_of []) }
-    lines_at_once (Some bytes) front = record { input = bytes; told = refl; obeyed = front (lines_of bytes) }
+    lines_at_once : (left : Option (List ℕ)) → ObeysFront left new_bench
+    lines_at_once None = record { input = []; told = tt; obeyed = record { front = []; rest = lines_of []; parts = refl; obeyed = obeyed_new.obeyed }; limits = no_limits }
+    lines_at_once (Some bytes) = record { input = bytes; told = refl; obeyed = record { front = []; rest = lines_of bytes; parts = refl; obeyed = obeyed_new.obeyed }; limits = no_limits }
 
 -- what a write of a fault line does
 pub fault_written : {T E : Type 0} (r : Result T E) (t t' : Option (List ℕ)) (w w' : ℕ) (fault : List ℕ)

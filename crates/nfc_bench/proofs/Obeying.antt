@@ -8,7 +8,8 @@ use Rattle.bench_world.specs.Legal.{first_state}
 use Rattle.bench_world.specs.Obeying.{Benched}
 use Rattle.bench_world.specs.Taking.{AreSpelled, AreTaken, IsTaken}
 use Rattle.bench_world.proofs.Shapes.{taken_at}
-use Rattle.nfc_bench.specs.Stops.{FirstAreObeyed, Follows, Lost, ObeyedBy}
+use Rattle.nfc_bench.specs.Run.{FirstAreObeyed}
+use Rattle.nfc_bench.specs.Stops.{Follows, Lost, ObeyedBy}
 use Rattle.nfc_bench.proofs.Progress.{obeyed_lost, obeyed_more}
 use Rattle.nfc_bench.proofs.Endings.{done_taken, taken_there}
 

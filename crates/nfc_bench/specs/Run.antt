@@ -71,12 +71,11 @@ pub record AreObeyed (lines : List (List ℕ)) (b : Benched) : Type 0 where
   pub links : LinksAccept legal.numbers b.journal
   pub machines : b.spoiled ≡ false → legal.last ≡ b.state
 
--- It obeyed the first of these lines, which are within the limits.
-pub record FrontIsObeyed (lines : List (List ℕ)) (b : Benched) : Type 0 where
+-- It obeyed the first of these lines.
+pub record FirstAreObeyed (lines : List (List ℕ)) (b : Benched) : Type 0 where
   pub front : List (List ℕ)
   pub rest : List (List ℕ)
   pub parts : lines ≡ front ++ rest
-  pub limits : AreWithinLimits front
   pub obeyed : AreObeyed front b
 
 -- Line n is refused behind what stands there: for its number, for its length, or as it stands.
@@ -125,11 +124,12 @@ pub record ObeysWhole (left left' : Option (List ℕ)) (b : Benched) : Type 0 wh
   pub limits : AreWithinLimits (whole_lines read)
   pub obeyed : AreObeyed (whole_lines read) b
 
--- the first lines of the input were obeyed
+-- the first lines of the input were obeyed, which are within the limits
 pub record ObeysFront (left : Option (List ℕ)) (b : Benched) : Type 0 where
   pub input : List ℕ
   pub told : IfSome left (λ bytes. input ≡ bytes)
-  pub obeyed : FrontIsObeyed (lines_of input) b
+  pub obeyed : FirstAreObeyed (lines_of input) b
+  pub limits : AreWithinLimits obeyed.front
 
 -- The sink gained the report and the fault line, or, where its count rose, the report and a front of that line.
 abbrev pub AddsFault : List ℕ → List ℕ → Option (List ℕ) → Option (List ℕ) → ℕ → ℕ → Type 0
@@ -206,26 +206,25 @@ pub record RanScript {S : Type 0} (quiet : Bool) (old new : Seen S) (n : ℕ) : 
 
 -- A run over a workload. Status 0: every line was obeyed, and the line about them written.
 pub record EndsMade (seed count : ℕ) (taken taken' : Option (List ℕ)) (b : Benched) : Type 0 where
-  pub limits : AreWithinLimits (workload_lines seed count)
   pub obeyed : AreObeyed (workload_lines seed count) b
   pub written : taken' ≡ with_end taken (made_line seed count b.journal)
 
 -- Status 4: every line was obeyed, and the sink failed within the line about them.
 pub record EndsUntold (seed count : ℕ) (taken taken' : Option (List ℕ)) (writes writes' : ℕ) (b : Benched) : Type 0 where
   pub risen : HasRisen writes writes'
-  pub limits : AreWithinLimits (workload_lines seed count)
   pub obeyed : AreObeyed (workload_lines seed count) b
   pub written : GainsFront taken taken' (made_line seed count b.journal)
 
 -- Status 5: memory was wanting, and nothing was told of the lines that were obeyed.
 pub record EndsUnmade (seed count : ℕ) (taken taken' : Option (List ℕ)) (writes writes' : ℕ) (b : Benched) : Type 0 where
-  pub obeyed : FrontIsObeyed (workload_lines seed count) b
+  pub obeyed : FirstAreObeyed (workload_lines seed count) b
   pub written : AddsFault [] memory_fault taken taken' writes writes'
 
 -- What a run over a workload did: no line is refused, whatever happens to the frames, and the source is left as it was.
 pub record RanWorkload {S : Type 0} (seed count : ℕ) (old new : Seen S) (n : ℕ) : Type 0 where
   pub status : (n ≡ 0) ⊎ ((n ≡ 4) ⊎ (n ≡ 5))
   pub lines : AreTaken (workload_lines seed count) (workload_commands seed count)
+  pub limits : AreWithinLimits (workload_lines seed count)
   pub source : new.source ≡ old.source
   pub done : n ≡ 0 → EndsMade seed count old.taken new.taken new.bench
   pub still : n ≡ 0 → new.writes ≡ old.writes

@@ -76,13 +76,6 @@ pub record ObeyedBy (lines : List (List ℕ)) (b : Benched) : Type 0 where
   pub obeyed : AreObeyed lines b
   pub sound : b.spoiled ≡ false
 
--- A bench obeyed the first of these lines.
-pub record FirstAreObeyed (lines : List (List ℕ)) (b : Benched) : Type 0 where
-  pub front : List (List ℕ)
-  pub rest : List (List ℕ)
-  pub parts : lines ≡ front ++ rest
-  pub obeyed : AreObeyed front b
-
 -- a run that isn't short of memory spoils nothing
 abbrev pub IsSoundUnless : Result (Unit {0}) Stop → Benched → Type 0
 IsSoundUnless r b = (r ≡ Err Memory → ⊥) → b.spoiled ≡ false

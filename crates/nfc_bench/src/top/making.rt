@@ -2,6 +2,7 @@
 
 ghost use Rattle.std.specs.Prelude.{◌≡◌, ◌⊎◌, ◌≤◌};
 ghost use Rattle.nfc_io.specs.Counts.{HasRisen};
+ghost use Rattle.bench_script.specs.Limits.{AreWithinLimits};
 ghost use Rattle.bench_world.specs.Obeying.{new_bench};
 ghost use Rattle.bench_world.specs.Taking.{AreTaken};
 ghost use Rattle.workload.specs.Workload.{IsCount, workload_lines, workload_commands};
@@ -68,6 +69,7 @@ pub fn make_and_tell<K: Sink>(
     requires valid { IsCount count }
     ensures status { (result ≡ 0) ⊎ ((result ≡ 4) ⊎ (result ≡ 5)) }
     ensures lines { AreTaken (workload_lines seed count) (workload_commands seed count) }
+    ensures limits { AreWithinLimits (workload_lines seed count) }
     ensures done { result ≡ 0 → EndsMade seed count (K.taken sink.old) (K.taken sink.new) bench.new }
     ensures still { result ≡ 0 → K.faults sink.new ≡ K.faults sink.old }
     ensures unwritten { result ≡ 4 → EndsUntold seed count (K.taken sink.old) (K.taken sink.new)

@@ -48,6 +48,7 @@ returns-in-Some-Make g c =
     let made : RanWorkload c.in-Some-Make.seed c.in-Some-Make.count old new n = record {
       status = e.status;
       lines = e.lines;
+      limits = e.limits;
       source = refl;
       done = e.done;
       still = e.still;

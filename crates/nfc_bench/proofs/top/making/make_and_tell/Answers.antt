@@ -33,3 +33,12 @@ returns-in-Ok-write_all-clause-lines g c = workload_taken c.args.seed c.args.cou
 
 pub returns-in-Err-clause-lines : goal.returns-in-Err-clause-lines
 returns-in-Err-clause-lines g c = workload_taken c.args.seed c.args.count
+
+pub returns-in-Err-Memory-clause-limits : goal.returns-in-Err-Memory-clause-limits
+returns-in-Err-Memory-clause-limits g c = within_limits c.args.seed c.args.count c.requires.valid
+
+pub returns-in-Ok-write_all-clause-limits : goal.returns-in-Ok-write_all-clause-limits
+returns-in-Ok-write_all-clause-limits g c = within_limits c.args.seed c.args.count c.requires.valid
+
+pub returns-in-Err-clause-limits : goal.returns-in-Err-clause-limits
+returns-in-Err-clause-limits g c = within_limits c.args.seed c.args.count c.requires.valid

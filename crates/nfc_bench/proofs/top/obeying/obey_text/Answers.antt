@@ -1,9 +1,22 @@
-use Rattle.std.proofs.Common.{◌≡◌, false, subst}
+use Rattle.std.proofs.Common.{◌≡◌, Bool, true, false, Err, refl, sym, ◌∙◌, ap, subst}
 use Rattle.bench_script.specs.declared.command.Command.{Command}
 use Rattle.bench_script.specs.Script.{Spells}
-use Rattle.bench_world.specs.Obeying.{Benched, Adds, Obeys}
+use Rattle.bench_world.specs.Obeying.{Benched, Adds, LacksMemory, Obeys, Spoils}
+use Rattle.bench_world.specs.declared.bench.ObeyFault.TheVariants.{Memory}
+use Rattle.nfc_bench.specs.Stops.{Lost}
 use Rattle.nfc_bench.proofs.Journals.{follows_skipped, follows_entry, asks_something, adds_of}
 use Rattle.nfc_bench.proofs.top.obeying.obey_text.Goals as goal
+
+-- where memory is wanting
+lost_by : (old new : Benched) (c : Command) → LacksMemory old new c → (v : Bool) → old.spoiled ≡ v → Lost old new
+lost_by old new c lacks true is =
+    let same : new ≡ old = lacks.1 is in record { journal = ap (λ (b : Benched). b.journal) same; machines = λ sound. same }
+lost_by old new c lacks false is =
+    let spoils : Spoils old new c = lacks.0 is in
+    record {
+      journal = ap (λ (b : Benched). b.journal) spoils.is;
+      machines = λ sound. absurd (let clash : true ≡ false = sym (ap (λ (b : Benched). b.spoiled) spoils.is) ∙ sound in cc);
+    }
 
 pub returns-in-Skip-clause-ok : goal.returns-in-Skip-clause-ok
 returns-in-Skip-clause-ok c =
@@ -23,13 +36,9 @@ returns-clause-ok c =
     let it = follows_entry old new c.args.line c.args.text.now c.in-Ok.command (asks_something c.args.text.now c.in-Ok.command c.in-Ok.ensures.ok c.in_default.not-Skip) c.in-Ok.ensures.ok adds in
     record { follows = it.0; asked = (adds.entry, it.1) }
 
--- where memory is wanting
-lost_by : (old new : Benched) (c : Command) → LacksMemory old new c → (v : Bool) → old.spoiled ≡ v → Lost old new
-lost_by old new c lacks true is =
-    let same : new ≡ old = lacks.1 is in record { journal = ap (λ (b : Benched). b.journal) same; machines = λ sound. same }
-lost_by old new c lacks false is =
-    let spoils : Spoils old new c = lacks.0 is in
-    record {
-      journal = ap (λ (b : Benched). b.journal) spoils.is;
-      machines = λ sound. absurd (let clash : true ≡ false = sym (ap (λ (b : Benched). b.spoiled) spoils.is) ∙ sound in cc);
-    }
+pub returns-in-Err-clause-memory : goal.returns-in-Err-clause-memory
+returns-in-Err-clause-memory c = λ is.
+    let old : Benched = c.args.bench.now in
+    let new : Benched = c.obey.new.self in
+    let fault : c.in-Err.fault ≡ Memory = cc in
+    lost_by old new c.in-Ok.command (c.in-Err.ensures.memory (ap Err fault)) old.spoiled refl
