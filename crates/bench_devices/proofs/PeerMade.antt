@@ -1,6 +1,6 @@
 -- What a peer's end of NFC-DEP was made as stays, whatever it hears and replies: its NFCID3, its LR code, its general bytes, and how
 -- much more time it asks for.
-use Rattle.std.proofs.Common.{◌≡◌, ◌≤◌, ℕ, nat_lt, List, [], drop, Bool, true, false, if◌then◌else◌, Option, Some, None, refl, ◌∙◌, ap}
+use Rattle.std.proofs.Common.{◌≡◌, ◌≤◌, ℕ, nat_lt, List, [], length, drop, Bool, true, false, if◌then◌else◌, Option, Some, None, refl, ◌∙◌, ap}
 use Rattle.nfc_base.specs.Signal.{Signal}
 use Rattle.dep_pdu.specs.declared.frame.DepFrame.{DepFrame}
 use Rattle.dep_pdu.specs.declared.frame.DepFrame.TheVariants.{Extend}
