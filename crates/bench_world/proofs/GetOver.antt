@@ -129,7 +129,7 @@ module _ (old mid : Machines) (settled : IsSettled old) (q : ℕ) (l : OpenLink)
         by : (v : Refusal) → Fails (refused_by v) (Of Own) old.air → Left Own (refused_by v) → ObeyedBy joins Was Opens (Get most key) (told_ending (Refused v))
         by v (inl (u, e, made)) g =
             get_refused old.air old.ends old.peers l (so old mid settled q l far.end t) most key may joins b j after client v (subst (λ z. Made (Refused z) (Of Own) old.air) (same_refusal v u e) made) g
-        by v (inr (inl (bad, made))) g = absurd (never_bad v bad)
+        by v (inr (inl (bad, came, made))) g = absurd (never_bad v bad)
         by refusals.Reject (inr (inr never)) g = absurd never
         by refusals.NotFound (inr (inr never)) g = absurd never
         by refusals.Excess (inr (inr never)) g = absurd never
@@ -143,7 +143,7 @@ module _ (old mid : Machines) (settled : IsSettled old) (q : ℕ) (l : OpenLink)
       where
         by : (c : EndCause) → told_loss c ≡ Some answer → Fails (LinkEnded c) (Of Own) old.air → Left Own (LinkEnded c) → ObeyedBy joins Was Gone (Get most key) answer
         by c z (inl (why, e, made)) g = absurd (never_link why c e)
-        by c z (inr (inl (bad, made))) g = absurd cc
+        by c z (inr (inl (bad, came, made))) g = absurd cc
         by cause.FieldLost z (inr (inr ended)) g = get_lost old.air old.ends old.peers l (so old mid settled q l far.end t) most key may joins b j after client cause.FieldLost answer ended z g
         by cause.SixBad z (inr (inr ended)) g = get_lost old.air old.ends old.peers l (so old mid settled q l far.end t) most key may joins b j after client cause.SixBad answer ended z g
         by cause.Protocol z (inr (inr never)) g = absurd never
@@ -156,7 +156,7 @@ module _ (old mid : Machines) (settled : IsSettled old) (q : ℕ) (l : OpenLink)
       where
         by : Fails Memory (Of Own) old.air → Left Own Memory → IsCutOffBy joins Was Gone (Get most key)
         by (inl (why, e, made)) g = absurd (never_short why e)
-        by (inr (inl (bad, made))) g = absurd cc
+        by (inr (inl (bad, came, made))) g = absurd cc
         by (inr (inr cut)) g = get_short old.air old.ends old.peers l (so old mid settled q l far.end t) most key may joins b j after client cut g
 
     pub never_got : (x y : SnepFault) → x ≡ y → (Accords l.client far.end → Left far.end x) → Left far.end y
@@ -181,7 +181,7 @@ module _ (old mid : Machines) (settled : IsSettled old) (q : ℕ) (l : OpenLink)
         (by c told (of_own (Looks (LinkEnded c)) (subst (λ y. Looks y far mid.air) r fails)) (of_own (λ f a. AsideFails f.end (LinkEnded c) after.end) (subst (λ y. AsideFails far.end y after.end) r (left accord))))
       where
         by : (c : EndCause) → told_loss c ≡ Some answer → Looks (LinkEnded c) (Of Own) old.air → AsideFails Own (LinkEnded c) after.end → ObeyedBy joins Was Gone (Lookup name) answer
-        by c z (inl (bad, made)) g = absurd cc
+        by c z (inl (bad, came, made)) g = absurd cc
         by cause.FieldLost z (inr ended) g = lookup_lost old.air old.ends old.peers l (so old mid settled q l far.end t) name may joins b j after client cause.FieldLost answer ended z g
         by cause.SixBad z (inr ended) g = lookup_lost old.air old.ends old.peers l (so old mid settled q l far.end t) name may joins b j after client cause.SixBad answer ended z g
         by cause.Protocol z (inr never) g = absurd never
@@ -193,7 +193,7 @@ module _ (old mid : Machines) (settled : IsSettled old) (q : ℕ) (l : OpenLink)
         (by (of_own (Looks Memory) (subst (λ y. Looks y far mid.air) r fails)) (of_own (λ f a. AsideFails f.end Memory after.end) (subst (λ y. AsideFails far.end y after.end) r (left accord))))
       where
         by : Looks Memory (Of Own) old.air → AsideFails Own Memory after.end → IsCutOffBy joins Was Gone (Lookup name)
-        by (inl (bad, made)) g = absurd cc
+        by (inl (bad, came, made)) g = absurd cc
         by (inr cut) g = lookup_short old.air old.ends old.peers l (so old mid settled q l far.end t) name may joins b j after client cut g
 
     pub never_looked : (x y : SnepFault) → x ≡ y → (Accords l.client far.end → AsideFails far.end x after.end) → AsideFails far.end y after.end

@@ -121,7 +121,7 @@ module _ (old mid : Machines) (settled : IsSettled old) (q : ℕ) (l : OpenLink)
       by (inl (refusals.NotFound, is, made)) r = absurd cc
       by (inl (refusals.Excess, is, made)) r = absurd cc
       by (inl (refusals.NotImplemented, is, made)) r = absurd cc
-      by (inr (inl (bad, made))) r = absurd cc
+      by (inr (inl (bad, came, made))) r = absurd cc
       by (inr (inr never)) r = absurd never
 
   never_refused : (why : Refusal) (c : EndCause) → LinkEnded c ≡ refused_by why → ⊥
@@ -145,7 +145,7 @@ module _ (old mid : Machines) (settled : IsSettled old) (q : ℕ) (l : OpenLink)
     where
       by : (c : EndCause) → told_loss c ≡ Some answer → Fails (LinkEnded c) (message_of m) (Of Own) old.air → AddsAtMost (message_of m) Own after.end → ObeyedBy joins Was Gone (Put m) answer
       by c t' (inl (why, is, made)) a = absurd (never_refused why c is)
-      by c t' (inr (inl (bad, made))) a = absurd cc
+      by c t' (inr (inl (bad, came, made))) a = absurd cc
       by cause.FieldLost t' (inr (inr ended)) a = put_lost old.air old.ends old.peers l (so old mid settled q l far.end t) m fits joins b j after client cause.FieldLost answer ended t' a
       by cause.SixBad t' (inr (inr ended)) a = put_lost old.air old.ends old.peers l (so old mid settled q l far.end t) m fits joins b j after client cause.SixBad answer ended t' a
       by cause.Protocol t' (inr (inr never)) a = absurd never
@@ -159,7 +159,7 @@ module _ (old mid : Machines) (settled : IsSettled old) (q : ℕ) (l : OpenLink)
     where
       by : Fails Memory (message_of m) (Of Own) old.air → AddsAtMost (message_of m) Own after.end → IsCutOffBy joins Was Gone (Put m)
       by (inl (why, is, made)) a = absurd (never_short why is)
-      by (inr (inl (bad, made))) a = absurd cc
+      by (inr (inl (bad, came, made))) a = absurd cc
       by (inr (inr cut)) a = put_short old.air old.ends old.peers l (so old mid settled q l far.end t) m fits joins b j after client cut a
 
 -- no other fault

@@ -27,9 +27,9 @@ use Rattle.bench_world.proofs.Tales.{goes_on, stories_behind, stories_from}
 use Rattle.bench_world.proofs.Unlinking.{same_numbers}
 
 -- what a peer that stands accepted
-list_held : (o gone : Option FarEnd) (k : Held) → held o ≡ Some k → accepted_of o gone ≡ k.accepted
-list_held None gone k is = absurd cc
-list_held (Some end) gone k is = (let same : record { limit = end.service.limit; accepted = end.service.accepted } ≡ k = cc in ap (λ (h : Held). h.accepted) same)
+list_held : (o stayed : Option FarEnd) (k : Held) → held o ≡ Some k → accepted_of o stayed ≡ k.accepted
+list_held None stayed k is = absurd cc
+list_held (Some end) stayed k is = (let same : record { limit = end.service.limit; accepted = end.service.accepted } ≡ k = cc in ap (λ (h : Held). h.accepted) same)
 
 list_is : (t : State) (n : ℕ) (k : Held) → at (view_of t) n ≡ Some k → accepted_in n t ≡ k.accepted
 list_is t n k found =

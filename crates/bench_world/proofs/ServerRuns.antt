@@ -41,52 +41,52 @@ abbrev run_to : FarEnd → List Arrival → Arrival → List (Acted ServerState)
 run_to l [] next = offers l next ∷ []
 run_to l (a ∷ more) next = offers l a ∷ takes l a ∷ gives l a ∷ run_to (end_after l a) more next
 
-run_does : (l : FarEnd) (as : List Arrival) → AreOfBytes as → IsServerRun l (run_of l as)
+run_does : (l : FarEnd) (xs : List Arrival) → AreOfBytes xs → IsServerRun l (run_of l xs)
 run_does l [] bytes = tt
 run_does l (a ∷ more) bytes =
     (record { miu = refl; served = refl; service = (a.table, refl) }, ((bytes.0, refl), (refl, run_does (end_after l a) more bytes.1)))
 
-run_end : (l : FarEnd) (as : List Arrival) → end_of l (run_of l as) ≡ end_behind l as
+run_end : (l : FarEnd) (xs : List Arrival) → end_of l (run_of l xs) ≡ end_behind l xs
 run_end l [] = refl
 run_end l (a ∷ more) = run_end (end_after l a) more
 
-run_marks : (c : ℕ) (l : FarEnd) (as : List Arrival) → marks_of serving c l (run_of l as) ≡ arrival_marks c l as
+run_marks : (c : ℕ) (l : FarEnd) (xs : List Arrival) → marks_of serving c l (run_of l xs) ≡ arrival_marks c l xs
 run_marks c l [] = refl
 run_marks c l (a ∷ more) = ap (λ ms. marks serving c (end_at l a) (brought (end_at l a) a.payload) ++ ms) (run_marks c (end_after l a) more)
 
-to_does : (l : FarEnd) (as : List Arrival) (next : Arrival) → AreOfBytes as → IsServerRun l (run_to l as next)
+to_does : (l : FarEnd) (xs : List Arrival) (next : Arrival) → AreOfBytes xs → IsServerRun l (run_to l xs next)
 to_does l [] next bytes = (record { miu = refl; served = refl; service = (next.table, refl) }, tt)
 to_does l (a ∷ more) next bytes =
     (record { miu = refl; served = refl; service = (a.table, refl) }, ((bytes.0, refl), (refl, to_does (end_after l a) more next bytes.1)))
 
-to_end : (l : FarEnd) (as : List Arrival) (next : Arrival) → end_of l (run_to l as next) ≡ end_at (end_behind l as) next
+to_end : (l : FarEnd) (xs : List Arrival) (next : Arrival) → end_of l (run_to l xs next) ≡ end_at (end_behind l xs) next
 to_end l [] next = refl
 to_end l (a ∷ more) next = to_end (end_after l a) more next
 
-to_marks : (c : ℕ) (l : FarEnd) (as : List Arrival) (next : Arrival) → marks_of serving c l (run_to l as next) ≡ arrival_marks c l as
+to_marks : (c : ℕ) (l : FarEnd) (xs : List Arrival) (next : Arrival) → marks_of serving c l (run_to l xs next) ≡ arrival_marks c l xs
 to_marks c l [] next = refl
 to_marks c l (a ∷ more) next = ap (λ ms. marks serving c (end_at l a) (brought (end_at l a) a.payload) ++ ms) (to_marks c (end_after l a) more next)
 
 -- some arrivals behind others
-pub behind_then : (l : FarEnd) (as bs : List Arrival) → end_behind l (as ++ bs) ≡ end_behind (end_behind l as) bs
+pub behind_then : (l : FarEnd) (xs bs : List Arrival) → end_behind l (xs ++ bs) ≡ end_behind (end_behind l xs) bs
 behind_then l [] bs = refl
-behind_then l (a ∷ as) bs = behind_then (end_after l a) as bs
+behind_then l (a ∷ xs) bs = behind_then (end_after l a) xs bs
 
-pub bytes_then : (as bs : List Arrival) → AreOfBytes as → AreOfBytes bs → AreOfBytes (as ++ bs)
+pub bytes_then : (xs bs : List Arrival) → AreOfBytes xs → AreOfBytes bs → AreOfBytes (xs ++ bs)
 bytes_then [] bs h k = k
-bytes_then (a ∷ as) bs h k = (h.0, bytes_then as bs h.1 k)
+bytes_then (a ∷ xs) bs h k = (h.0, bytes_then xs bs h.1 k)
 
-bytes_before : (as bs : List Arrival) → AreOfBytes (as ++ bs) → AreOfBytes as
+bytes_before : (xs bs : List Arrival) → AreOfBytes (xs ++ bs) → AreOfBytes xs
 bytes_before [] bs h = tt
-bytes_before (a ∷ as) bs h = (h.0, bytes_before as bs h.1)
+bytes_before (a ∷ xs) bs h = (h.0, bytes_before xs bs h.1)
 
-bytes_behind : (as bs : List Arrival) → AreOfBytes (as ++ bs) → AreOfBytes bs
+bytes_behind : (xs bs : List Arrival) → AreOfBytes (xs ++ bs) → AreOfBytes bs
 bytes_behind [] bs h = h
-bytes_behind (a ∷ as) bs h = bytes_behind as bs h.1
+bytes_behind (a ∷ xs) bs h = bytes_behind xs bs h.1
 
-pub payloads_then : (as bs : List Arrival) → payloads_of (as ++ bs) ≡ payloads_of as ++ payloads_of bs
+pub payloads_then : (xs bs : List Arrival) → payloads_of (xs ++ bs) ≡ payloads_of xs ++ payloads_of bs
 payloads_then [] bs = refl
-payloads_then (a ∷ as) bs = ap (λ ps. a.payload ∷ ps) (payloads_then as bs)
+payloads_then (a ∷ xs) bs = ap (λ ps. a.payload ∷ ps) (payloads_then xs bs)
 
 pub payloads_are : (table : List Offer) (ns : List ℕ) (ps : List (List ℕ)) → payloads_of (arrivals_of table ns ps) ≡ ps
 payloads_are table ns [] = refl
@@ -117,21 +117,21 @@ module _ (old : FarEnd) (general : List ℕ) where
   begin = restarted serving old general
 
   -- of each client's SAP, what is accepted is what the payloads put
-  pub arrivals_put : (as : List Arrival) → AreOfBytes as → (c : ℕ) → c < sap_count
-      → AcceptsPuts c old.service.limit old.miu (arrival_marks c begin as) old.service.accepted (end_behind begin as).service.accepted
-  arrivals_put as bytes c few =
+  pub arrivals_put : (xs : List Arrival) → AreOfBytes xs → (c : ℕ) → c < sap_count
+      → AcceptsPuts c old.service.limit old.miu (arrival_marks c begin xs) old.service.accepted (end_behind begin xs).service.accepted
+  arrivals_put xs bytes c few =
       let P : List Mark → FarEnd → Type 0 = λ ms e. AcceptsPuts c old.service.limit old.miu ms old.service.accepted e.service.accepted in
-      subst (P (arrival_marks c begin as)) (run_end begin as)
-      (subst (λ ms. P ms (end_of begin (run_of begin as))) (run_marks c begin as) (payloads_accepted old general (run_of begin as) (run_does begin as bytes) c few))
+      subst (P (arrival_marks c begin xs)) (run_end begin xs)
+      (subst (λ ms. P ms (end_of begin (run_of begin xs))) (run_marks c begin xs) (payloads_accepted old general (run_of begin xs) (run_does begin xs bytes) c few))
 
   -- what was accepted stays, and more is accepted behind it
-  pub arrivals_front : (as more : List Arrival) → AreOfBytes as → AreOfBytes more
-      → IsFront (end_behind begin as).service.accepted (end_behind (end_behind begin as) more).service.accepted
-  arrivals_front as more bytes then_ =
-      let here : FarEnd = end_of begin (run_of begin as) in
+  pub arrivals_front : (xs more : List Arrival) → AreOfBytes xs → AreOfBytes more
+      → IsFront (end_behind begin xs).service.accepted (end_behind (end_behind begin xs) more).service.accepted
+  arrivals_front xs more bytes then_ =
+      let here : FarEnd = end_of begin (run_of begin xs) in
       let law : AcceptsThere old begin _ = accepted_in_order old general (record {
-        before = run_of begin as;
-        run = run_does begin as bytes;
+        before = run_of begin xs;
+        run = run_does begin xs bytes;
         payload = [];
         bytes = λ i. omega arith;
         came = [];
@@ -140,10 +140,10 @@ module _ (old : FarEnd) (general : List ℕ) where
       }) in
       let front : IsFront here.service.accepted (end_of here (run_of here more)).service.accepted = law.front (run_of here more) (run_does here more then_) in
       let P : FarEnd → Type 0 = λ e. IsFront e.service.accepted (end_behind e more).service.accepted in
-      subst P (run_end begin as) (subst (λ (e : FarEnd). IsFront here.service.accepted e.service.accepted) (run_end here more) front)
+      subst P (run_end begin xs) (subst (λ (e : FarEnd). IsFront here.service.accepted e.service.accepted) (run_end here more) front)
 
   -- so it is at each place on the way
-  module _ (as : List Arrival) (bytes : AreOfBytes as) (p : Place begin as) where
+  module _ (xs : List Arrival) (bytes : AreOfBytes xs) (p : Place begin xs) where
     abbrev until : FarEnd
     until = end_behind begin p.before
 
@@ -207,13 +207,13 @@ module _ (old : FarEnd) (general : List ℕ) where
     rest_does : IsServerRun left rest
     rest_does = subst (λ l. IsServerRun l rest) (sym left_is) (refl, run_does (end_after until p.next) p.more last.1)
 
-    rest_end : end_of left rest ≡ end_behind begin as
+    rest_end : end_of left rest ≡ end_behind begin xs
     rest_end =
         run_end (end_after until p.next) p.more ∙ sym (behind_then begin p.before (p.next ∷ p.more))
         ∙ ap (end_behind begin) (sym p.split)
 
-    pub place_front : IsFront (end_there p).service.accepted (end_behind begin as).service.accepted
+    pub place_front : IsFront (end_there p).service.accepted (end_behind begin xs).service.accepted
     place_front =
         let front : IsFront (steps serving here p.came).service.accepted (end_of left rest).service.accepted = law.front rest rest_does in
-        subst (λ (e : FarEnd). IsFront (steps serving e p.came).service.accepted (end_behind begin as).service.accepted) here_is
+        subst (λ (e : FarEnd). IsFront (steps serving e p.came).service.accepted (end_behind begin xs).service.accepted) here_is
         (subst (λ (e : FarEnd). IsFront (steps serving here p.came).service.accepted e.service.accepted) rest_end front)

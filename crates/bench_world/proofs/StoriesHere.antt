@@ -119,29 +119,29 @@ takes_so m (Some end) k a more e h =
 
 -- so a story goes on that was in step
 abbrev pub put_to : Story → List Event → List Arrival → List ℕ → Told → List Accepted → Story
-put_to y es as m told more = went_on es as (record { source = client_sap; put = record { message = m; told = told } } ∷ []) more y
+put_to y es arrivals m told more = went_on es arrivals (record { source = client_sap; put = record { message = m; told = told } } ∷ []) more y
 
-module _ (y : Story) (step : IsInStep y) (es : List Event) (as : List Arrival) (m : List ℕ) where
+module _ (y : Story) (step : IsInStep y) (es : List Event) (arrivals : List Arrival) (m : List ℕ) where
   abbrev Step : List Put → List (List ℕ) → Type 0
   Step = InStep y.begun.service.limit
 
   itself : (ps : List Put) (xs : List (List ℕ)) → Step ps xs → Step ps xs
   itself ps xs s = s
 
-  taken_story : length m ≤ y.begun.service.limit → IsInStep (put_to y es as m Success (from_client m ∷ []))
+  taken_story : length m ≤ y.begun.service.limit → IsInStep (put_to y es arrivals m Success (from_client m ∷ []))
   taken_story within =
       with_one Step Step itself y.puts y.gained step (record { message = m; told = Success }) m (λ ps xs s. taken_more y.begun.service.limit ps xs s m within)
 
-  refused_story : y.begun.service.limit < length m → IsInStep (put_to y es as m Rejected [])
+  refused_story : y.begun.service.limit < length m → IsInStep (put_to y es arrivals m Rejected [])
   refused_story beyond =
       with_none Step Step itself y.puts y.gained step (record { message = m; told = Rejected }) (λ ps xs s. refused_more y.begun.service.limit ps xs s m beyond)
 
-  unanswered_none : (o : Opener) → AcceptsPuts o (put_to y es as m Unanswered [])
+  unanswered_none : (o : Opener) → AcceptsPuts o (put_to y es arrivals m Unanswered [])
   unanswered_none ByLink =
       with_none Step (LinkAccepts y.begun.service.limit) (in_step_accepts y.begun.service.limit) y.puts y.gained step (record { message = m; told = Unanswered })
       (λ ps xs s. none_more y.begun.service.limit ps xs s m)
 
-  unanswered_one : length m ≤ y.begun.service.limit → (o : Opener) → AcceptsPuts o (put_to y es as m Unanswered (from_client m ∷ []))
+  unanswered_one : length m ≤ y.begun.service.limit → (o : Opener) → AcceptsPuts o (put_to y es arrivals m Unanswered (from_client m ∷ []))
   unanswered_one within ByLink =
       with_one Step (LinkAccepts y.begun.service.limit) (in_step_accepts y.begun.service.limit) y.puts y.gained step (record { message = m; told = Unanswered }) m
       (λ ps xs s. one_more y.begun.service.limit ps xs s m within)
@@ -153,15 +153,15 @@ module _ (y : Story) (step : IsInStep y) (es : List Event) (as : List Arrival) (
   in_step_kept : (a : Answer) (z : Story) → IsInStep z → KeptBy a z
   in_step_kept a z s = (in_step_keeps z s, λ never. s)
 
-  pub kept_by : (a : Answer) (more : List Accepted) → TakesSo y.begun.service.limit m a more → KeptBy a (put_to y es as m (told_put (Some a)) more)
+  pub kept_by : (a : Answer) (more : List Accepted) → TakesSo y.begun.service.limit m a more → KeptBy a (put_to y es arrivals m (told_put (Some a)) more)
   kept_by a more (inl h) =
-      subst (λ xs. KeptBy a (put_to y es as m (told_put (Some a)) xs)) (sym h.2) (subst (λ t. KeptBy a (put_to y es as m t (from_client m ∷ []))) (sym h.0)
-      (in_step_kept a (put_to y es as m Success (from_client m ∷ [])) (taken_story h.1)))
+      subst (λ xs. KeptBy a (put_to y es arrivals m (told_put (Some a)) xs)) (sym h.2) (subst (λ t. KeptBy a (put_to y es arrivals m t (from_client m ∷ []))) (sym h.0)
+      (in_step_kept a (put_to y es arrivals m Success (from_client m ∷ [])) (taken_story h.1)))
   kept_by a more (inr (inl h)) =
-      subst (λ xs. KeptBy a (put_to y es as m (told_put (Some a)) xs)) (sym h.2) (subst (λ t. KeptBy a (put_to y es as m t [])) (sym h.0)
-      (in_step_kept a (put_to y es as m Rejected []) (refused_story h.1)))
-  kept_by a more (inr (inr h)) = subst (λ t. KeptBy a (put_to y es as m t more)) (sym h.0) (by h.2)
+      subst (λ xs. KeptBy a (put_to y es arrivals m (told_put (Some a)) xs)) (sym h.2) (subst (λ t. KeptBy a (put_to y es arrivals m t [])) (sym h.0)
+      (in_step_kept a (put_to y es arrivals m Rejected []) (refused_story h.1)))
+  kept_by a more (inr (inr h)) = subst (λ t. KeptBy a (put_to y es arrivals m t more)) (sym h.0) (by h.2)
     where
-      by : (more ≡ []) ⊎ ((length m ≤ y.begun.service.limit) × (more ≡ from_client m ∷ [])) → KeptBy a (put_to y es as m Unanswered more)
-      by (inl none) = subst (λ xs. KeptBy a (put_to y es as m Unanswered xs)) (sym none) (unanswered_none y.opener, λ never. absurd (never h.1.0 h.1.1))
-      by (inr one) = subst (λ xs. KeptBy a (put_to y es as m Unanswered xs)) (sym one.1) (unanswered_one one.0 y.opener, λ never. absurd (never h.1.0 h.1.1))
+      by : (more ≡ []) ⊎ ((length m ≤ y.begun.service.limit) × (more ≡ from_client m ∷ [])) → KeptBy a (put_to y es arrivals m Unanswered more)
+      by (inl none) = subst (λ xs. KeptBy a (put_to y es arrivals m Unanswered xs)) (sym none) (unanswered_none y.opener, λ never. absurd (never h.1.0 h.1.1))
+      by (inr one) = subst (λ xs. KeptBy a (put_to y es arrivals m Unanswered xs)) (sym one.1) (unanswered_one one.0 y.opener, λ never. absurd (never h.1.0 h.1.1))

@@ -200,18 +200,18 @@ module _ (v w : View) (ys : List Story) (held : AreHeld w.numbers w.held) (apart
 
 -- a story goes on by this
 abbrev pub went_on : List Event → List Arrival → List LinkPut → List Accepted → Story → Story
-went_on es as ps more y = record y { events = y.events ++ es; arrivals = y.arrivals ++ as; puts = y.puts ++ ps; gained = y.gained ++ more }
+went_on es arrivals ps more y = record y { events = y.events ++ es; arrivals = y.arrivals ++ arrivals; puts = y.puts ++ ps; gained = y.gained ++ more }
 
 -- Something happens on the open link, and nothing is put.
 abbrev pub came : List Event → List Arrival → Story → Story
-came es as y = record y { events = y.events ++ es; arrivals = y.arrivals ++ as }
+came es arrivals y = record y { events = y.events ++ es; arrivals = y.arrivals ++ arrivals }
 
-module _ (v : View) (n : ℕ) (ys : List Story) (o : Open v n ys) (go : Story → Story) (es : List Event) (as : List Arrival) (is : go o.opened.now.story ≡ came es as o.opened.now.story) where
+module _ (v : View) (n : ℕ) (ys : List Story) (o : Open v n ys) (go : Story → Story) (es : List Event) (arrivals : List Arrival) (is : go o.opened.now.story ≡ came es arrivals o.opened.now.story) where
   abbrev before_it : Story
   before_it = o.opened.now.story
 
   abbrev behind_it : Story
-  behind_it = came es as before_it
+  behind_it = came es arrivals before_it
 
   story_last : last_goes_on go ys ≡ stories o.opened.done ++ behind_it ∷ []
   story_last = ap (last_goes_on go) o.opened.told ∙ last_story go (stories o.opened.done) before_it ∙ ap (λ y. stories o.opened.done ++ y ∷ []) is
@@ -340,9 +340,9 @@ module _ (v : View) (n : ℕ) (ys : List Story) (o : Opened v n ys) (more : List
   abbrev went : (Story → Story) → Paired
   went go = record { range = o.now.range; story = go o.now.story }
 
-  going_more : (go : Story → Story) (es : List Event) (as : List Arrival) (ps : List LinkPut) → go o.now.story ≡ went_on es as ps more o.now.story
+  going_more : (go : Story → Story) (es : List Event) (arrivals : List Arrival) (ps : List LinkPut) → go o.now.story ≡ went_on es arrivals ps more o.now.story
       → KeepsLinkLaw (go o.now.story) → IsGoing after n (went go)
-  going_more go es as ps is law = subst (λ y. KeepsLinkLaw y → IsGoing after n (record { range = o.now.range; story = y })) (sym is) goes law
+  going_more go es arrivals ps is law = subst (λ y. KeepsLinkLaw y → IsGoing after n (record { range = o.now.range; story = y })) (sym is) goes law
     where
       found : at after o.now.story.peer ≡ Some grown
       found = ap (at after) o.going.own ∙ found_after
@@ -350,7 +350,7 @@ module _ (v : View) (n : ℕ) (ys : List Story) (o : Opened v n ys) (more : List
       held_so : chosen (is_in o.now.range) 0 there.accepted ≡ o.now.story.gained
       held_so = subst (IfHeld (λ k. chosen (is_in o.now.range) 0 k.accepted ≡ o.now.story.gained)) (ap (at v) o.going.own ∙ o.going.found) o.going.fits.holds
 
-      goes : KeepsLinkLaw (went_on es as ps more o.now.story) → IsGoing after n (record { range = o.now.range; story = went_on es as ps more o.now.story })
+      goes : KeepsLinkLaw (went_on es arrivals ps more o.now.story) → IsGoing after n (record { range = o.now.range; story = went_on es arrivals ps more o.now.story })
       goes keeps = record {
         fits = record {
           peer = o.going.fits.peer;
@@ -370,9 +370,9 @@ module _ (v : View) (n : ℕ) (ys : List Story) (o : Opened v n ys) (more : List
         start = omega (arith, o.going.start, longer);
       }
 
-  pub opened_more : (go : Story → Story) (es : List Event) (as : List Arrival) (ps : List LinkPut) → go o.now.story ≡ went_on es as ps more o.now.story
+  pub opened_more : (go : Story → Story) (es : List Event) (arrivals : List Arrival) (ps : List LinkPut) → go o.now.story ≡ went_on es arrivals ps more o.now.story
       → KeepsLinkLaw (go o.now.story) → (z : Opened after n (last_goes_on go ys)) × (z.now.story ≡ go o.now.story)
-  opened_more go es as ps is law = (
+  opened_more go es arrivals ps is law = (
     record {
       done = o.done;
       base = record {
@@ -386,7 +386,7 @@ module _ (v : View) (n : ℕ) (ys : List Story) (o : Opened v n ys) (more : List
       now = went go;
       links = o.links;
       told = stands;
-      going = going_more go es as ps is law;
+      going = going_more go es arrivals ps is law;
     },
     refl,
   )

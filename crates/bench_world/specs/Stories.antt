@@ -70,7 +70,7 @@ puts_in c told = []
 
 -- What the server of a peer accepted so far: it stands, or else this stayed of it.
 abbrev pub accepted_of : Option FarEnd → Option FarEnd → List Accepted
-accepted_of (Some end) gone = end.service.accepted
+accepted_of (Some end) stayed = end.service.accepted
 accepted_of None (Some end) = end.service.accepted
 accepted_of None None = []
 

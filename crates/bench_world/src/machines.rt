@@ -169,7 +169,7 @@ impl Model for Machines {
 }
 
 impl Machines {
-    ghost use Rattle.std.specs.Prelude.{◌≡◌, ◌<◌, ◌^◌, [], Some, None, false, length, get_or, option_map, option_copied, if◌then◌else◌, ℕ, ◌+◌, IfSome, IfOk, IfErr, OnOk, OnErr};
+    ghost use Rattle.std.specs.Prelude.{◌≡◌, ◌<◌, ◌^◌, [], Some, None, true, false, length, get_or, option_map, option_copied, if◌then◌else◌, ℕ, ◌+◌, IfSome, IfOk, IfErr, OnOk, OnErr};
     ghost use Rattle.bench_world.specs.Obeying.{untraced, put_in, with_end, taken_out, link_ended};
     ghost use Rattle.bench_world.specs.Links.{OpenLink, is_with};
     ghost use Rattle.bench_world.specs.Opened.{IsServed};
