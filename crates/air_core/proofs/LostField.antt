@@ -1,12 +1,12 @@
 -- What the notes of a reader tell of the field: whether it is lit, and whether a Break was used.
-use Rattle.std.proofs.Common.{◌≡◌, ℕ, zero, suc, ◌+◌, ◌<◌, List, [], ◌∷◌, ◌++◌, Bool, true, false, if◌then◌else◌, Option, Some, None, refl, sym, ◌∙◌, ap, subst, arith}
+use Rattle.std.proofs.Common.{◌≡◌, ℕ, zero, suc, ◌+◌, ◌<◌, ◌≤◌, List, [], ◌∷◌, ◌++◌, Bool, true, false, if◌then◌else◌, Option, Some, None, refl, sym, ◌∙◌, ap, subst, arith}
 use Rattle.nfc_base.specs.declared.event.Event.{Event}
 use Rattle.nfc_base.specs.declared.event.Event.TheVariants.{Reset, Request, Answer, Clash}
 use Rattle.nfc_base.specs.declared.event.Fate.{Fate}
 use Rattle.nfc_base.specs.declared.event.Fate.TheVariants.{Pass, Damage, Lose, Break}
 use Rattle.nfc_base.specs.declared.event.Heard.{Heard}
 use Rattle.nfc_base.specs.Signal.{Signal}
-use Rattle.nfc_base.specs.Trace.{breaks, of_break, heard_by}
+use Rattle.nfc_base.specs.Trace.{breaks, noise, of_break, other_than_pass, heard_by}
 use Rattle.air_core.specs.Joint.{Joint, Nothing, Single, Clashing}
 use Rattle.air_core.specs.World.{Machine, World, quiet_air, stepped}
 use Rattle.air_core.specs.Conversation.{Note, Lit, Got, Lost, note, Next, Moment, Going, replay, receptions, joint_events, joint_back, turn_events, turn_heard, Move, Light, Ask, trace_of}
@@ -37,6 +37,20 @@ breaks-append (Reset ∷ a) b = breaks-append a b
 breaks-append (Request f x ∷ a) b = ap (λ n. of_break x + n) (breaks-append a b) ∙ (let q : of_break x + (breaks a + breaks b) ≡ (of_break x + breaks a) + breaks b = omega arith in q)
 breaks-append (Answer f x ∷ a) b = ap (λ n. of_break x + n) (breaks-append a b) ∙ (let q : of_break x + (breaks a + breaks b) ≡ (of_break x + breaks a) + breaks b = omega arith in q)
 breaks-append (Clash f x ∷ a) b = ap (λ n. of_break x + n) (breaks-append a b) ∙ (let q : of_break x + (breaks a + breaks b) ≡ (of_break x + breaks a) + breaks b = omega arith in q)
+
+-- a transmission that lost the field didn't pass
+break_noise : (x : Fate) → of_break x ≤ other_than_pass x
+break_noise Pass = omega arith
+break_noise Damage = omega arith
+break_noise Lose = omega arith
+break_noise Break = omega arith
+
+pub breaks_noise : (es : List Event) → breaks es ≤ noise es
+breaks_noise [] = omega arith
+breaks_noise (Reset ∷ es) = breaks_noise es
+breaks_noise (Request f x ∷ es) = let a = break_noise x in let b = breaks_noise es in omega (arith, a, b)
+breaks_noise (Answer g x ∷ es) = let a = break_noise x in let b = breaks_noise es in omega (arith, a, b)
+breaks_noise (Clash g x ∷ es) = let a = break_noise x in let b = breaks_noise es in omega (arith, a, b)
 
 module _ {L : Type 0} (m : Machine L) where
   abbrev pub over : List Event → World L → World L

@@ -121,7 +121,7 @@ gathered_wakens : (t : TargetState) (more : Bool) (pni : ℕ) (xs : List ℕ) �
 gathered_wakens t more pni xs = if_wakens (nat_lt limit (length xs)) _ _ tt (grown_wakens t more pni xs)
 
 drawn_wakens : (t : TargetState) (pni : ℕ) → Wakens (drawn t pni)
-drawn_wakens t pni = if_wakens (if nat_lt 0 t.due then false else nat_lt 0 (length t.left)) _ _ tt tt
+drawn_wakens t pni = if_wakens (if nat_lt 0 t.due then false else t.unsent) _ _ tt tt
 
 extended_wakens : (t : TargetState) (times : ℕ) → Wakens (extended t times)
 extended_wakens t times =

@@ -190,6 +190,7 @@ busy_talks count times few long (Peer d) = record {
     expects = t.expects;
     no_chain = t.no_chain;
     no_left = t.no_left;
+    all_sent = t.all_sent;
     asks = t.asks;
     answers = t.answers;
     busy = few;

@@ -23,6 +23,7 @@ in_step_first t code general b = record {
   expects = refl;
   no_chain = refl;
   no_left = refl;
+  all_sent = refl;
   asks = size_bounds t.lr;
   answers = size_bounds code;
   busy = b.count;

@@ -5,20 +5,19 @@ use Rattle.std.specs.Global.{Vec}
 use Rattle.std.proofs.lemmas.List.{append_cancel_left, drop-append-le}
 use Rattle.std.proofs.Math.Seq.{drop-append_seam}
 use Rattle.nfc_base.specs.Signal.{Signal}
-use Rattle.nfc_base.specs.Trace.{noise}
+use Rattle.nfc_base.specs.Trace.{noise, breaks}
 use Rattle.nfc_base.specs.StopAndWait.{delivered_of}
 use Rattle.nfc_base.specs.Links.{Stepped, Stopped}
 use Rattle.nfc_base.specs.LinkTurns.{GivenBy, arrived}
 use Rattle.nfc_base.proofs.LinkTurns.{arrived_append}
 use Rattle.nfc_base.specs.declared.event.Event.{Event}
-use Rattle.nfc_base.specs.declared.event.Event.TheVariants.{Request}
-use Rattle.nfc_base.specs.declared.event.Fate.TheVariants.{Pass}
 use Rattle.nfc_base.specs.declared.carrier.EndCause.{EndCause}
 use Rattle.nfc_base.specs.declared.carrier.EndCause.TheVariants.{FieldLost, SixBad, Protocol, Memory}
 use Rattle.air_core.specs.Turn.{Air, moment}
 use Rattle.air_core.specs.Turning.{going_start}
 use Rattle.air_core.specs.declared.listener.Listener.{Ghosts}
 use Rattle.air_core.proofs.PlainTurns.{noise_append}
+use Rattle.air_core.proofs.LostField.{breaks-append, breaks_noise}
 use Rattle.dep_pdu.specs.declared.frame.DepFrame.{DepFrame}
 use Rattle.dep_pdu.specs.declared.frame.DepFrame.TheVariants.{AtrReq, AtrRes, Info, Ack, Nack, Attention, Extend, DslReq, DslRes, RlsReq, RlsRes}
 use Rattle.dep_link.specs.declared.exchange.Unanswered.{Unanswered}
@@ -93,6 +92,9 @@ module _ {L F : Type 0} (k : Ghosts L) (target : L → TargetState) (steps : F �
     noise_is : noise (since (at new j over)) ≡ noise (since a) + noise events
     noise_is = ap noise since_is ∙ noise_append (since a) events
 
+    breaks_is : breaks (since (at new j over)) ≡ breaks (since a) + breaks events
+    breaks_is = ap breaks since_is ∙ breaks-append (since a) events
+
     start_is : a.start ≤ length new.trace
     start_is = let l = r.start in let e = ap length trace in let s = length-append a.air.trace events in omega (arith, l, e, s)
 
@@ -117,12 +119,18 @@ module _ {L F : Type 0} (k : Ghosts L) (target : L → TargetState) (steps : F �
     abbrev Noisy : Option EndCause → Type 0
     Noisy over = over ≡ Some SixBad → noise (since (at new j over)) ≡ noise (since a) → ⊥
 
-    exchanged : (over : Option EndCause) (s : Standing) → StandsAt over None j s → Turns new None s → Noisy over → Exchanged k target a (at new j over) (record { out = out; did = [] })
-    exchanged over s st x n = record { begins = open_link; start = r.start; peer = r.peer; same = (refl, refl); last = last; short = short; bytes = bytes; exchange = (s, x, st); noisy = n }
+    -- where the field was lost it is dark, and a transmission lost it
+    abbrev Lost : Option EndCause → Type 0
+    Lost over = over ≡ Some FieldLost → (breaks (since a) < breaks (since (at new j over))) × (new.lit ≡ false)
 
-    exchanged_step : (over : Option EndCause) (reply : List ℕ) (s : Standing) → StandsAt over (Some reply) j s → Turns new (Some reply) s → Noisy over
+    exchanged : (over : Option EndCause) (s : Standing) → StandsAt over None j s → Turns new None s → Noisy over → Lost over → Exchanged k target a (at new j over) (record { out = out; did = [] })
+    exchanged over s st x n f =
+        record { begins = open_link; start = r.start; peer = r.peer; same = (refl, refl); last = last; short = short; bytes = bytes; exchange = (s, x, st); noisy = n; lost = f }
+
+    exchanged_step : (over : Option EndCause) (reply : List ℕ) (s : Standing) → StandsAt over (Some reply) j s → Turns new (Some reply) s → Noisy over → Lost over
         → Exchanged k target a (at new j over) (record { out = out; did = Stepped out reply ∷ [] })
-    exchanged_step over reply s st x n = record { begins = open_link; start = r.start; peer = r.peer; same = (refl, refl); last = last; short = short; bytes = bytes; exchange = (refl, (s, x, st)); noisy = n }
+    exchanged_step over reply s st x n f =
+        record { begins = open_link; start = r.start; peer = r.peer; same = (refl, refl); last = last; short = short; bytes = bytes; exchange = (refl, (s, x, st)); noisy = n; lost = f }
 
     -- the reply came
     pub carried : (reply : Vec ℕ) → EndsBy k target steps stops a.air new r.peer.listener a.initiator j a.first (brought a.first (since a)) (arrived (since a)) out far far' (Ok (record { items = reply.items }))
@@ -131,7 +139,7 @@ module _ {L F : Type 0} (k : Ghosts L) (target : L → TargetState) (steps : F �
         let P : List (List ℕ) → List Signal → Type 0 = λ ps fs. HasPeer k target new j a.first ps fs in
         let fs : arrived (since (at new j None)) ≡ arrived (since a) ++ arrived x.events = arrived_is new j None x.events x.trace in
         let ps : brought a.first (since (at new j None)) ≡ brought a.first (since a) ++ out ∷ [] = ap (λ (zs : List Signal). payloads a.first (frames_of zs)) fs ∙ x.brings in (
-          record { exchanged = exchanged_step None reply.items (Rests j reply.items) refl x (λ e q. cc); far_moved = (far', step, refl) },
+          record { exchanged = exchanged_step None reply.items (Rests j reply.items) refl x (λ e q. cc) (λ e. absurd cc); far_moved = (far', step, refl) },
           refl,
           record {
             lit = lit;
@@ -144,14 +152,17 @@ module _ {L F : Type 0} (k : Ghosts L) (target : L → TargetState) (steps : F �
     never_calm cause calm e q = let memory : cause ≡ Memory = calm q in cc
 
     -- the exchange was broken off by this cause
-    under_way : (cause : EndCause) (given : Option (List ℕ)) (s : Standing) (x : Turns new given s) → GivenBy steps far out given far' → StandsAt (Some cause) given j s
+    under_way : (cause : EndCause) (given : Option (List ℕ)) (s : Standing) (x : Turns new given s) → GivenBy steps far out given far' → StandsAt (Some cause) given j s → Lost (Some cause)
         → (noise (since (at new j (Some cause))) ≡ noise (since a) → cause ≡ Memory) → Carries k target steps stops a (at new j (Some cause)) out far far' (Err (record { cause = cause; answered = is_some (delivered_of out given) }))
-    under_way cause None s x g st calm = ([], record { exchanged = exchanged (Some cause) s st x (never_calm cause calm); far_moved = g }, inl refl, refl, calm)
-    under_way cause (Some reply) s x g st calm =
-        (Stepped out reply ∷ [], record { exchanged = exchanged_step (Some cause) reply s st x (never_calm cause calm); far_moved = (far', g, refl) }, (reply, refl), refl, calm)
+    under_way cause None s x g st f calm = ([], record { exchanged = exchanged (Some cause) s st x (never_calm cause calm) f; far_moved = g }, inl refl, refl, calm)
+    under_way cause (Some reply) s x g st f calm =
+        (Stepped out reply ∷ [], record { exchanged = exchanged_step (Some cause) reply s st x (never_calm cause calm) f; far_moved = (far', g, refl) }, (reply, refl), refl, calm)
 
     noisy : (cause : EndCause) (given : Option (List ℕ)) (s : Standing) (x : Turns new given s) → 0 < noise x.events → noise (since (at new j (Some cause))) ≡ noise (since a) → cause ≡ Memory
     noisy cause given s x p e = let n = noise_is new j (Some cause) x.events x.trace in absurd (omega (arith, p, e, n))
+
+    lost_there : (given : Option (List ℕ)) (s : Standing) (x : Turns new given s) → 0 < breaks x.events → new.lit ≡ false → Lost (Some FieldLost)
+    lost_there given s x p dark e = (let n = breaks_is new j (Some FieldLost) x.events x.trace in omega (arith, p, n), dark)
 
     told : (cause : EndCause) (given : Option (List ℕ)) (s : Standing) (x : Turns new given s) (answered : Bool) → answered ≡ brings_payload a.initiator.core.number (frames_of (arrived (drop (length a.air.trace) new.trace)))
         → Carries k target steps stops a (at new j (Some cause)) out far far' (Err (record { cause = cause; answered = is_some (delivered_of out given) }))
@@ -163,9 +174,11 @@ module _ {L F : Type 0} (k : Ghosts L) (target : L → TargetState) (steps : F �
     pub broken_off : (cause : EndCause) (answered : Bool) → answered ≡ brings_payload a.initiator.core.number (frames_of (arrived (drop (length a.air.trace) new.trace)))
         → EndsBy k target steps stops a.air new r.peer.listener a.initiator j a.first (brought a.first (since a)) (arrived (since a)) out far far' (Err (ends.Ended cause))
         → Carries k target steps stops a (at new j (Some cause)) out far far' (Err (record { cause = cause; answered = answered }))
-    broken_off FieldLost answered e (given, s, x, g, p) = told FieldLost given s x answered e (under_way FieldLost given s x g p.0 (noisy FieldLost given s x p.1))
-    broken_off SixBad answered e (given, s, x, g, p) = told SixBad given s x answered e (under_way SixBad given s x g p.0 (noisy SixBad given s x p.1))
-    broken_off Memory answered e (given, s, x, g, p) = told Memory given s x answered e (under_way Memory given s x g p (λ z. refl))
+    broken_off FieldLost answered e (given, s, x, g, p) =
+        let some : 0 < noise x.events = let b = p.1 in let l = breaks_noise x.events in omega (arith, b, l) in
+        told FieldLost given s x answered e (under_way FieldLost given s x g p.0 (lost_there given s x p.1 p.2) (noisy FieldLost given s x some))
+    broken_off SixBad answered e (given, s, x, g, p) = told SixBad given s x answered e (under_way SixBad given s x g p.0 (λ z. absurd cc) (noisy SixBad given s x p.1))
+    broken_off Memory answered e (given, s, x, g, p) = told Memory given s x answered e (under_way Memory given s x g p (λ z. absurd cc) (λ z. refl))
     broken_off Protocol answered e p = absurd p
 
     -- the far end stopped
@@ -174,7 +187,7 @@ module _ {L F : Type 0} (k : Ghosts L) (target : L → TargetState) (steps : F �
     stopped (x, stop) = (
       Stopped out ∷ [],
       record {
-        exchanged = record { begins = open_link; start = r.start; peer = r.peer; same = (refl, refl); last = last; short = short; bytes = bytes; exchange = (refl, x, refl); noisy = λ e q. cc };
+        exchanged = record { begins = open_link; start = r.start; peer = r.peer; same = (refl, refl); last = last; short = short; bytes = bytes; exchange = (refl, x, refl); noisy = λ e q. cc; lost = λ e. absurd cc };
         far_moved = (stop, refl);
       },
       inr (refl, refl),
@@ -197,25 +210,11 @@ module _ {L F : Type 0} (k : Ghosts L) (target : L → TargetState) (steps : F �
         stands = refl;
       } in (
         [],
-        record { exchanged = exchanged a.air (begun a.initiator out) refl (Some Memory) (asks a.initiator out) (air_frame (request (begun a.initiator out).core), refl) x (λ q m. cc); far_moved = e },
+        record { exchanged = exchanged a.air (begun a.initiator out) refl (Some Memory) (asks a.initiator out) (air_frame (request (begun a.initiator out).core), refl) x (λ q m. cc) (λ q. absurd cc); far_moved = e },
         inl refl,
         refl,
         λ z. refl,
       )
-
-  -- events are added alone
-  pub fault_grows : (new : Air L) (j : InitState) (why : Unanswered)
-      → EndsBy k target steps stops a.air new r.peer.listener a.initiator j a.first (brought a.first (since a)) (arrived (since a)) out far far' (Err why) → length a.air.trace ≤ length new.trace
-  fault_grows new j (ends.Ended FieldLost) (given, s, x, g, p) = let l = ap length x.trace in let n = length-append a.air.trace x.events in omega (arith, l, n)
-  fault_grows new j (ends.Ended SixBad) (given, s, x, g, p) = let l = ap length x.trace in let n = length-append a.air.trace x.events in omega (arith, l, n)
-  fault_grows new j (ends.Ended Memory) (given, s, x, g, p) = let l = ap length x.trace in let n = length-append a.air.trace x.events in omega (arith, l, n)
-  fault_grows new j (ends.Ended Protocol) p = absurd p
-  fault_grows new j ends.Stopped (x, stop) =
-      let l = ap length x.before.trace in
-      let n = length-append a.air.trace x.before.events in
-      let m = ap (λ (z : Air L). length z.trace) x.left in
-      let o = length-append x.mid.trace (Request x.sent Pass ∷ []) in
-      omega (arith, l, n, m, o)
 
   -- a fault of any kind
   pub fault_carried : (new : Air L) (j : InitState) → j.out ≡ Some out → (why : Unanswered)

@@ -1,5 +1,5 @@
 -- The initiator at the target's answers, and at bad receptions, while an exchange is under way.
-use Rattle.std.proofs.Common.{◌≡◌, ◌⊎◌, ℕ, ◌+◌, ◌-◌, ◌*◌, ◌<◌, ◌≤◌, nat_lt, Bool, true, false, List, [], ◌++◌, length, take, drop, Option, Some, None, inl, inr, refl, sym, ◌∙◌, ap, subst, arith, append_assoc, take_all, length-drop}
+use Rattle.std.proofs.Common.{◌≡◌, ◌⊎◌, ℕ, ◌+◌, ◌-◌, ◌*◌, ◌<◌, ◌≤◌, nat_lt, Bool, true, false, List, [], ◌++◌, length, take, drop, Option, Some, None, inl, inr, refl, sym, ◌∙◌, ap, subst, arith, append_assoc, take_all}
 use Rattle.std.proofs.lemmas.Bool.{lt-ltb, ltb-true}
 use Rattle.std.proofs.lemmas.List.{take-append-drop, length-take-le, drop_all}
 use Rattle.nfc_base.specs.Signal.{Signal}
@@ -203,7 +203,7 @@ module _ (first m k : ℕ) (out : List ℕ) where
       receiving = refl;
       expects = h.expects;
       no_chain = h.no_chain;
-      left = rw (h.left, length-drop) (omega arith);
+      unsent = h.unsent ∙ lt-ltb t.most (length bytes) l;
       reply = rw (h.left, append_assoc, take-append-drop) h.reply;
       short_back = rw (h.left, append_assoc, take-append-drop) h.short_back;
     },
@@ -242,6 +242,7 @@ module _ (first m k : ℕ) (out : List ℕ) where
               expects = h.expects;
               no_chain = h.no_chain;
               no_left = rw (h.left, drop_all t.most bytes l) refl;
+              all_sent = h.unsent ∙ not_lt t.most (length bytes) l;
               asks = (h.bounds.some, h.bounds.fits);
               answers = (h.bounds.some_back, h.bounds.fits_back);
               busy = rw h.bounds.asks h.bounds.few;

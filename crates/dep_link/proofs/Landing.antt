@@ -49,7 +49,7 @@ module _ (first m k : ℕ) (out : List ℕ) where
   -- it sends the next piece of its reply
   abbrev drew : TargetState → Core → TargetState
   drew t c =
-      record t { expected = after t.expected; last = Some (piece true t.most c.number t.left); left = drop t.most t.left; followed = false }
+      record t { expected = after t.expected; last = Some (piece true t.most c.number t.left); left = drop t.most t.left; unsent = nat_lt t.most (length t.left); followed = false }
 
   piece_taken : (c : Core) (t : TargetState) (g : Option (List ℕ)) → Asking m k out c t g → c.most < length c.rest
       → (heeded t (request c) ≡ record { state = took t c; does = Answers (Ack true c.number) }) × Acked m k out c (took t c) g
@@ -77,11 +77,11 @@ module _ (first m k : ℕ) (out : List ℕ) where
 
   -- The owner replied, and the target asks for more time first or doesn't.
   abbrev asking_time : TargetState → List ℕ → TargetState
-  asking_time t r = record (handing t) { last = Some (Extend true t.times); left = r; due = t.busy; followed = false }
+  asking_time t r = record (handing t) { last = Some (Extend true t.times); left = r; unsent = true; due = t.busy; followed = false }
 
   abbrev sending_first : TargetState → List ℕ → TargetState
   sending_first t r =
-      record (handing t) { last = Some (piece true t.most (before (after t.expected)) r); left = drop t.most r; due = 0; followed = false }
+      record (handing t) { last = Some (piece true t.most (before (after t.expected)) r); left = drop t.most r; unsent = nat_lt t.most (length r); due = 0; followed = false }
 
   time_asked : (c : Core) (t : TargetState) (g : Option (List ℕ)) (bads : ℕ) → Asking m k out c t g → length c.rest ≤ c.most → 0 < t.busy
       → (r : List ℕ) → length r ≤ limit → Extending m k out c (asking_time t r) (Some r) bads
@@ -116,6 +116,7 @@ module _ (first m k : ℕ) (out : List ℕ) where
         no_chain = refl;
         last = ap (λ (x : ℕ). let o : Option DepFrame = Some (piece true t.most x r) in o) w;
         left = refl;
+        unsent = refl;
         reply = rw h.empty refl;
         short_back = rw h.empty f;
       }
@@ -146,7 +147,7 @@ module _ (first m k : ℕ) (out : List ℕ) where
   reply_drawn : (c : Core) (t : TargetState) (g : Option (List ℕ)) → Drawing m k out c t g
       → (heeded t (request c) ≡ record { state = drew t c; does = Answers (piece true t.most c.number t.left) }) × Answered m k out c (drew t c) g t.left
   reply_drawn c t g h = (
-    rw (h.plain, h.receiving, h.bounds.heeds, h.expects, same c.number, h.none_due, lt-ltb 0 (length t.left) h.left) refl,
+    rw (h.plain, h.receiving, h.bounds.heeds, h.expects, same c.number, h.none_due, h.unsent) refl,
     record {
       bounds = h.bounds;
       number = h.number;
@@ -157,6 +158,7 @@ module _ (first m k : ℕ) (out : List ℕ) where
       no_chain = h.no_chain;
       last = refl;
       left = refl;
+      unsent = refl;
       reply = h.reply;
       short_back = h.short_back;
     },
@@ -164,7 +166,7 @@ module _ (first m k : ℕ) (out : List ℕ) where
 
   -- the time is granted, and the target asks again, or sends its reply
   abbrev given_time : TargetState → TargetState
-  given_time t = record t { due = 0; last = Some (first_piece t t.left); left = drop t.most t.left; followed = true }
+  given_time t = record t { due = 0; last = Some (first_piece t t.left); left = drop t.most t.left; unsent = nat_lt t.most (length t.left); followed = true }
 
   asks_again : (t : TargetState) → t.mute ≡ false → 0 < t.due → 1 < t.due
       → heeded t (Extend false t.times) ≡ record { state = record t { due = t.due - 1 }; does = Answers (Extend true t.times) }
@@ -287,6 +289,7 @@ module _ (first m k : ℕ) (out : List ℕ) where
             no_chain = h.no_chain;
             last = ap (λ (x : ℕ). let o : Option DepFrame = Some (piece true t.most x t.left) in o) v;
             left = refl;
+            unsent = refl;
             reply = rw h.empty h.reply;
             short_back = rw h.empty h.short_back;
           } in

@@ -13,6 +13,7 @@ pub mod PeerTurns
 pub mod Unbegun
 pub mod Swapping
 pub mod SwapEnds
+pub mod AnyPeer
 pub mod Brings
 pub mod Carrying
 pub mod Swapped

@@ -82,7 +82,7 @@ module _ (m k : ℕ) (out : List ℕ) where
     pub receiving : c.drawing ≡ true
     pub expects : t.expected ≡ c.number
     pub no_chain : t.chain ≡ []
-    pub left : 0 < length t.left
+    pub unsent : t.unsent ≡ true
     pub reply : given ≡ Some (c.got ++ t.left)
     pub short_back : length (c.got ++ t.left) ≤ limit
 
@@ -110,6 +110,7 @@ module _ (m k : ℕ) (out : List ℕ) where
     pub no_chain : t.chain ≡ []
     pub last : t.last ≡ Some (piece true t.most c.number bytes)
     pub left : t.left ≡ drop t.most bytes
+    pub unsent : t.unsent ≡ nat_lt t.most (length bytes)
     pub reply : given ≡ Some (c.got ++ bytes)
     pub short_back : length (c.got ++ bytes) ≤ limit
 

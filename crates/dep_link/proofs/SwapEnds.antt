@@ -30,7 +30,7 @@ use Rattle.dep_link.specs.Asking.{Standing, Waits, Rests, Broken, goes_by, HasPe
 use Rattle.dep_link.proofs.Ended.{whole_not_six}
 use Rattle.dep_link.proofs.Answered.{stopped_at}
 use Rattle.dep_link.proofs.PeerTurns.{each_quiet, hears_asked}
-use Rattle.dep_link.proofs.Swapping.{OnPeer, HasBytes, begins_on, turn_on, turn_lost, noisy, live, on_turns, lost_turns, turns_by, far_by, once_along, saying, never_protocol, replied_turns, hands, given_is, is_asked, last_peer, last_alone}
+use Rattle.dep_link.proofs.Swapping.{OnPeer, HasBytes, begins_on, turn_on, turn_lost, noisy, broken, room, live, on_turns, lost_turns, turns_by, far_by, once_along, saying, never_protocol, replied_turns, hands, given_is, is_asked, last_peer, last_alone}
 
 -- what a target hands over it delivers
 use_delivers : (d : TargetStep) (p : List ℕ) → target_use d ≡ Hands p → target_does d ≡ Deliver p
@@ -107,7 +107,7 @@ module _ {L F : Type 0} (k : Ghosts L) (laws : Laws k) (target : L → TargetSta
           Broken cause.FieldLost,
           lost_turns k laws target restarts steps t.listener t.is i0 first handed arrived out far0 old new far' l,
           far_by k laws target restarts steps t.listener t.is i0 first handed arrived out far0 old.trace new.trace l.initiator (target l.left) far' l.said Dark l.along l.said refl,
-          (refl, noisy k laws target restarts steps t.listener t.is i0 first handed arrived out far0 old mid t.place far i f bytes o far' new None turn (λ g q. absurd (cc)) l.along.added l.along.events),
+          (refl, broken k laws target restarts steps t.listener t.is i0 first handed arrived out far0 old mid t.place far i f bytes o far' new None turn refl l.along.added l.along.events, l.dark),
         )
 
     -- one event more
@@ -166,6 +166,7 @@ module _ {L F : Type 0} (k : Ghosts L) (laws : Laws k) (target : L → TargetSta
             brings =
                 ap (λ (fs : List Signal). payloads first (frames_of (fs ++ f ∷ []))) o.along.arrives ∙ ap (λ c. c.payloads) h.2 ∙ ap (λ (ps : List (List ℕ)). ps ++ stop.0 ∷ []) delivered
                 ∙ ap (λ (p : List ℕ). handed ++ p ∷ []) h.0;
+            within = room k laws target restarts steps b t.is i0 first handed arrived out far0 old mid t.place far i f bytes o none;
           },
           subst (λ (p : List ℕ). stops far0 p far') h.0 (subst (λ (y : F). stops y stop.0 far') same stop.2),
         )

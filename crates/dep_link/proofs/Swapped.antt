@@ -5,7 +5,7 @@ use Rattle.std.specs.Result.{IfErr}
 use Rattle.std.specs.Global.{Vec}
 use Rattle.std.proofs.lemmas.List.{drop-append-le}
 use Rattle.nfc_base.specs.Trace.{noise}
-use Rattle.nfc_base.specs.Links.{CountsOn, HasCause, Swaps, SwapDone, FarLeft, SwapFailed, FarStep, Stepped, Stopped, AskedBy, Swapped, IsMemory}
+use Rattle.nfc_base.specs.Links.{CountsOn, HasCause, Swaps, SwapDone, FarLeft, SwapFailed, SwapRefused, FarStep, Stepped, Stopped, AskedBy, Swapped, IsMemory}
 use Rattle.nfc_base.specs.LinkTurns.{arrived}
 use Rattle.nfc_base.specs.declared.event.Event.{Event}
 use Rattle.nfc_base.specs.declared.event.Event.TheVariants.{Request}
@@ -166,3 +166,38 @@ module _ {L : Type 0} (k : Ghosts L) (target : L → TargetState) where
     pub err_swapped : (result : Result (Vec ℕ) LinkEnd) → Carries k target steps stops (see p) (see q) out far after result → IfErr result (λ e. Swapped One steps stops p out far q after (AskedBy e.answered e.cause out))
     err_swapped (Ok r) c = tt
     err_swapped (Err e) (did, c, asked, over, calm) = record { did = did; link = c.exchanged; far_moved = c.far_moved; tells = asked }
+
+    -- the same of a link that may be over
+    module _ (result : Result (Vec ℕ) LinkEnd) (ready : (see p).over ≡ None → IsDepReady k target (see p)) (does : (see p).over ≡ None → IsDepReady k target (see p) → Carries k target steps stops (see p) (see q) out far after result)
+        (ended : (c : EndCause) → (see p).over ≡ Some c → (result ≡ Err (record { cause = c; answered = false })) × (q ≡ p) × (after ≡ far)) where
+      by_over : (P : Result (Vec ℕ) LinkEnd → Type 0) → (Carries k target steps stops (see p) (see q) out far after result → P result) → ((e : LinkEnd) → P (Err e)) → (o : Option EndCause) → (see p).over ≡ o → P result
+      by_over P going refused None e = going (does e (ready e))
+      by_over P going refused (Some c) e = subst P (sym (ended c e).0) (refused (record { cause = c; answered = false }))
+
+      pub ok_may : IfOk result (λ r. SwapDone steps (dep_view (see p)) (dep_view (see q)) out r.items far after)
+      ok_may =
+          by_over (λ x. IfOk x (λ r. SwapDone steps (dep_view (see p)) (dep_view (see q)) out r.items far after)) (ok_told steps stops (see p) (see q) out far after result) (λ e. tt) (see p).over refl
+
+      pub swapped_may : IfOk result (λ r. Swapped One steps stops p out far q after (λ did. did ≡ Stepped out r.items ∷ []))
+      swapped_may = by_over (λ x. IfOk x (λ r. Swapped One steps stops p out far q after (λ did. did ≡ Stepped out r.items ∷ []))) (ok_swapped result) (λ e. tt) (see p).over refl
+
+      calm_of : (x : Result (Vec ℕ) LinkEnd) → Carries k target steps stops (see p) (see q) out far after x → noise (since (see q)) ≡ noise (since (see p)) → IfErr x IsMemory
+      calm_of (Ok r) c e = tt
+      calm_of (Err f) c e = failed_calm steps stops (see p) (see q) out far after f c e
+
+      pub calm_may : (see p).over ≡ None → noise (since (see q)) ≡ noise (since (see p)) → IfErr result IsMemory
+      calm_may none e = calm_of result (does none (ready none)) e
+
+      ready_of : (x : Result (Vec ℕ) LinkEnd) → Carries k target steps stops (see p) (see q) out far after x → (see q).over ≡ None → IsDepReady k target (see q)
+      ready_of (Ok r) c e = swap_ready steps stops (see p) (see q) out far after r c
+      ready_of (Err f) (did, c, asked, over, calm) e = absurd cc
+
+      pub ready_may : (see q).over ≡ None → IsDepReady k target (see q)
+      ready_may = by_start (see p).over refl
+        where
+          by_start : (o : Option EndCause) → (see p).over ≡ o → (see q).over ≡ None → IsDepReady k target (see q)
+          by_start None e n = ready_of result (does e (ready e)) n
+          by_start (Some c) e n = absurd (let same : (see q).over ≡ (see p).over = ap (λ (x : C). (see x).over) (ended c e).1 in cc)
+
+      pub refused_may : (c : EndCause) → (see p).over ≡ Some c → SwapRefused (dep_view (see p)) (dep_view (see q)) c far after result × (q ≡ p)
+      refused_may c e = let a = ended c e in (record { fault = a.0; same = ap (λ (x : C). dep_view (see x)) a.1; rests = a.2 }, a.1)

@@ -3,7 +3,7 @@ use Rattle.std.proofs.Common.{◌≡◌, ℕ, zero, suc, ◌+◌, ◌-◌, ◌*�
 use Rattle.std.specs.List.{AllByRecursion}
 use Rattle.std.proofs.lemmas.List.{append_cancel_left}
 use Rattle.nfc_base.specs.Signal.{Signal}
-use Rattle.nfc_base.specs.Trace.{noise, back_of}
+use Rattle.nfc_base.specs.Trace.{noise, breaks, back_of}
 use Rattle.nfc_base.specs.Trace as backs
 use Rattle.nfc_base.specs.StopAndWait.{Does, Quiet, Reply, Deliver, Hears, Finished, Protocol, Stage, Requests, Over, Dark, stage_of, World, Once, IsEnding, delivered_of, pieces_back}
 use Rattle.nfc_base.specs.LinkTurns.{heard_of, heard_in, Step, settled, step, Turned, turned, IsTurn, MovedBy, GivenBy, bad_receptions}
@@ -15,7 +15,7 @@ use Rattle.nfc_base.specs.declared.event.Fate.TheVariants.{Pass, Damage, Lose, B
 use Rattle.nfc_base.specs.declared.event.Heard.{Heard}
 use Rattle.nfc_base.specs.declared.event.Heard.TheVariants as heards
 use Rattle.nfc_base.specs.declared.carrier.EndCause.TheVariants as cause
-use Rattle.nfc_base.proofs.ExactlyOnce.{Keeps, IsReady, kept_once}
+use Rattle.nfc_base.proofs.ExactlyOnce.{Keeps, IsReady, more_of, kept_once}
 use Rattle.nfc_base.proofs.LinkTurns.{J, bads_append, given_after, Along, Onward, goes_along, next_asking, next_stage}
 use Rattle.nfc_base.proofs.Leading.{all_append}
 use Rattle.air_core.specs.Turn.{Air, moment, TurnIs}
@@ -26,6 +26,7 @@ use Rattle.air_core.specs.PlainTags.{IsAlone}
 use Rattle.air_core.specs.declared.listener.Listener.{Ghosts}
 use Rattle.air_core.proofs.PlainAside.{Laws}
 use Rattle.air_core.proofs.PlainTurns.{noise_append}
+use Rattle.air_core.proofs.LostField.{breaks-append}
 use Rattle.air_core.proofs.Quiet.{quiet_turns_to}
 use Rattle.dep_pdu.specs.declared.frame.DepFrame.TheVariants.{Nack, Attention}
 use Rattle.dep_link.specs.declared.initiator.Phase.TheVariants as phases
@@ -184,6 +185,30 @@ noise_later base xs ys zs mid new e1 e2 e3 h =
     let all : noise zs ≡ noise (xs ++ ys) = ap noise same in
     omega (arith, sum, all, h)
 
+-- what lost the field in a turn lost it in all of them
+breaks_later : (base xs ys zs : List Event) (mid new : List Event) → mid ≡ base ++ xs → new ≡ mid ++ ys → new ≡ base ++ zs → 0 < breaks ys → 0 < breaks zs
+breaks_later base xs ys zs mid new e1 e2 e3 h =
+    let q : base ++ zs ≡ base ++ (xs ++ ys) = sym e3 ∙ e2 ∙ ap (λ (es : List Event). es ++ ys) e1 ∙ append_assoc base xs ys in
+    let same : zs ≡ xs ++ ys = append_cancel_left base zs (xs ++ ys) q in
+    let sum : breaks (xs ++ ys) ≡ breaks xs + breaks ys = breaks-append xs ys in
+    let all : breaks zs ≡ breaks (xs ++ ys) = ap breaks same in
+    omega (arith, sum, all, h)
+
+-- a turn of which nothing was heard, since it lost the field
+answered_lost : (first : ℕ) (t : TargetState) (asked : Option (List ℕ)) (f : Signal) (q : Option Signal) (y : Fate) → None ≡ heard_in (turns.answered (nfc_dep first) t asked f q y).heard
+    → 0 < breaks (turns.answered (nfc_dep first) t asked f q y).events
+answered_lost first t asked f None y e = absurd cc
+answered_lost first t asked f (Some a) Pass e = absurd cc
+answered_lost first t asked f (Some a) Damage e = absurd cc
+answered_lost first t asked f (Some a) Lose e = absurd cc
+answered_lost first t asked f (Some a) Break e = omega arith
+
+turned_lost : (first : ℕ) (r : List ℕ) (t : TargetState) (f : Signal) (x y : Fate) → None ≡ heard_in (turned (nfc_dep first) r t f x y).heard → 0 < breaks (turned (nfc_dep first) r t f x y).events
+turned_lost first r t f Pass y e = answered_lost first (step (nfc_dep first) r t f).state (step (nfc_dep first) r t f).asked f (step (nfc_dep first) r t f).answer y e
+turned_lost first r t f Damage y e = absurd cc
+turned_lost first r t f Lose y e = absurd cc
+turned_lost first r t f Break y e = omega arith
+
 -- where all of what was added to a trace passed, no reception in it was bad
 abbrev pub Calm : List Event → List Event → Type 0
 Calm base now = (es : List Event) → now ≡ base ++ es → noise es ≡ 0 → bad_receptions es ≡ 0
@@ -335,6 +360,16 @@ module _ {L : Type 0} (k : Ghosts L) (laws : Laws k) where
         now : J (nfc_dep first) handed out The (2 * pieces i0.core.most out) o.along.world (Requests f)
         now = subst (λ (x : Stage Signal). J (nfc_dep first) handed out The (2 * pieces i0.core.most out) o.along.world x) o.along.stage_is o.along.inv
 
+        -- there is room for one transmission more while no reply was given
+        pub room : o.along.world.given ≡ None → suc (length o.along.added) ≤ 2 * pieces i0.core.most out + 4 * bad_receptions o.along.added
+        room none =
+            let some : 1 ≤ now.0 = The.some_left o.along.world.asking o.along.world.answering o.along.world.given f now.0 now.1 in
+            let bound = now.2.bound in
+            let zero : more_of The.more o.along.world.given ≡ 0 = ap (more_of The.more) none in
+            let sent = o.along.sent in
+            let bads = o.along.bads in
+            omega (arith, some, bound, zero, sent, bads)
+
         pub is_asked : IsAsked f
         is_asked = asked_frame (target begin).most (target begin).busy out o.along.world.asking o.along.world.answering o.along.world.given f bytes now.0 now.1
 
@@ -430,6 +465,12 @@ module _ {L : Type 0} (k : Ghosts L) (laws : Laws k) where
               go : ((step (nfc_dep first) t.turn.reply (target last) f).answer ≡ None) ⊎ ((g : Signal) × (h ≡ Some (heards.Whole g))) → ⊥
               go (inl q) = speaks q
               go (inr (g, q)) = never g q
+
+          -- where the field was lost a transmission lost it
+          pub broken : None ≡ h → (zs : List Event) → new.trace ≡ old.trace ++ zs → 0 < breaks zs
+          broken none zs e =
+              breaks_later old.trace o.along.added turn_is.events zs mid.trace new.trace o.along.events t.turn.events e
+              (turned_lost first t.turn.reply (target last) f t.turn.first t.turn.second (none ∙ t.turn.heard_is))
 
           -- where all passed until then, no reception was bad
           whole_calm : (g : Signal) → Some (heards.Whole g) ≡ heard_in turn_is.heard → Calm old.trace new.trace

@@ -37,7 +37,7 @@ gathered_none : (t : TargetState) (more : Bool) (pni : ℕ) (xs : List ℕ) → 
 gathered_none t more pni xs = if_none (nat_lt limit (length xs)) _ _ (λ g v e. absurd (cc)) (grown_none t more pni xs)
 
 drawn_none : (t : TargetState) (pni : ℕ) → BeginsNone (drawn t pni)
-drawn_none t pni = if_none (if nat_lt 0 t.due then false else nat_lt 0 (length t.left)) _ _ (λ g v e. absurd (cc)) (stays_none t)
+drawn_none t pni = if_none (if nat_lt 0 t.due then false else t.unsent) _ _ (λ g v e. absurd (cc)) (stays_none t)
 
 extended_none : (t : TargetState) (times : ℕ) → BeginsNone (extended t times)
 extended_none t times =

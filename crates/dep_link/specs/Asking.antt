@@ -1,8 +1,8 @@
 -- What an initiator sends while it carries one payload, by what it has heard (NFCIP-1, ISO/IEC 18092), and what one exchange
 -- with a peer in a field does.
-use Rattle.std.specs.Prelude.{◌≡◌, ℕ, ◌+◌, ◌-◌, ◌*◌, ◌<◌, ◌≤◌, List, [], ◌∷◌, ◌++◌, length, slice_index, true, Option, Some, None, Result, Ok, Err}
+use Rattle.std.specs.Prelude.{◌≡◌, ℕ, suc, ◌+◌, ◌-◌, ◌*◌, ◌<◌, ◌≤◌, List, [], ◌∷◌, ◌++◌, length, slice_index, true, false, Option, Some, None, Result, Ok, Err}
 use Rattle.nfc_base.specs.Signal.{Signal}
-use Rattle.nfc_base.specs.Trace.{noise}
+use Rattle.nfc_base.specs.Trace.{noise, breaks}
 use Rattle.nfc_base.specs.StopAndWait.{delivered_of, pieces_back}
 use Rattle.nfc_base.specs.LinkTurns.{GivenBy, bad_receptions}
 use Rattle.nfc_base.specs.LinkTurns as turns
@@ -114,7 +114,7 @@ module _ {L : Type 0} (k : Ghosts L) (target : L → TargetState) where
       (given : Option (List ℕ)) × (s : Standing) × (x : ExchangeTurns old new peer i first handed arrived out given s) × GivenBy steps far out given after × P s x.events
 
   -- As the payload was handed over the far end stopped: behind such turns the request passed that brought it, and nothing came
-  -- back.
+  -- back. With that request they are no more than of any swap in which no reply was given.
   pub record StoppedTurns (old new : Air L) (peer : L) (i : InitState) (first : ℕ) (handed : List (List ℕ)) (arrived : List Signal) (out : List ℕ) (j : InitState) : Type 0 where
     pub mid : Air L
     pub sent : Signal
@@ -123,16 +123,17 @@ module _ {L : Type 0} (k : Ghosts L) (target : L → TargetState) where
     pub fate : first_fate mid.fates ≡ Pass
     pub left : new ≡ after_event mid (Request sent Pass) (later_fates mid.fates) (record { lit = true; listeners = listeners })
     pub brings : payloads first (frames_of ((arrived ++ turns.arrived before.events) ++ sent ∷ [])) ≡ handed ++ out ∷ []
+    pub within : suc (length before.events) ≤ 2 * pieces i.core.most out + 4 * bad_receptions before.events
 
-  -- How one exchange ends. A reply leaves the peer ready for the next; a field that is lost, and six bad receptions, have a
-  -- transmission that didn't pass. No frame comes that isn't allowed.
+  -- How one exchange ends. A reply leaves the peer ready for the next; a field that is lost is dark, and a transmission lost it; six bad
+  -- receptions have one that didn't pass. No frame comes that isn't allowed.
   abbrev pub EndsBy : {F : Type 0} → (F → List ℕ → List ℕ → F → Type 0) → (F → List ℕ → F → Type 0) → Air L → Air L → L → InitState → InitState → ℕ → List (List ℕ) → List Signal → List ℕ → F → F
       → Result (ArrayVec ℕ) Unanswered → Type 0
   EndsBy steps stops old new peer i j first handed arrived out far after (Ok r) =
       (x : ExchangeTurns old new peer i first handed arrived out (Some r.items) (Rests j r.items)) × steps far out r.items after × (new.lit ≡ true)
       × HasPeer new j first (handed ++ out ∷ []) (arrived ++ turns.arrived x.events)
   EndsBy steps stops old new peer i j first handed arrived out far after (Err (Ended FieldLost)) =
-      UnderWay steps old new peer i first handed arrived out far after (λ s es. (s ≡ Broken FieldLost) × (0 < noise es))
+      UnderWay steps old new peer i first handed arrived out far after (λ s es. (s ≡ Broken FieldLost) × (0 < breaks es) × (new.lit ≡ false))
   EndsBy steps stops old new peer i j first handed arrived out far after (Err (Ended SixBad)) =
       UnderWay steps old new peer i first handed arrived out far after (λ s es. (s ≡ Broken SixBad) × (0 < noise es))
   EndsBy steps stops old new peer i j first handed arrived out far after (Err (Ended Memory)) =

@@ -111,7 +111,7 @@ then_same t u r (steps.Reply f) s = s
 then_same t u r (steps.Restart general f) s = s
 then_same t u r (steps.Deliver payload) s = go (nat_lt 0 u.busy)
   where
-    go : (b : Bool) → SameSelf t (if b then record u { last = Some (Extend true u.times); left = r; due = u.busy; followed = false } else record u { last = Some (first_piece u r); left = drop u.most r; due = 0; followed = false })
+    go : (b : Bool) → SameSelf t (if b then record u { last = Some (Extend true u.times); left = r; unsent = true; due = u.busy; followed = false } else record u { last = Some (first_piece u r); left = drop u.most r; unsent = nat_lt u.most (length r); due = 0; followed = false })
     go true = record { named = s.named; code = s.code; says = s.says; asks = s.asks; longer = s.longer }
     go false = record { named = s.named; code = s.code; says = s.says; asks = s.asks; longer = s.longer }
 then_same t u r (steps.Asleep f) s = s

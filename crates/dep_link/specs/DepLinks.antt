@@ -3,7 +3,7 @@
 use Rattle.std.specs.Prelude.{◌≡◌, ℕ, ◌≤◌, ◌<◌, List, [], ◌∷◌, length, drop, slice_index, Bool, true, false, not, Option, Some, None, Result, Ok, Err}
 use Rattle.std.specs.Global.{Vec}
 use Rattle.nfc_base.specs.Signal.{Signal}
-use Rattle.nfc_base.specs.Trace.{noise}
+use Rattle.nfc_base.specs.Trace.{noise, breaks}
 use Rattle.nfc_base.specs.LinkTurns.{arrived}
 use Rattle.nfc_base.specs.Links.{Counts, CarrierView, FarStep, Stepped, Stopped, FarMoved, AskedBy}
 use Rattle.nfc_base.specs.declared.event.Event.{Event}
@@ -129,7 +129,7 @@ module _ {L : Type 0} (k : Ghosts L) (target : L → TargetState) where
   ExchangedAs a b t out (d ∷ e ∷ ds) = ⊥
 
   -- From one moment to another a payload was swapped, of bytes and as long as one may be: each request was due, and nothing else happened
-  -- to the field. No wait has six bad receptions where all passed.
+  -- to the field. No wait has six bad receptions where all passed; where the field was lost it is dark, and a transmission lost it.
   pub record Exchanged (a b : DepSeen L) (s : Swap) : Type 0 where
     pub begins : a.over ≡ None
     pub start : a.start ≤ length a.air.trace
@@ -140,6 +140,7 @@ module _ {L : Type 0} (k : Ghosts L) (target : L → TargetState) where
     pub bytes : (i : ℕ) → slice_index s.out i < 256
     pub exchange : ExchangedAs a b peer s.out s.did
     pub noisy : b.over ≡ Some SixBad → noise (since b) ≡ noise (since a) → ⊥
+    pub lost : b.over ≡ Some FieldLost → (breaks (since a) < breaks (since b)) × (b.air.lit ≡ false)
 
   -- a swap of this payload, in which the far end made these steps
   abbrev pub dep_swaps : DepSeen L → List ℕ → List FarStep → DepSeen L → Type 0

@@ -61,14 +61,15 @@ Exchange = World InitState TargetState Signal
 abbrev pub pieces : ℕ → List ℕ → ℕ
 pieces most xs = 1 + (length xs - 1) / most
 
--- Between two exchanges both ends are in step: the target expects the initiator's PNI, has no piece of a payload and nothing left
--- of a reply, and each cuts what it sends into pieces that a frame holds. How much more time the target asks for is in its range.
+-- Between two exchanges both ends are in step: the target expects the initiator's PNI, has no piece of a payload, and no byte and
+-- no piece of a reply that isn't sent, and each cuts what it sends into pieces that a frame holds. How much more time the target asks for is in its range.
 pub record InStep (i : InitState) (t : TargetState) : Type 0 where
   pub heeds : t.mute ≡ false
   pub number : i.core.number < 4
   pub expects : t.expected ≡ i.core.number
   pub no_chain : t.chain ≡ []
   pub no_left : t.left ≡ []
+  pub all_sent : t.unsent ≡ false
   pub asks : (0 < i.core.most) × (i.core.most ≤ 251)
   pub answers : (0 < t.most) × (t.most ≤ 251)
   pub busy : t.busy ≤ most_busy

@@ -10,6 +10,7 @@ pub mod Answering
 pub mod Peers
 pub mod Asking
 pub mod DepLinks
+pub mod AnyPeer
 pub mod Taking
 pub mod Replies
 pub mod Activating

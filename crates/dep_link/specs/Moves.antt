@@ -54,7 +54,7 @@ module _ (t : TargetState) (P : TargetMove → Type 0) (kept : (m : TargetMove) 
       go false e = grows more pni xs (le_from_not limit (length xs) e)
 
   of_drawn : (pni : ℕ) → P (drawn t pni)
-  of_drawn pni = either (if nat_lt 0 t.due then false else nat_lt 0 (length t.left)) _ _ (kept _ tt (record { named = refl; code = refl; says = refl; asks = refl; longer = refl })) still
+  of_drawn pni = either (if nat_lt 0 t.due then false else t.unsent) _ _ (kept _ tt (record { named = refl; code = refl; says = refl; asks = refl; longer = refl })) still
 
   of_extended : (times : ℕ) → P (extended t times)
   of_extended times =

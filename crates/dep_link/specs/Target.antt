@@ -2,6 +2,7 @@
 -- after a chain above 2,178 bytes, how often and by which value it asks for more time, and the code of its waiting time are
 -- this project's own.
 use Rattle.std.specs.Prelude.{ℕ, ◌≡◌, ◌-◌, ◌<◌, ◌≤◌, ◌==◌, nat_lt, Bool, true, false, List, [], ◌++◌, length, drop, Option, Some, None, if◌then◌else◌, IfSome}
+use Rattle.arrayvec.specs.ArrayVec.{ArrayVec}
 use Rattle.nfc_base.specs.Signal.{Signal}
 use Rattle.dep_pdu.specs.declared.frame.DepFrame.{DepFrame}
 use Rattle.dep_pdu.specs.declared.frame.DepFrame.TheVariants.{AtrReq, AtrRes, Info, Ack, Nack, Attention, Extend, DslReq, DslRes, RlsReq, RlsRes}
@@ -15,8 +16,9 @@ use Rattle.dep_link.specs.Frames.{air_frame, spelled, IsSpelled, after, before, 
 
 -- A target: what it says of itself in ATR_RES; the most content of a frame that the initiator takes; the PNI that it
 -- expects; the last answer that is sent again, which those to attention and ATR_REQ aren't; the chain so far; the bytes of
--- its reply that aren't sent; and whether a chain grew too long. How often it asks for more time before each reply, by
--- which value, how often that is still due, and whether its last answer is a first piece that followed an extension.
+-- its reply that aren't sent, and whether a piece of it isn't, which an empty reply has too; and whether a chain grew too
+-- long. How often it asks for more time before each reply, by which value, how often that is still due, and whether its
+-- last answer is a first piece that followed an extension.
 pub record TargetState : Type 0 where
   pub id : List ℕ
   pub lr : ℕ
@@ -26,6 +28,7 @@ pub record TargetState : Type 0 where
   pub last : Option DepFrame
   pub chain : List ℕ
   pub left : List ℕ
+  pub unsent : Bool
   pub mute : Bool
   pub busy : ℕ
   pub times : ℕ
@@ -94,9 +97,15 @@ gathered t more pni xs = if nat_lt limit (length xs) then stays (record t { mute
 -- the next piece of the reply, unless more time is due
 abbrev pub drawn : TargetState → ℕ → TargetMove
 drawn t pni =
-    if (if nat_lt 0 t.due then false else nat_lt 0 (length t.left))
+    if (if nat_lt 0 t.due then false else t.unsent)
     then record {
-      state = record t { expected = after t.expected; last = Some (piece true t.most pni t.left); left = drop t.most t.left; followed = false };
+      state = record t {
+        expected = after t.expected;
+        last = Some (piece true t.most pni t.left);
+        left = drop t.most t.left;
+        unsent = nat_lt t.most (length t.left);
+        followed = false;
+      };
       does = Answers (piece true t.most pni t.left);
     }
     else stays t
@@ -111,7 +120,13 @@ granted t =
     if nat_lt 1 t.due
     then record { state = record t { due = t.due - 1 }; does = Answers (Extend true t.times) }
     else record {
-      state = record t { due = 0; last = Some (first_piece t t.left); left = drop t.most t.left; followed = true };
+      state = record t {
+        due = 0;
+        last = Some (first_piece t t.left);
+        left = drop t.most t.left;
+        unsent = nat_lt t.most (length t.left);
+        followed = true;
+      };
       does = Answers (first_piece t t.left);
     }
 
@@ -148,6 +163,7 @@ fresh id lr general =
       last = None;
       chain = [];
       left = [];
+      unsent = false;
       mute = false;
       busy = 0;
       times = 1;
@@ -158,7 +174,7 @@ fresh id lr general =
 -- A link begins, of an initiator with this LR code. How much more time the target asks for stays.
 abbrev pub restarted : TargetState → ℕ → TargetState
 restarted t code =
-    record t { most = piece_size code; expected = 0; last = None; chain = []; left = []; mute = false; due = 0; followed = false }
+    record t { most = piece_size code; expected = 0; last = None; chain = []; left = []; unsent = false; mute = false; due = 0; followed = false }
 
 abbrev pub atr_res : TargetState → DepFrame
 atr_res t = AtrRes t.id waiting_code t.lr (record { items = t.general })
@@ -195,8 +211,8 @@ target_table t f = obeyed t (spelled f)
 abbrev pub replied : TargetState → List ℕ → TargetState
 replied t r =
     if nat_lt 0 t.busy
-    then record t { last = Some (Extend true t.times); left = r; due = t.busy; followed = false }
-    else record t { last = Some (first_piece t r); left = drop t.most r; due = 0; followed = false }
+    then record t { last = Some (Extend true t.times); left = r; unsent = true; due = t.busy; followed = false }
+    else record t { last = Some (first_piece t r); left = drop t.most r; unsent = nat_lt t.most (length r); due = 0; followed = false }
 
 abbrev pub reply_frame : TargetState → List ℕ → DepFrame
 reply_frame t r = if nat_lt 0 t.busy then Extend true t.times else first_piece t r
@@ -231,8 +247,14 @@ IsSaid (steps.Deliver payload) = Unit {0}
 IsSaid (steps.Asleep f) = IsSpelled f
 IsSaid (steps.Released f) = IsSpelled f
 
--- Where a target delivers a payload it expects the next PNI then: nothing that asks for an answer again delivers.
+-- A payload that a target delivers at a frame: the frame is the information with the PNI that is expected that ends its chain, and the
+-- next PNI is expected then.
+pub record IsNew (t : TargetState) (f : Signal) (xs : List ℕ) : Type 0 where
+  pub content : ArrayVec ℕ
+  pub brings : spelled f ≡ Some (Info false false t.expected content)
+  pub ends : xs ≡ t.chain ++ content.items
+  pub moves : (target_table t f).state.expected ≡ after t.expected
+
+-- What a target delivers is new each time: nothing that asks for an answer again delivers, and no frame with another PNI does.
 abbrev pub DeliversAnew : Type 0
-DeliversAnew =
-    (t : TargetState) (f : Signal) (xs : List ℕ) → (target_table t f).does ≡ steps.Deliver (record { items = xs })
-    → (target_table t f).state.expected ≡ after t.expected
+DeliversAnew = (t : TargetState) (f : Signal) (xs : List ℕ) → (target_table t f).does ≡ steps.Deliver (record { items = xs }) → IsNew t f xs

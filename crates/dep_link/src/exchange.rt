@@ -2,6 +2,7 @@
 
 ghost use Rattle.std.specs.Prelude.{◌≡◌};
 ghost use Rattle.dep_link.specs.Asking.{Exchanges};
+ghost use Rattle.dep_link.specs.AnyPeer.{CarriesBegun};
 
 use crate::initiator::{InitKind, Initiator};
 use crate::listener::PeerListener;
@@ -25,6 +26,8 @@ pub(crate) fn ask_peer<L: PeerListener, A: Answerer>(
     far: &mut A,
 ) -> Result<ArrayVec<u8, 2178>, Unanswered>
     ensures out { initiator.new.out ≡ initiator.old.out }
+    ensures turns { CarriesBegun L.machine A.restarts A.steps A.stops A.is_stuck
+        field.old far.old field.new far.new initiator.old request initiator.new result }
     ensures ends { Exchanges L.Listener L.target A.steps A.stops
         field.old field.new initiator.old request initiator.new far.old far.new result }
 {

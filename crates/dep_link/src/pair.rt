@@ -1,10 +1,12 @@
 //! A link to a peer.
 
-ghost use Rattle.std.specs.Prelude.{◌≡◌, ◌<◌, ◌≤◌, length, drop, Some, None, IfOk, vec_len};
+ghost use Rattle.std.specs.Prelude.{◌≡◌, ◌<◌, ◌≤◌, length, drop, false, Some, None, Err, IfOk, vec_len};
 ghost use Rattle.nfc_base.specs.LinkTurns.{arrived};
 ghost use Rattle.dep_link.specs.Releasing.{Releases, TakesRls};
 ghost use Rattle.dep_link.specs.Payloads.{brings_payload};
 ghost use Rattle.dep_link.specs.Exchange.{frames_of};
+ghost use Rattle.nfc_base.specs.declared.carrier.EndCause.{EndCause};
+ghost use Rattle.dep_link.specs.AnyPeer.{Swaps};
 ghost use Rattle.dep_link.specs.DepLinks.{seen_pair, first_seen, told_end, IsInStep, IsDepReady, Carries};
 
 use crate::brought::brings_since;
@@ -52,19 +54,52 @@ impl<'a, L: PeerListener> DepPair<'a, L> {
         }
     }
 
-    /// One swap on a link that is ready.
+    /// Carries one payload with whatever stands in the field: turns by the initiator's table, up to the reply or a
+    /// fault, by which the link is then over. `swap` is this with a peer that keeps to the target's table.
+    pub fn exchange<A: Answerer>(
+        &mut self,
+        alloc: Global,
+        out: &[u8],
+        far: &mut A,
+    ) -> Result<Vec<u8>, LinkEnd>
+        requires bound { length out.now ≤ 2178 }
+        ensures size { IfOk result (λ r. vec_len r ≤ 2178) }
+        ensures turns { self.old.over ≡ None
+            → Swaps L.machine A.restarts A.steps A.stops A.is_stuck
+            (seen_pair self.old) far.old (seen_pair self.new) far.new out.now result }
+        ensures peer { self.old.over ≡ None → IsDepReady L.Listener L.target (seen_pair self.old)
+            → Carries L.Listener L.target A.steps A.stops (seen_pair self.old)
+            (seen_pair self.new) out.now far.old far.new result }
+        ensures ended { (c : EndCause) → self.old.over ≡ Some c
+            → (result ≡ Err (record { cause = c; answered = false })) × (self.new ≡ self.old) × (far.new ≡ far.old) }
+        ensures field { self.new.field.ghost_name ≡ self.old.field.ghost_name }
+        ensures initiator { self.new.initiator.ghost_name ≡ self.old.initiator.ghost_name }
+    {
+        if let Some(cause) = self.over {
+            return Err(LinkEnd {
+                cause,
+                answered: false,
+            });
+        }
+        self.carry(alloc, out, far)
+    }
+
+    /// One exchange on a link that isn't over.
     fn carry<A: Answerer>(
         &mut self,
         alloc: Global,
         out: &[u8],
         far: &mut A,
     ) -> Result<Vec<u8>, LinkEnd>
-        requires ready { (self.old.over ≡ None) × IsDepReady L.Listener L.target (seen_pair self.old) }
+        requires open { self.old.over ≡ None }
         requires bound { length out.now ≤ 2178 }
         ensures size { IfOk result (λ r. vec_len r ≤ 2178) }
         ensures field { self.new.field.ghost_name ≡ self.old.field.ghost_name }
         ensures initiator { self.new.initiator.ghost_name ≡ self.old.initiator.ghost_name }
-        ensures carries { Carries L.Listener L.target A.steps A.stops (seen_pair self.old)
+        ensures turns { Swaps L.machine A.restarts A.steps A.stops A.is_stuck
+            (seen_pair self.old) far.old (seen_pair self.new) far.new out.now result }
+        ensures carries { IsDepReady L.Listener L.target (seen_pair self.old)
+            → Carries L.Listener L.target A.steps A.stops (seen_pair self.old)
             (seen_pair self.new) out.now far.old far.new result }
     {
         let request = self.initiator.begin(out);
@@ -127,13 +162,7 @@ impl<'a, L: PeerListener> Carrier for DepPair<'a, L> {
         out: &[u8],
         far: &mut A,
     ) -> Result<Vec<u8>, LinkEnd> {
-        if let Some(cause) = self.over {
-            return Err(LinkEnd {
-                cause,
-                answered: false,
-            });
-        }
-        self.carry(alloc, out, far)
+        self.exchange(alloc, out, far)
     }
 }
 

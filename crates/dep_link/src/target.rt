@@ -1,6 +1,6 @@
 //! The target's end.
 
-ghost use Rattle.std.specs.Prelude.{◌≡◌, ◌≤◌, ◌<◌, ◌++◌, length, drop, true};
+ghost use Rattle.std.specs.Prelude.{◌≡◌, ◌≤◌, ◌<◌, ◌++◌, length, drop, nat_lt, true};
 ghost use Rattle.dep_pdu.specs.Spelling.{IsDepFrame};
 ghost use Rattle.dep_link.specs.Frames.{air_frame, IsSpelled};
 ghost use Rattle.dep_link.specs.Target.{TargetTurn, target_table, framed, heeded, frame_table, again, repeated, gathered, drawn, extended, granted, first_piece, opened, replied, reply_frame, fresh, restarted, darkened, made_busy, atr_res, IsSaid, target_step_at};
@@ -56,6 +56,7 @@ pub struct Target {
     chain: ArrayVec<u8, 2178>,
     reply: ArrayVec<u8, 2178>,
     at: usize,
+    unsent: bool,
     mute: bool,
     busy: u8,
     times: u8,
@@ -78,6 +79,7 @@ impl Model for Target {
       last = t.last;
       chain = t.chain.items;
       left = drop t.at t.reply.items;
+      unsent = t.unsent;
       mute = t.mute;
       busy = t.busy;
       times = t.times;
@@ -104,6 +106,7 @@ impl Target {
             chain: ArrayVec::new(),
             reply: ArrayVec::new(),
             at: 0,
+            unsent: false,
             mute: false,
             busy: 0,
             times: 1,
@@ -183,6 +186,7 @@ impl Target {
         reply.try_extend_from_slice(content).unwrap();
         self.reply = reply;
         self.at = 0;
+        self.unsent = true;
         self.followed = false;
         self.due = self.busy;
         let value = if self.busy > 0 {
@@ -208,11 +212,15 @@ impl Target {
     fn first_piece(&mut self) -> DepFrame
         ensures value { result ≡ first_piece self.old self.old.left }
         ensures range { IsDepFrame result }
-        ensures step { self.new ≡ record self.old { left = drop self.old.most self.old.left } }
+        ensures step { self.new ≡ record self.old {
+          left = drop self.old.most self.old.left;
+          unsent = nat_lt self.old.most (length self.old.left);
+        } }
     {
         let left = &self.reply.as_slice()[self.at..];
         let value = piece(true, self.most, (self.expected + 3) % 4, left);
         self.at += left.len().min(self.most);
+        self.unsent = left.len() > self.most;
         value
     }
 
@@ -226,6 +234,7 @@ impl Target {
         self.chain = ArrayVec::new();
         self.reply = ArrayVec::new();
         self.at = 0;
+        self.unsent = false;
         self.mute = false;
         self.due = 0;
         self.followed = false;
@@ -369,17 +378,19 @@ impl Target {
         ensures spelled { IsSaid (target_step_at result answer.new) }
     {
         let left = &self.reply.as_slice()[self.at..];
-        if self.due > 0 || left.is_empty() {
+        if self.due > 0 || !self.unsent {
             return TargetKind::Quiet;
         }
         let value = piece(true, self.most, pni, left);
         self.at += left.len().min(self.most);
+        self.unsent = left.len() > self.most;
         self.expected = after(self.expected);
         self.followed = false;
         put_frame(&value, answer);
         self.last = Some(value);
         TargetKind::Reply
     }
+
     /// A time extension by this value.
     fn extend(&mut self, times: u8, answer: &mut Frame) -> TargetKind
         ensures step { record { state = self.new; does = target_step_at result answer.new } ≡ framed (extended self.old times) }

@@ -3,16 +3,19 @@ use Rattle.std.proofs.Common.{◌≡◌, ℕ, zero, suc, ◌+◌, ◌-◌, ◌*�
 use Rattle.std.specs.List.{AllByRecursion}
 use Rattle.nfc_base.specs.Signal.{Signal, whole_a}
 use Rattle.nfc_base.specs.TagLinks.{TagState, TagStep, passed}
-use Rattle.nfc_base.specs.Trace.{noise}
+use Rattle.nfc_base.specs.Trace.{noise, breaks}
 use Rattle.nfc_base.specs.StopAndWait.{Does, Quiet, Reply, Deliver, Hears, Finished, SixBad, Protocol, Stage, Requests, Over, Dark, stage_of, World, Once, IsEnding, delivered_of, pieces_back}
 use Rattle.nfc_base.specs.LinkTurns.{heard_of, heard_in, settled, IsTurn, GivenBy}
 use Rattle.nfc_base.specs.LinkTurns as turns
 use Rattle.nfc_base.proofs.ExactlyOnce.{IsReady, kept_once}
 use Rattle.nfc_base.specs.declared.event.Event.{Event}
+use Rattle.nfc_base.specs.declared.event.Fate.{Fate}
+use Rattle.nfc_base.specs.declared.event.Fate.TheVariants.{Pass, Damage, Lose, Break}
 use Rattle.nfc_base.specs.declared.event.Heard.{Heard}
 use Rattle.nfc_base.specs.declared.event.Heard.TheVariants as heards
 use Rattle.std.proofs.lemmas.List.{append_cancel_left}
 use Rattle.air_core.proofs.PlainTurns.{noise_append}
+use Rattle.air_core.proofs.LostField.{breaks-append}
 use Rattle.isodep_link.specs.declared.reader.Phase.TheVariants as phases
 use Rattle.isodep_link.proofs.Landing.{speaks_at, is_extension}
 use Rattle.isodep_link.proofs.Ended.{whole_not_six}
@@ -107,6 +110,30 @@ noise_later base xs ys zs mid new e1 e2 e3 h =
     let sum : noise (xs ++ ys) ≡ noise xs + noise ys = noise_append xs ys in
     let all : noise zs ≡ noise (xs ++ ys) = ap noise same in
     omega (arith, sum, all, h)
+
+-- what lost the field in a turn lost it in all of them
+breaks_later : (base xs ys zs : List Event) (mid new : List Event) → mid ≡ base ++ xs → new ≡ mid ++ ys → new ≡ base ++ zs → 0 < breaks ys → 0 < breaks zs
+breaks_later base xs ys zs mid new e1 e2 e3 h =
+    let q : base ++ zs ≡ base ++ (xs ++ ys) = sym e3 ∙ e2 ∙ ap (λ (es : List Event). es ++ ys) e1 ∙ append_assoc base xs ys in
+    let same : zs ≡ xs ++ ys = append_cancel_left base zs (xs ++ ys) q in
+    let sum : breaks (xs ++ ys) ≡ breaks xs + breaks ys = breaks-append xs ys in
+    let all : breaks zs ≡ breaks (xs ++ ys) = ap breaks same in
+    omega (arith, sum, all, h)
+
+-- a turn of which nothing was heard, since it lost the field
+answered_lost : (t : CardState) (asked : Option (List ℕ)) (f : Signal) (q : Option Signal) (y : Fate) → None ≡ heard_in (turns.answered iso_dep t asked f q y).heard
+    → 0 < breaks (turns.answered iso_dep t asked f q y).events
+answered_lost t asked f None y e = absurd cc
+answered_lost t asked f (Some a) Pass e = absurd cc
+answered_lost t asked f (Some a) Damage e = absurd cc
+answered_lost t asked f (Some a) Lose e = absurd cc
+answered_lost t asked f (Some a) Break e = omega arith
+
+turned_lost : (r : List ℕ) (t : CardState) (f : Signal) (x y : Fate) → None ≡ heard_in (turns.turned iso_dep r t f x y).heard → 0 < breaks (turns.turned iso_dep r t f x y).events
+turned_lost r t f Pass y e = answered_lost (turns.step iso_dep r t f).state (turns.step iso_dep r t f).asked f (turns.step iso_dep r t f).answer y e
+turned_lost r t f Damage y e = absurd cc
+turned_lost r t f Lose y e = absurd cc
+turned_lost r t f Break y e = omega arith
 
 module _ {L : Type 0} (k : Ghosts L) (card : L → CardState) (tag : L → TagState) (begin : L) (i0 : ReaderState) (commands : List (List ℕ)) (arrived : List Signal) (command : List ℕ) where
   -- how the exchange stands
@@ -290,6 +317,12 @@ module _ {L : Type 0} (k : Ghosts L) (laws : Laws k) where
           -- where no whole frame is heard something didn't pass, since the reader's trace began
           pub noisy : ((g : Signal) → h ≡ Some (heards.Whole g) → ⊥) → (zs : List Event) → new.trace ≡ old.trace ++ zs → 0 < noise zs
           noisy never zs e = noise_later old.trace o.along.added turn.added zs mid.trace new.trace o.along.events turn.trace e (calm_or turn.calm never)
+
+          -- where the field was lost a transmission lost it
+          pub broken : None ≡ h → (zs : List Event) → new.trace ≡ old.trace ++ zs → 0 < breaks zs
+          broken none zs e =
+              breaks_later old.trace o.along.added (turns.turned iso_dep turn.turn.reply (card last) f turn.turn.first turn.turn.second).events zs mid.trace new.trace o.along.events turn.turn.events e
+              (turned_lost turn.turn.reply (card last) f turn.turn.first turn.turn.second (none ∙ turn.turn.heard_is))
 
           alone_left : IsAlone k (k.identifier begin) new.listeners place turn.left
           alone_left = subst (λ (own : List ℕ). IsAlone k own new.listeners place turn.left) own_same turn.alone
@@ -591,10 +624,10 @@ module _ {L : Type 0} (k : Ghosts L) (laws : Laws k) (card : L → CardState) (t
         (ap (λ x. (reader_table i x).does) (sym w) ∙ sym (ap (λ (x : ReaderTurn). x.does) e)))
         zs z
 
-    lost_noisy : TurnIs k.machine restarts steps mid f far None new far' → (zs : List Event) → new.trace ≡ old.trace ++ zs → 0 < noise zs
-    lost_noisy turn zs z =
-        noisy k laws card tag holds t.listener t.is i0 commands arrived command old mid place i f bytes o far far' new None (quiet_turn k.machine restarts steps mid f far None new far' quiet_here turn)
-        (λ g q. absurd (cc)) zs z
+    lost_broken : TurnIs k.machine restarts steps mid f far None new far' → (zs : List Event) → new.trace ≡ old.trace ++ zs → 0 < breaks zs
+    lost_broken turn zs z =
+        broken k laws card tag holds t.listener t.is i0 commands arrived command old mid place i f bytes o far far' new None (quiet_turn k.machine restarts steps mid f far None new far' quiet_here turn)
+        refl zs z
 
     -- the answer came
     pub ends_answered : (h : Heard) → TurnIs k.machine restarts steps mid f far (Some h) new far' → (i' : ReaderState) (r : List ℕ)
@@ -625,7 +658,7 @@ module _ {L : Type 0} (k : Ghosts L) (laws : Laws k) (card : L → CardState) (t
       ends_lost i' (inl d) = inl (sym o.lit ∙ d.0, d.1 ∙ o.dim d.0)
       ends_lost i' (inr turn) =
           let l = turn_lost k laws card tag holds t.listener t.is i0 commands arrived command old mid place i f bytes o far far' new (quiet_turn k.machine restarts steps mid f far None new far' quiet_here turn) in
-          inr (l.along.world.given, Broken ask.FieldLost, lost_asked k laws card tag holds t.listener t.is i0 commands arrived command old new place l, (refl, l.dark, lost_noisy turn l.along.added l.along.events))
+          inr (l.along.world.given, Broken ask.FieldLost, lost_asked k laws card tag holds t.listener t.is i0 commands arrived command old new place l, (refl, l.dark, lost_broken turn l.along.added l.along.events))
 
       -- nothing more could be noted
       pub ends_stopped : Transmits k.machine restarts steps stops is_stuck mid f far (Err air.Memory) new far'

@@ -3,7 +3,7 @@ use Rattle.std.proofs.Common.{◌≡◌, ℕ, ◌==◌, nat_lt, List, [], ◌∷
 use Rattle.isodep_link.specs.declared.block.Block.{Block}
 use Rattle.isodep_link.specs.declared.block.Block.TheVariants.{Info, Ack, Nak, Deselect, Extend}
 use Rattle.isodep_link.specs.Sizes.{limit}
-use Rattle.isodep_link.specs.Card.{CardState, CardMove, Does, Stays, Answers, Delivers, Sleeps, stays, again, grown, block_table, fresh}
+use Rattle.isodep_link.specs.Card.{CardState, CardMove, Does, Stays, Answers, Delivers, Sleeps, stays, again, grown, block_table}
 use Rattle.isodep_link.specs.Commands.{Cut, taken, joined, cut_by, Obeying, heard_by, settled, with_delivered, moved, obeying, DeliversCommands}
 
 -- the cut at which a card stands that delivered these commands
@@ -31,7 +31,7 @@ if_follows c hs false m n p q = q
 follows : (t : CardState) (hs : List (List ℕ)) (b : Block) → Follows (taken (cut_of t hs) b) hs (block_table t b)
 follows t hs (Info more n c) = gathered_follows t hs more (t.chain ++ c.items) (nat_lt limit (length (t.chain ++ c.items)))
 follows t hs (Ack n) =
-    if_follows _ hs (n == t.number) _ _ (again_follows t hs t.last) (if_follows _ hs (if nat_lt 0 t.due then false else nat_lt 0 (length t.left)) _ _ (λ e. refl) (λ e. refl))
+    if_follows _ hs (n == t.number) _ _ (again_follows t hs t.last) (if_follows _ hs (if nat_lt 0 t.due then false else t.unsent) _ _ (λ e. refl) (λ e. refl))
 follows t hs (Nak n) = if_follows _ hs (n == t.number) _ _ (again_follows t hs t.last) (λ e. refl)
 follows t hs Deselect = λ e. refl
 follows t hs (Extend times) =
@@ -80,6 +80,7 @@ obeys far o (b ∷ bs) h =
     heard_follows o.state.mute o.state o.delivered b (heeds_then far o (b ∷ bs) h) now in
     obeys far (moved far o m) bs h ∙ ap (λ c. (cut_by c bs).commands) (settled_cut far m.state m.does (with_delivered o.delivered m.does) ∙ sym cut)
 
--- A card from its beginning delivers the commands of the blocks that it hears, whatever its owner answers.
+-- A card that heard nothing since the dark delivers the commands of the blocks that it hears, whatever its owner answers.
 pub obeys_commands : DeliversCommands
-obeys_commands far code bs h = obeys far (record { state = fresh code; delivered = [] }) bs h
+obeys_commands far t bs made h =
+    obeys far (record { state = t; delivered = [] }) bs h ∙ ap (λ (u : CardState). (cut_by (cut_of u []) bs).commands) made

@@ -138,7 +138,7 @@ keeps_again t (Some b) = refl
 
 card_keeps : (t : CardState) (b : Block) → CardKeeps t (block_table t b)
 card_keeps t (Info more n c) = card_keeps_if t (nat_lt limit (length (t.chain ++ c.items))) _ _ refl (keeps_grown t more (t.chain ++ c.items))
-card_keeps t (Ack n) = card_keeps_if t (n == t.number) _ _ (keeps_again t t.last) (card_keeps_if t (if nat_lt 0 t.due then false else nat_lt 0 (length t.left)) _ _ refl refl)
+card_keeps t (Ack n) = card_keeps_if t (n == t.number) _ _ (keeps_again t t.last) (card_keeps_if t (if nat_lt 0 t.due then false else t.unsent) _ _ refl refl)
 card_keeps t (Nak n) = card_keeps_if t (n == t.number) _ _ (keeps_again t t.last) refl
 card_keeps t Deselect = refl
 card_keeps t (Extend times) = card_keeps_if t (if nat_lt 0 t.due then times == t.times else false) _ _ (card_keeps_if t (nat_lt 1 t.due) _ _ refl refl) refl
@@ -162,7 +162,7 @@ settled_keeps r t Quiet = refl
 settled_keeps r t (Reply a) = refl
 settled_keeps r t (Deliver p) = go (nat_lt 0 t.busy)
   where
-    go : (v : Bool) → backs_of (if v then record t { last = Some (Extend t.times); left = r; due = t.busy } else record t { last = Some (piece t.most t.number r); left = drop t.most r; due = 0 }) ≡ backs_of t
+    go : (v : Bool) → backs_of (if v then record t { last = Some (Extend t.times); left = r; unsent = true; due = t.busy } else record t { last = Some (piece t.most t.number r); left = drop t.most r; unsent = nat_lt t.most (length r); due = 0 }) ≡ backs_of t
     go true = refl
     go false = refl
 

@@ -61,7 +61,7 @@ module _ (code : ℕ) where
     -- it sends the next piece of its answer
     heeds_drawn : Heeds code (framed (drawn t))
     heeds_drawn =
-        heeds_if (if nat_lt 0 t.due then false else nat_lt 0 (length t.left)) _ (stays t) (record { own = e; chain = c; awake = tt }) (record { own = e; chain = c; awake = tt })
+        heeds_if (if nat_lt 0 t.due then false else t.unsent) _ (stays t) (record { own = e; chain = c; awake = tt }) (record { own = e; chain = c; awake = tt })
 
     -- its chain grows
     heeds_grown : (more : Bool) (xs : List ℕ) → AreBytes xs → Heeds code (framed (grown t more xs))

@@ -19,6 +19,7 @@ use Rattle.nfc_base.specs.declared.event.Event.{Event}
 use Rattle.air_core.specs.declared.listener.Listener.{Ghosts}
 use Rattle.air_core.proofs.PlainAside.{Laws}
 use Rattle.air_core.proofs.PlainStores.{place_is}
+use Rattle.air_core.proofs.LostField.{breaks_noise}
 use Rattle.isodep_link.specs.Blocks.{block_frame}
 use Rattle.isodep_link.specs.Card.{CardState}
 use Rattle.isodep_link.specs.Reader.{ReaderState, request, begun}
@@ -267,7 +268,9 @@ module _ {L : Type 0} (k : Ghosts L) (laws : Laws k) (card : L → CardState) (t
   pub failed : (new : Air L) (i' : ReaderState) (o : AskFault)
       → EndsBy k card tag old new place l i i' (commands_of (since k card tag was)) (arrived (since k card tag was)) c.bytes (Err o) → Failed new i' o
   failed new i' FieldLost (inl d) = subst (λ (a : Air L). Failed a i' FieldLost) (sym d.1) (failed_dark i' d.0)
-  failed new i' FieldLost (inr (x, s, a, p)) = failed_by new i' FieldLost x s a (inr p.2) (p.1, inl p.0)
+  failed new i' FieldLost (inr (x, s, a, p)) =
+      let some : 0 < noise a.events = let b = p.2 in let l = breaks_noise a.events in omega (arith, b, l) in
+      failed_by new i' FieldLost x s a (inr some) (p.1, inl p.0)
   failed new i' SixBad (x, s, a, p) = failed_by new i' SixBad x s a (inr p.2) p.0
   failed new i' Memory (x, s, a, p) = failed_by new i' Memory x s a (inl refl) (p.0, p.1)
   failed new i' Protocol h = absurd h

@@ -40,7 +40,8 @@ module _ (m k : ℕ) (out : List ℕ) where
 
   -- it sends the next piece of its answer
   abbrev drew : CardState → CardState
-  drew t = record t { number = toggled t.number; last = Some (piece t.most (toggled t.number) t.left); left = drop t.most t.left }
+  drew t =
+      record t { number = toggled t.number; last = Some (piece t.most (toggled t.number) t.left); left = drop t.most t.left; unsent = nat_lt t.most (length t.left) }
 
   piece_taken : (c : Core) (t : CardState) (g : Option (List ℕ)) → Asking m k out c t g → c.most < length c.rest
       → (block_table t (request c) ≡ record { state = took t c; does = Answers (Ack (toggled t.number)) }) × Acked m k out c (took t c) g
@@ -67,10 +68,10 @@ module _ (m k : ℕ) (out : List ℕ) where
 
   -- The owner answered, and the card asks for more time first or doesn't.
   abbrev asking_time : CardState → List ℕ → CardState
-  asking_time t r = record (handing t) { last = Some (Extend t.times); left = r; due = t.busy }
+  asking_time t r = record (handing t) { last = Some (Extend t.times); left = r; unsent = true; due = t.busy }
 
   abbrev sending_first : CardState → List ℕ → CardState
-  sending_first t r = record (handing t) { last = Some (piece t.most (toggled t.number) r); left = drop t.most r; due = 0 }
+  sending_first t r = record (handing t) { last = Some (piece t.most (toggled t.number) r); left = drop t.most r; unsent = nat_lt t.most (length r); due = 0 }
 
   time_asked : (c : Core) (t : CardState) (g : Option (List ℕ)) (bads : ℕ) → Asking m k out c t g → length c.rest ≤ c.most → 0 < t.busy
       → (r : List ℕ) → length r ≤ limit → Extending m k out c (asking_time t r) (Some r) bads
@@ -103,6 +104,7 @@ module _ (m k : ℕ) (out : List ℕ) where
         no_chain = refl;
         last = rw (h.other, toggled_twice c.number h.number) refl;
         left = refl;
+        unsent = refl;
         reply = rw h.empty refl;
         short_back = rw h.empty f;
       }
@@ -133,7 +135,7 @@ module _ (m k : ℕ) (out : List ℕ) where
   reply_drawn : (c : Core) (t : CardState) (g : Option (List ℕ)) → Drawing m k out c t g
       → (block_table t (request c) ≡ record { state = drew t; does = Answers (piece t.most (toggled t.number) t.left) }) × Answered m k out c (drew t) g t.left
   reply_drawn c t g h = (
-    rw (h.plain, h.receiving, h.other, not_toggled c.number h.number, h.none_due, lt-ltb 0 (length t.left) h.left) refl,
+    rw (h.plain, h.receiving, h.other, not_toggled c.number h.number, h.none_due, h.unsent) refl,
     record {
       bounds = h.bounds;
       number = h.number;
@@ -144,6 +146,7 @@ module _ (m k : ℕ) (out : List ℕ) where
       no_chain = h.no_chain;
       last = rw (h.other, toggled_twice c.number h.number) refl;
       left = refl;
+      unsent = refl;
       reply = h.reply;
       short_back = h.short_back;
     },
@@ -202,7 +205,7 @@ module _ (m k : ℕ) (out : List ℕ) where
 
   -- the time is granted, and the card asks again, or sends its answer
   abbrev given_time : CardState → CardState
-  given_time t = record t { due = 0; last = Some (piece t.most t.number t.left); left = drop t.most t.left }
+  given_time t = record t { due = 0; last = Some (piece t.most t.number t.left); left = drop t.most t.left; unsent = nat_lt t.most (length t.left) }
 
   time_again : (t : CardState) → 0 < t.due → 1 < t.due
       → block_table t (Extend t.times) ≡ record { state = record t { due = t.due - 1 }; does = Answers (Extend t.times) }
@@ -250,6 +253,7 @@ module _ (m k : ℕ) (out : List ℕ) where
             no_chain = h.no_chain;
             last = ap (λ (x : ℕ). let o : Option Block = Some (piece t.most x t.left) in o) v;
             left = refl;
+            unsent = refl;
             reply = rw h.empty h.reply;
             short_back = rw h.empty h.short_back;
           } in

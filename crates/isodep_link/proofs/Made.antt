@@ -25,7 +25,7 @@ module _ (t : CardState) where
   again_made (Some b) = refl
 
   drawn_made : StaysMade t (framed (drawn t))
-  drawn_made = move_made (if nat_lt 0 t.due then false else nat_lt 0 (length t.left)) _ (stays t) refl refl
+  drawn_made = move_made (if nat_lt 0 t.due then false else t.unsent) _ (stays t) refl refl
 
   grown_made : (more : Bool) (xs : List ℕ) → StaysMade t (framed (grown t more xs))
   grown_made true xs = refl
@@ -58,6 +58,6 @@ module _ (t : CardState) where
   replied_made r = by_busy (nat_lt 0 t.busy)
     where
       by_busy : (v : Bool)
-          → darkened (if v then record t { last = Some (Extend t.times); left = r; due = t.busy } else record t { last = Some (piece t.most t.number r); left = drop t.most r; due = 0 }) ≡ darkened t
+          → darkened (if v then record t { last = Some (Extend t.times); left = r; unsent = true; due = t.busy } else record t { last = Some (piece t.most t.number r); left = drop t.most r; unsent = nat_lt t.most (length r); due = 0 }) ≡ darkened t
       by_busy true = refl
       by_busy false = refl

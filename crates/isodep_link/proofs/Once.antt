@@ -26,7 +26,7 @@ drawn_by t false m h = λ xs e. cc
 
 ack_never : (t : CardState) (same : Bool) → MovesAnew t (if same then again t t.last else drawn t)
 ack_never t true = again_never t t.last
-ack_never t false = drawn_by t (if nat_lt 0 t.due then false else nat_lt 0 (length t.left)) _ (λ xs e. cc)
+ack_never t false = drawn_by t (if nat_lt 0 t.due then false else t.unsent) _ (λ xs e. cc)
 
 nak_never : (t : CardState) (same : Bool) → MovesAnew t (if same then again t t.last else record { state = t; does = Answers (Ack t.number) })
 nak_never t true = again_never t t.last
@@ -39,7 +39,7 @@ block_anew t (Nak n) = nak_never t (n == t.number)
 block_anew t Deselect = λ xs e. cc
 block_anew t (Extend times) = drawn_by t (if nat_lt 0 t.due then times == t.times else false) _ (granted_never (nat_lt 1 t.due))
   where
-    granted_never : (v : Bool) → MovesAnew t (if v then record { state = record t { due = t.due - 1 }; does = Answers (Extend t.times) } else record { state = record t { due = 0; last = Some (piece t.most t.number t.left); left = drop t.most t.left }; does = Answers (piece t.most t.number t.left) })
+    granted_never : (v : Bool) → MovesAnew t (if v then record { state = record t { due = t.due - 1 }; does = Answers (Extend t.times) } else record { state = record t { due = 0; last = Some (piece t.most t.number t.left); left = drop t.most t.left; unsent = nat_lt t.most (length t.left) }; does = Answers (piece t.most t.number t.left) })
     granted_never true = λ xs e. cc
     granted_never false = λ xs e. cc
 

@@ -86,7 +86,7 @@ piece_fits code = (let s = is_size code in (omega (arith, s.0), omega (arith, s.
 -- the ends are in step once the card was activated
 pub ready_first : (t : CardState) (reader_code : ℕ) → IsMade t → IsReady (activated_link t reader_code)
 ready_first t reader_code m = subst (λ s. IsReady (activated_link s reader_code)) (sym m.made) (
-  record { heeds = refl; number = omega arith; other = refl; no_chain = refl; asks = piece_fits t.code; answers = piece_fits reader_code; busy = m.busy; times = m.times },
+  record { heeds = refl; number = omega arith; other = refl; no_chain = refl; all_sent = refl; asks = piece_fits t.code; answers = piece_fits reader_code; busy = m.busy; times = m.times },
   refl,
 )
 

@@ -3,7 +3,7 @@ use Rattle.std.specs.Prelude.{◌≡◌, ◌⊎◌, ℕ, ◌+◌, ◌-◌, ◌*�
 use Rattle.std.specs.List.{AllByRecursion}
 use Rattle.nfc_base.specs.Signal.{Signal, whole_a}
 use Rattle.nfc_base.specs.TagLinks.{TagState, passed}
-use Rattle.nfc_base.specs.Trace.{noise}
+use Rattle.nfc_base.specs.Trace.{noise, breaks}
 use Rattle.nfc_base.specs.StopAndWait.{delivered_of, pieces_back}
 use Rattle.nfc_base.specs.LinkTurns.{GivenBy, bad_receptions}
 use Rattle.nfc_base.specs.LinkTurns as turns
@@ -137,14 +137,14 @@ module _ {L : Type 0} (k : Ghosts L) (card : L → CardState) (tag : L → TagSt
   UnderWay old new place begin i commands arrived command P =
       (given : Option (List ℕ)) × (s : IsoStanding) × (a : CommandTurns old new place begin i commands arrived command given s) × P s a.events
 
-  -- How one command ends. An answer leaves the tag ready for the next; a field that is lost, and six bad receptions, have a
-  -- transmission that didn't pass.
+  -- How one command ends. An answer leaves the tag ready for the next; a field that is lost is dark, and a transmission lost it; six bad
+  -- receptions have one that didn't pass.
   abbrev pub EndsBy : Air L → Air L → ℕ → L → ReaderState → ReaderState → List (List ℕ) → List Signal → List ℕ → Result Signal AskFault → Type 0
   EndsBy old new place begin i i' commands arrived command (Ok answer) =
       (r : List ℕ) × (a : CommandTurns old new place begin i commands arrived command (Some r) (Rests i')) × (answer ≡ whole_a r) × (new.lit ≡ true)
       × HasCardTag new place i' (commands ++ command ∷ []) (arrived ++ turns.arrived a.events)
   EndsBy old new place begin i i' commands arrived command (Err FieldLost) =
-      ((old.lit ≡ false) × (new ≡ old)) ⊎ UnderWay old new place begin i commands arrived command (λ s es. (s ≡ Broken FieldLost) × (new.lit ≡ false) × (0 < noise es))
+      ((old.lit ≡ false) × (new ≡ old)) ⊎ UnderWay old new place begin i commands arrived command (λ s es. (s ≡ Broken FieldLost) × (new.lit ≡ false) × (0 < breaks es))
   EndsBy old new place begin i i' commands arrived command (Err SixBad) =
       UnderWay old new place begin i commands arrived command (λ s es. (s ≡ Broken SixBad) × (new.lit ≡ true) × (0 < noise es))
   EndsBy old new place begin i i' commands arrived command (Err Memory) =

@@ -13,7 +13,7 @@ use Rattle.isodep_link.specs.Sizes.{piece_size, least_code, limit, rats_code, at
 
 -- A card: its own size code, the most content of a block that the reader takes, its number, the last block that it sent
 -- other than an answer to R(NAK) with another number, the chain so far, the bytes of its answer that aren't sent, whether
--- an I-block was heard, and whether a chain grew too long; how often it asks for more time before an answer, and by which value; how
+-- a piece of it isn't, which an empty answer has too, whether an I-block was heard, and whether a chain grew too long; how often it asks for more time before an answer, and by which value; how
 -- often it is still to be granted.
 pub record CardState : Type 0 where
   pub code : ℕ
@@ -22,6 +22,7 @@ pub record CardState : Type 0 where
   pub last : Option Block
   pub chain : List ℕ
   pub left : List ℕ
+  pub unsent : Bool
   pub begun : Bool
   pub mute : Bool
   pub busy : ℕ
@@ -68,9 +69,14 @@ gathered t more xs = if nat_lt limit (length xs) then stays (record t { begun = 
 -- the next piece of the answer, unless more time is due
 abbrev pub drawn : CardState → CardMove
 drawn t =
-    if (if nat_lt 0 t.due then false else nat_lt 0 (length t.left))
+    if (if nat_lt 0 t.due then false else t.unsent)
     then record {
-      state = record t { number = toggled t.number; last = Some (piece t.most (toggled t.number) t.left); left = drop t.most t.left };
+      state = record t {
+        number = toggled t.number;
+        last = Some (piece t.most (toggled t.number) t.left);
+        left = drop t.most t.left;
+        unsent = nat_lt t.most (length t.left);
+      };
       does = Answers (piece t.most (toggled t.number) t.left);
     }
     else stays t
@@ -80,7 +86,15 @@ abbrev pub granted : CardState → CardMove
 granted t =
     if nat_lt 1 t.due
     then record { state = record t { due = t.due - 1 }; does = Answers (Extend t.times) }
-    else record { state = record t { due = 0; last = Some (piece t.most t.number t.left); left = drop t.most t.left }; does = Answers (piece t.most t.number t.left) }
+    else record {
+      state = record t {
+        due = 0;
+        last = Some (piece t.most t.number t.left);
+        left = drop t.most t.left;
+        unsent = nat_lt t.most (length t.left);
+      };
+      does = Answers (piece t.most t.number t.left);
+    }
 
 -- S(WTX) by this value
 abbrev pub extended : CardState → ℕ → CardMove
@@ -125,8 +139,8 @@ card_table t f = if t.mute then framed (stays t) else heeded t (rats_code f) (sp
 abbrev pub replied : CardState → List ℕ → CardState
 replied t r =
     if nat_lt 0 t.busy
-    then record t { last = Some (Extend t.times); left = r; due = t.busy }
-    else record t { last = Some (piece t.most t.number r); left = drop t.most r; due = 0 }
+    then record t { last = Some (Extend t.times); left = r; unsent = true; due = t.busy }
+    else record t { last = Some (piece t.most t.number r); left = drop t.most r; unsent = nat_lt t.most (length r); due = 0 }
 
 abbrev pub reply_block : CardState → List ℕ → Block
 reply_block t r = if nat_lt 0 t.busy then Extend t.times else piece t.most t.number r
@@ -141,6 +155,7 @@ fresh code =
       last = None;
       chain = [];
       left = [];
+      unsent = false;
       begun = false;
       mute = false;
       busy = 0;

@@ -78,6 +78,7 @@ pub record InStep (i : ReaderState) (t : CardState) : Type 0 where
   pub number : i.core.number < 2
   pub other : t.number ≡ toggled i.core.number
   pub no_chain : t.chain ≡ []
+  pub all_sent : t.unsent ≡ false
   pub asks : (0 < i.core.most) × (i.core.most ≤ 253)
   pub answers : (0 < t.most) × (t.most ≤ 253)
   pub busy : t.busy ≤ most_busy

@@ -1,6 +1,6 @@
 //! The card's end.
 
-ghost use Rattle.std.specs.Prelude.{◌≡◌, ◌≤◌, ◌<◌, ◌++◌, length, drop};
+ghost use Rattle.std.specs.Prelude.{◌≡◌, ◌≤◌, ◌<◌, ◌++◌, length, drop, nat_lt};
 ghost use Rattle.isodep_link.specs.Blocks.{block_frame, piece, IsSpelled};
 ghost use Rattle.isodep_link.specs.Card.{CardTurn, card_table, activated, framed, block_table, again, gathered, drawn, extended, granted, replied, reply_block, fresh, darkened, made_busy, IsSaid, card_step_at};
 
@@ -44,6 +44,7 @@ pub struct CardEnd {
     chain: ArrayVec<u8, 264>,
     answer: ArrayVec<u8, 264>,
     at: usize,
+    unsent: bool,
     begun: bool,
     mute: bool,
     busy: u8,
@@ -64,6 +65,7 @@ impl Model for CardEnd {
       last = t.last;
       chain = t.chain.items;
       left = drop t.at t.answer.items;
+      unsent = t.unsent;
       begun = t.begun;
       mute = t.mute;
       busy = t.busy;
@@ -90,6 +92,7 @@ impl CardEnd {
             chain: ArrayVec::new(),
             answer: ArrayVec::new(),
             at: 0,
+            unsent: false,
             begun: false,
             mute: false,
             busy: 0,
@@ -118,6 +121,7 @@ impl CardEnd {
         self.chain = ArrayVec::new();
         self.answer = ArrayVec::new();
         self.at = 0;
+        self.unsent = false;
         self.begun = false;
         self.mute = false;
         self.due = 0;
@@ -178,6 +182,7 @@ impl CardEnd {
         kept.try_extend_from_slice(content).unwrap();
         self.answer = kept;
         self.at = 0;
+        self.unsent = true;
         self.due = self.busy;
         let block = if self.busy > 0 {
             Block::Extend { times: self.times }
@@ -191,11 +196,15 @@ impl CardEnd {
     /// The first piece of its answer, which is sent with it.
     fn first_piece(&mut self) -> Block
         ensures value { result ≡ piece self.old.most self.old.number self.old.left }
-        ensures step { self.new ≡ record self.old { left = drop self.old.most self.old.left } }
+        ensures step { self.new ≡ record self.old {
+          left = drop self.old.most self.old.left;
+          unsent = nat_lt self.old.most (length self.old.left);
+        } }
     {
         let left = &self.answer.as_slice()[self.at..];
         let block = piece(self.most, self.number, left);
         self.at += left.len().min(self.most);
+        self.unsent = left.len() > self.most;
         block
     }
 
@@ -289,12 +298,13 @@ impl CardEnd {
         ensures spelled { IsSaid self.old.code (card_step_at result answer.new) }
     {
         let left = &self.answer.as_slice()[self.at..];
-        if self.due > 0 || left.is_empty() {
+        if self.due > 0 || !self.unsent {
             return CardKind::Quiet;
         }
         self.number = toggled(self.number);
         let block = piece(self.most, self.number, left);
         self.at += left.len().min(self.most);
+        self.unsent = left.len() > self.most;
         block.put(answer);
         self.last = Some(block);
         CardKind::Reply

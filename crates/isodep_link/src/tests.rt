@@ -181,6 +181,50 @@ fn a_busy_card_asks_for_more_time(rt: HostRuntime) -> Result<(), Fail> {
     walk_card(&rt, &mut card, &rows)
 }
 
+/// Its one piece waits for the time to be granted, and comes behind an I-block that chains, which asks for no more time.
+#[test]
+fn an_empty_answer_has_one_piece(rt: HostRuntime) -> Result<(), Fail> {
+    let mut card = CardEnd::new(8);
+    card.set_busy(1, 5);
+    let rows: [Row; 7] = [
+        (&[2, 0, 0xA4], b'd', &[0, 0xA4]),
+        (&[], b'=', &[0xF2, 5]),
+        (&[0xA3], b'q', &[]),
+        (&[0x13, 0xAA], b'r', &[0xA3]),
+        (&[0xA2], b'r', &[2]),
+        (&[0xA2], b'r', &[2]),
+        (&[0xA3], b'q', &[]),
+    ];
+    walk_card(&rt, &mut card, &rows)
+}
+
+/// Blocks that ask for one again, and time that is granted, deliver nothing, before an answer and behind it.
+#[test]
+fn a_card_that_asks_five_times_delivers_each_command_once(rt: HostRuntime) -> Result<(), Fail> {
+    let mut card = CardEnd::new(8);
+    card.set_busy(5, 59);
+    let rows: [Row; 17] = [
+        (&[0x12, 0xAA], b'r', &[0xA2]),
+        (&[0xB2], b'r', &[0xA2]),
+        (&[3, 0xBB], b'd', &[0xAA, 0xBB]),
+        (&[0x90, 0], b'=', &[0xF2, 59]),
+        (&[0xB3], b'r', &[0xF2, 59]),
+        (&[0xF2, 59], b'r', &[0xF2, 59]),
+        (&[0xF2, 59], b'r', &[0xF2, 59]),
+        (&[0xF2, 59], b'r', &[0xF2, 59]),
+        (&[0xF2, 59], b'r', &[0xF2, 59]),
+        (&[0xF2, 59], b'r', &[3, 0x90, 0]),
+        (&[0xF2, 59], b'q', &[]),
+        (&[0xB3], b'r', &[3, 0x90, 0]),
+        (&[2, 0xCC], b'd', &[0xCC]),
+        (&[], b'=', &[0xF2, 59]),
+        (&[3, 0xDD], b'd', &[0xDD]),
+        (&[], b'=', &[0xF2, 59]),
+        (&[0xB3], b'r', &[0xF2, 59]),
+    ];
+    walk_card(&rt, &mut card, &rows)
+}
+
 #[test]
 fn a_reader_grants_more_time(rt: HostRuntime) -> Result<(), Fail> {
     let mut reader = ReaderEnd::new(8);

@@ -24,8 +24,8 @@ use Rattle.snep_core.specs.declared.fault.SnepFault.{SnepFault}
 use Rattle.snep_core.specs.declared.fault.SnepFault.TheVariants.{BadPeer, Excess, LinkEnded, Memory, NotFound, NotImplemented, Reject}
 use Rattle.snep_core.specs.Accord.{PeerState}
 use Rattle.snep_core.specs.Server.{serving}
-use Rattle.snep_core.specs.Calling.{Talks, FailsBy, fault_of}
-use Rattle.snep_core.specs.Talk.{EndState, OnSap, Step, Ends, GivesUp}
+use Rattle.snep_core.specs.Calling.{Talks, FailsBy, fault_of, gives_up}
+use Rattle.snep_core.specs.Talk.{EndState, OnSap, Step, Ends}
 use Rattle.link_calls.specs.CallDue.{CallStanding, Carries, Comes, BrokenBy, Strays, call_due_at}
 use Rattle.link_calls.specs.CallTurns.{sees, swaps}
 use Rattle.link_calls.specs.Calls.{IsOpen, IsCutOff}
@@ -91,10 +91,10 @@ module _ {L C : Type 0} (k : Ghosts L) (target : L → TargetState) (see : C →
   }
 
   pub closing_failed : (client : EndState) (e : SnepFault) → FailsBy (sees see) (swaps k target see) (AnswersCounted serving) (StopsCounted serving) ns from a far e client b half → Fails client (see b).air half e
-  closing_failed client e (inl (bad, talk)) =
-      subst (Fails client (see b).air half) (sym bad) (λ linked links place there os.
-      of_call k linked peer_ends place os ns from i old far (see b).air half target (Comes (GivesUp client) (see b).initiator)
-      (reaches k target see laws a b far half old i is open_ ready ns from (GivesUp client) talk (λ left. refl) linked links place there os).0 (λ q. cc))
+  closing_failed client e (inl (bad, came, talk)) =
+      subst (Fails client (see b).air half) (sym bad) (came, λ linked links place there os.
+      of_call k linked peer_ends place os ns from i old far (see b).air half target (Comes (gives_up came client) (see b).initiator)
+      (reaches k target see laws a b far half old i is open_ ready ns from (gives_up came client) talk (λ left. refl) linked links place there os).0 (λ q. cc))
   closing_failed client e (inr broke) = cut_closing client e (cut_off k target see laws a b far half old i is open_ ready ns from e client broke)
 
   module _ (jobs : List OnSap) (client : EndState) (talk : Talks (sees see) (swaps k target see) (AnswersCounted serving) (StopsCounted serving) ns from a far (Ends jobs client) b half) (is_stuck : Choosing PeerState → Bool) (new : Air L)

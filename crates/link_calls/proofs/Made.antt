@@ -22,7 +22,7 @@ use Rattle.peer_air.proofs.Wholly.{swaps_far, stops_far}
 use Rattle.snep_core.specs.declared.fault.SnepFault.{SnepFault}
 use Rattle.snep_core.specs.Accord.{PeerState}
 use Rattle.snep_core.specs.Server.{serving}
-use Rattle.snep_core.specs.Calling.{Talks, Breaks, FailsBy, Fails, IsCut, fault_of, payloads}
+use Rattle.snep_core.specs.Calling.{Talks, Breaks, FailsBy, Fails, IsCut, fault_of, gives_up, payloads}
 use Rattle.snep_core.specs.Calling as calling
 use Rattle.snep_core.specs.declared.job.Job.TheVariants.{Over}
 use Rattle.snep_core.specs.declared.job.Ending.TheVariants.{Refused}
@@ -262,7 +262,7 @@ module _ {L C : Type 0} (k : Ghosts L) (target : L → TargetState) (see : C →
 
     pub call_failed : (ns : List ℕ) (from : Step) (e : SnepFault) (new : EndState) → FailsBy (sees see) (swaps k target see) (AnswersCounted serving) (StopsCounted serving) ns from a far e new b after
         → CallFails k target ns from old i far (see b).air (see b).initiator after new e
-    call_failed ns from e new (inl (bad, talk)) = inl (bad, made ns from (GivesUp new) talk (λ left. refl))
+    call_failed ns from e new (inl (bad, came, talk)) = inl (bad, came, made ns from (gives_up came new) talk (λ left. refl))
     call_failed ns from e new (inr broke) = inr (cut_off ns from e new broke)
 
     pub request_failed : (ns : List ℕ) (from : Step) (e : SnepFault) (new : EndState) → calling.RequestFails (sees see) (swaps k target see) (AnswersCounted serving) (StopsCounted serving) ns from a far e new b after

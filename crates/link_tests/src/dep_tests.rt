@@ -169,6 +169,27 @@ fn a_busy_target_asks_for_more_time(rt: HostRuntime) -> Result<(), Fail> {
     walk_target(&rt, &mut target, &rows)
 }
 
+/// Its one piece waits for the time to be granted, and comes behind information that goes on, which asks for no more time.
+#[test]
+fn an_empty_reply_has_one_piece(rt: HostRuntime) -> Result<(), Fail> {
+    let rows: [Row<'_>; 7] = [
+        (&[0xF0, 6, 0xD4, 6, 0, 0, 0], b'd', &[0, 0]),
+        (&[], b'=', &MORE),
+        (&[0xF0, 4, 0xD4, 6, 0x41], b'q', &[]),
+        (
+            &[0xF0, 5, 0xD4, 6, 0x11, 0xAA],
+            b'r',
+            &[0xF0, 4, 0xD5, 7, 0x41],
+        ),
+        (&[0xF0, 4, 0xD4, 6, 0x42], b'r', &[0xF0, 4, 0xD5, 7, 2]),
+        (&[0xF0, 4, 0xD4, 6, 0x42], b'r', &[0xF0, 4, 0xD5, 7, 2]),
+        (&[0xF0, 4, 0xD4, 6, 0x43], b'q', &[]),
+    ];
+    let mut target = Target::new(ID, 3, ArrayVec::new());
+    target.set_busy(1, 5);
+    walk_target(&rt, &mut target, &rows)
+}
+
 /// Sixteen times it grants more time.
 fn grants_sixteen_times(rt: &impl Abort, initiator: &mut Initiator) -> Result<(), Fail> {
     for _ in 0..16u8 {

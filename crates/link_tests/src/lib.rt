@@ -17,3 +17,5 @@ mod dep_tests;
 mod field_tests;
 #[cfg(test)]
 mod meeting;
+#[cfg(test)]
+mod stranger_tests;

@@ -1,6 +1,6 @@
 -- One end of a numbered connection (NFC Forum LLCP 1.3): what it submits, takes and gives. Which of several faults closes it is
 -- this project's own.
-use Rattle.std.specs.Prelude.{◌≡◌, ◌<◌, ◌≤◌, ℕ, ◌+◌, ◌-◌, ◌*◌, ◌%◌, ◌==◌, nat_lt, Bool, true, false, List, [], ◌∷◌, ◌++◌, length, drop, Option, Some, None, option_map, if◌then◌else◌}
+use Rattle.std.specs.Prelude.{◌≡◌, ◌<◌, ◌≤◌, ℕ, ◌+◌, ◌-◌, ◌*◌, ◌%◌, ◌==◌, nat_lt, Bool, true, false, List, [], ◌∷◌, ◌++◌, length, drop, Option, Some, None, is_some, option_map, if◌then◌else◌}
 use Rattle.llcp_pdu.specs.declared.part.Part.{Part}
 use Rattle.llcp_pdu.specs.declared.part.Part.TheVariants.{Symm, Ui, Connect, Disc, Cc, Dm, Frmr, Snl, Info, Rr, Rnr}
 use Rattle.llcp_pdu.specs.declared.part.FrmrReport.{FrmrReport}
@@ -194,6 +194,10 @@ gives c = if c.live then (if c.held then gives_ack c else gives_from c c.queue) 
 abbrev pub first : List (List ℕ) → Option (List ℕ)
 first [] = None
 first (u ∷ rest) = Some u
+
+-- a unit waits to be given
+abbrev pub has_waiting : ConnState → Bool
+has_waiting c = is_some (first c.queue)
 
 -- the length of the unit that is given next as an I PDU
 abbrev pub due : ConnState → Option ℕ

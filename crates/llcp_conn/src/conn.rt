@@ -3,7 +3,7 @@
 ghost use Rattle.std.specs.Prelude.{◌≡◌, ◌<◌, ◌≤◌, ◌⊎◌, length, drop, true, false, option_map, option_copied, Some, None, IfOk, IfErr, OnOk, OnErr};
 ghost use Rattle.circular_buffer.specs.Buffer.{buffer};
 ghost use Rattle.llcp_pdu.specs.General.{IsMiu};
-ghost use Rattle.llcp_conn.specs.Conn.{fresh, refusal, refusal_of, shared, queued, Queues, took, takes, takes_view, takes_unit, takes_nr, gave, gives, gives_from, gives_ack, first, closes, numbers, has_room, due, acks, is_outside, acknowledged, IsOfConn, IsViewOfConn, IsSap, IsWindow};
+ghost use Rattle.llcp_conn.specs.Conn.{fresh, refusal, refusal_of, shared, queued, Queues, took, takes, takes_view, takes_unit, takes_nr, gave, gives, gives_from, gives_ack, first, closes, numbers, has_room, has_waiting, due, acks, is_outside, acknowledged, IsOfConn, IsViewOfConn, IsSap, IsWindow};
 ghost use Rattle.llcp_conn.specs.declared.fault.ConnFault.{ConnFault};
 
 use crate::fault::{ConnFault, SharedCause, SharedRefused};
@@ -142,6 +142,16 @@ impl Conn {
         ensures { result ≡ has_room self.now }
     {
         !self.units.is_full()
+    }
+
+    /// A unit that was submitted waits to be given, also where the other end holds it up.
+    pub fn has_waiting(&self) -> bool
+        ensures { result ≡ has_waiting self.now }
+    {
+        match self.waiting() {
+            Some(_) => true,
+            None => false,
+        }
     }
 
     /// The SAP of this end.

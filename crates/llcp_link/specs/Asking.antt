@@ -3,7 +3,7 @@ use Rattle.std.specs.Prelude.{◌≡◌, ℕ, ◌+◌, ◌%◌, ◌==◌, Bool, 
 use Rattle.llcp_pdu.specs.declared.part.Part.{Part}
 use Rattle.llcp_pdu.specs.declared.part.Part.TheVariants.{Connect, Disc, Snl}
 use Rattle.llcp_pdu.specs.declared.param.Param.TheVariants.{SdReq}
-use Rattle.llcp_conn.specs.Conn.{queued, refusal, first}
+use Rattle.llcp_conn.specs.Conn.{queued, refusal, first, has_waiting}
 use Rattle.llcp_conn.specs.declared.fault.ConnFault.{ConnFault}
 use Rattle.llcp_conn.specs.declared.fault.ConnFault.TheVariants.{NotOpen}
 use Rattle.llcp_link.specs.declared.fault.LlcFault.{LlcFault}
@@ -62,6 +62,15 @@ acked_on _ = 0
 abbrev pub acked_of : Option OwnState → ℕ
 acked_of None = 0
 acked_of (Some o) = acked_on o.is
+
+-- a unit that was submitted waits to be given
+abbrev pub has_waiting_on : OwnIs → Bool
+has_waiting_on (Open c) = has_waiting c
+has_waiting_on _ = false
+
+abbrev pub has_waiting_of : Option OwnState → Bool
+has_waiting_of None = false
+has_waiting_of (Some o) = has_waiting_on o.is
 
 -- why a unit isn't submitted, if it isn't
 abbrev pub refusal_on : OwnIs → List ℕ → Option ConnFault

@@ -3,7 +3,7 @@
 ghost use Rattle.std.specs.Prelude.{◌≡◌, ◌≤◌, ◌⊎◌, None, Some, true, length, IfErr, IfOk, OnOk, OnErr};
 ghost use Rattle.llcp_conn.specs.Conn.{IsSap};
 ghost use Rattle.llcp_conn.specs.declared.fault.ConnFault.{ConnFault};
-ghost use Rattle.llcp_link.specs.Asking.{Connects, Submits, acked_of, connecting_refusal, disconnected_by, forgotten, found_in, is_open_by, looked_up, refusal_of, standing_of, unit_of, unit_taken_by};
+ghost use Rattle.llcp_link.specs.Asking.{Connects, Submits, acked_of, connecting_refusal, disconnected_by, forgotten, found_in, has_waiting_of, is_open_by, looked_up, refusal_of, standing_of, unit_of, unit_taken_by};
 ghost use Rattle.llcp_link.specs.State.{own_from};
 ghost use Rattle.llcp_link.specs.declared.fault.LlcFault.{LlcFault};
 
@@ -109,6 +109,13 @@ impl<S> Llc<S> {
         ensures { result ≡ acked_of (own_from ssap self.now.own) }
     {
         owns::acked(&self.own, ssap)
+    }
+
+    /// A unit that was submitted on the connection from a SAP waits to be given, also where the other end holds it up.
+    pub fn has_waiting(&self, ssap: u8) -> bool
+        ensures { result ≡ has_waiting_of (own_from ssap self.now.own) }
+    {
+        owns::has_waiting(&self.own, ssap)
     }
 
     /// The oldest unit that was handed up on the connection from a SAP and not yet given here. It takes no memory.

@@ -45,10 +45,3 @@ pub use law::units;
 pub use llc::Llc;
 pub use service::Service;
 pub use standing::Standing;
-
-#[cfg(test)]
-mod counting_tests;
-#[cfg(test)]
-mod own_tests;
-#[cfg(test)]
-mod tests;

@@ -5,7 +5,7 @@ ghost use Rattle.llcp_pdu.specs.General.{IsMiu};
 ghost use Rattle.llcp_pdu.specs.Wire.{rw_end};
 ghost use Rattle.llcp_conn.specs.Conn.{IsSap, IsWindow, first};
 ghost use Rattle.llcp_conn.specs.declared.fault.ConnFault.{ConnFault};
-ghost use Rattle.llcp_link.specs.Asking.{asked_from, is_there, is_open, acked_on as acked_of, refusal_on, standing_on, SubmitsOn};
+ghost use Rattle.llcp_link.specs.Asking.{asked_from, is_there, is_open, acked_on as acked_of, has_waiting_on, refusal_on, standing_on, SubmitsOn};
 ghost use Rattle.llcp_link.specs.Owning.{awaits_cc as is_awaiting, cc_on, dm_on, ClosesOwn, TakesOwn};
 ghost use Rattle.llcp_link.specs.Places.{IsNumbered};
 ghost use Rattle.llcp_link.specs.Kept.{IsSent};
@@ -220,6 +220,16 @@ impl Own {
         match &self.is {
             OwnIs::Open(conn) => conn.acked(),
             _ => 0,
+        }
+    }
+
+    /// A unit that was submitted on it waits to be given.
+    pub(crate) fn has_waiting(&self) -> bool
+        ensures { result ≡ has_waiting_on self.now.is }
+    {
+        match &self.is {
+            OwnIs::Open(conn) => conn.has_waiting(),
+            _ => false,
         }
     }
 

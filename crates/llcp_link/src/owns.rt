@@ -5,7 +5,7 @@ ghost use Rattle.llcp_pdu.specs.General.{IsMiu};
 ghost use Rattle.llcp_pdu.specs.Wire.{rw_end};
 ghost use Rattle.llcp_conn.specs.Conn.{IsWindow};
 ghost use Rattle.llcp_conn.specs.declared.fault.ConnFault.{ConnFault};
-ghost use Rattle.llcp_link.specs.Asking.{acked_of, is_busy_by, is_open_by, put_own, refusal_of, standing_of, unit_of, without_own};
+ghost use Rattle.llcp_link.specs.Asking.{acked_of, has_waiting_of, is_busy_by, is_open_by, put_own, refusal_of, standing_of, unit_of, without_own};
 ghost use Rattle.llcp_link.specs.Owns.{AwaitsAt, ClosesAsked, LeavesAt, PlaceOf, TakesAsked, dm_in, queued_in, unit_taken_in};
 ghost use Rattle.llcp_link.specs.Places.{IsNumbered};
 ghost use Rattle.llcp_link.specs.State.{own_from};
@@ -53,6 +53,16 @@ pub(crate) fn acked(own: &[Own], here: u8) -> u32
     match place_of(own, here) {
         None => 0,
         Some(place) => own[place].acked(),
+    }
+}
+
+/// A unit that was submitted on it waits to be given.
+pub(crate) fn has_waiting(own: &[Own], here: u8) -> bool
+    ensures { result ≡ has_waiting_of (own_from here own.now) }
+{
+    match place_of(own, here) {
+        None => false,
+        Some(place) => own[place].has_waiting(),
     }
 }
 

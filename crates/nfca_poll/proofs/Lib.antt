@@ -16,8 +16,10 @@ pub mod RoundSteps
 pub mod EnquiryEnds
 pub mod TurnWalks
 pub mod TellingInventory
+pub mod TellingPickedV
 pub mod TellingResolution
 pub mod TellingRounds
+pub mod GivenUp
 pub mod RoundCalls
 pub mod CallEnds
 pub mod Inventories

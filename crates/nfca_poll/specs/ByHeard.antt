@@ -97,6 +97,21 @@ pub record TellsInventory (ts : List Turn) (r : Result Vcrowd PollFault) : Type 
   -- a bad answer exactly where a whole answer hadn't ten bytes
   pub bad : r ≡ Err faults.BadAnswer ↔ has_no_present ts ≡ true
 
+-- something was heard that shows a device: an answer to an inventory, damage, or a clash
+abbrev pub is_shown : Option Heard → Bool
+is_shown o = by_heard o is_present (λ g. true) true false false
+
+abbrev pub has_shown : List Turn → Bool
+has_shown ts = list_any (λ t. is_shown (heard t)) ts
+
+-- What a selection by an identifier of NFC-V answers, by its turns.
+pub record TellsPickedV (ts : List Turn) (r : Result (Unit {0}) PollFault) : Type 0 where
+  -- that the device is there exactly where it was shown, and that it isn't exactly where four turns were silent
+  pub there : r ≡ Ok tt ↔ has_shown ts ≡ true
+  pub not_found : r ≡ Err faults.NotFound ↔ silences ts ≡ tries
+  -- a bad answer exactly where a whole answer hadn't ten bytes
+  pub bad : r ≡ Err faults.BadAnswer ↔ has_no_present ts ≡ true
+
 -- how many SLP_REQ were sent
 abbrev pub sleeps : List Turn → ℕ
 sleeps ts = length (filter (λ t. is_slp t.request) ts)

@@ -4,7 +4,7 @@ ghost use Rattle.std.specs.Prelude.{◌≡◌, ◌↔◌, Bool, Err, IfSome, IsS
 ghost use Rattle.nfca_poll.specs.declared.fault.PollFault.TheVariants.{FieldLost};
 ghost use Rattle.nfca_poll.specs.Enquiry.{Enquires, LosesByBreak};
 ghost use Rattle.nfca_poll.specs.Inventory.{inventory_all, inventory_of, inventory, picking_v, is_present, answered_id, TellsWhy, TellsMiss};
-ghost use Rattle.nfca_poll.specs.ByHeard.{turns_since, TellsInventory};
+ghost use Rattle.nfca_poll.specs.ByHeard.{turns_since, TellsInventory, TellsPickedV};
 
 use crate::fault::PollFault;
 use crate::requests::ask;
@@ -95,6 +95,7 @@ pub fn pick_v<L: Listener>(field: &mut Field<L>, id: [u8; 8]) -> Result<(), Poll
     ensures dark { field.old.lit ≡ Bool.false → (result ≡ Err FieldLost) × (field.new ≡ field.old) }
     ensures lost { LosesByBreak field.old result field.new }
     ensures cause { TellsMiss L.machine id field.old result field.new }
+    ensures told { field.old.lit ≡ Bool.true → TellsPickedV (turns_since field.old field.new) result }
     ensures turns { field.old.lit ≡ Bool.true → Enquires (picking_v id) L.machine field.old result field.new }
 {
     if !field.is_lit() {

@@ -8,8 +8,9 @@ ghost use Rattle.nfca_poll.specs.Rounds.{finding, picking, listed, has_found, mo
 ghost use Rattle.nfca_poll.specs.OneRound.{one_round, is_wanted};
 ghost use Rattle.nfca_poll.specs.RoundTrace.{rounds};
 ghost use Rattle.nfca_poll.specs.ByHeard.{turns_since, TellsFound, TellsPicked};
+ghost use Rattle.nfca_poll.specs.Twice.{AllGivenUp};
 ghost use Rattle.nfca_poll.specs.RoundEnds.{FindsCrowd, SelectsAlone};
-ghost use Rattle.nfca_poll.specs.declared.fault.PollFault.TheVariants.{Nobody, FieldLost, NotFound, Memory};
+ghost use Rattle.nfca_poll.specs.declared.fault.PollFault.TheVariants.{Nobody, Disturbed, FieldLost, NotFound, Memory};
 
 use crate::fault::{Picked, PollFault};
 use crate::ident::Ident;
@@ -142,6 +143,8 @@ fn round<L: Listener>(
 pub fn find_all<L: Listener>(alloc: Global, field: &mut Field<L>) -> Result<Vec<Picked>, PollFault>
     ensures turns { Enquires finding L.machine field.old (listed result) field.new }
     ensures told { TellsFound (turns_since field.old field.new) (listed result) }
+    ensures disturbed { listed result ≡ Err Disturbed
+        → AllGivenUp (drop (length field.old.trace) field.new.trace) }
     ensures crowd { FindsCrowd L.machine L.identifier field.old (listed result) field.new }
     ensures lit { LeavesLit (listed result) field.new }
     ensures lost { listed result ≡ Err FieldLost → 0 < breaks (drop (length field.old.trace) field.new.trace) }
@@ -161,6 +164,8 @@ pub fn find_all<L: Listener>(alloc: Global, field: &mut Field<L>) -> Result<Vec<
 pub fn pick<L: Listener>(alloc: Global, field: &mut Field<L>, id: &Ident) -> Result<Kind, PollFault>
     ensures turns { Enquires (picking id.now) L.machine field.old result field.new }
     ensures told { TellsPicked (turns_since field.old field.new) result }
+    ensures disturbed { result ≡ Err Disturbed
+        → AllGivenUp (drop (length field.old.trace) field.new.trace) }
     ensures crowd { SelectsAlone L.machine L.identifier id.now field.old result field.new }
     ensures lit { LeavesLit result field.new }
     ensures lost { result ≡ Err FieldLost → 0 < breaks (drop (length field.old.trace) field.new.trace) }

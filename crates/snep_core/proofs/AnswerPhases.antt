@@ -62,7 +62,7 @@ module _ (limit : ℕ) (ask : Asked) (answer : Answer) (end : Ending) (now : Lis
       later_hears : (ph : Later) → ask.size ≤ limit → Hears limit table later ph
       later_hears Answering k = hears_nothing limit table later Answering k refl
       later_hears Answered k = hears_nothing limit table later Answered k refl
-      later_hears AnswerHeard k = record { to = Answered; holds = k; told = ended; queue_is = refl; units_is = refl; session_is = refl; accepted_is = refl }
+      later_hears AnswerHeard k = record { to = Answered; holds = k; told = ended; apart = λ w. absurd cc; queue_is = refl; units_is = refl; session_is = refl; accepted_is = refl }
 
       later_plain : (ph : Later) (l : EndState) → finished l client_sap (job_at ph) ≡ job_at ph
       later_plain Answering l = refl

@@ -9,7 +9,7 @@ use Rattle.llcp_conn.specs.Conn.{count_end}
 use Rattle.llcp_link.specs.declared.own.OwnIs.{OwnIs}
 use Rattle.llcp_link.specs.declared.own.OwnIs.TheVariants.{Asking, Open, Refused, Leaving, Closed}
 use Rattle.llcp_link.specs.State.{OwnState, own_from}
-use Rattle.llcp_link.specs.Asking.{acked_of, acked_on, asked_from, disconnected_by, is_busy_by, is_open_by, looked_up, put_own}
+use Rattle.llcp_link.specs.Asking.{acked_of, acked_on, asked_from, disconnected_by, has_waiting_of, is_busy_by, is_open_by, looked_up, put_own}
 use Rattle.llcp_link.specs.Giving.{after_giving}
 use Rattle.llcp_link.specs.Taking.{taken_from}
 use Rattle.llcp_link.specs.Waning.{pending, pending_on}
@@ -18,7 +18,7 @@ use Rattle.llcp_link.proofs.Ranged.{either}
 use Rattle.llcp_link.proofs.Submitted.{own_with}
 use Rattle.llcp_link.proofs.Waning.{Wanes, is_of, given_wanes, pending_wanes, taken_wanes}
 use Rattle.snep_core.specs.Jobs.{Job, Begins, Looks, Closes, Over, Done, has_byte}
-use Rattle.snep_core.specs.Talk.{AllReady, EndState, Ends, Finds, Gets, GivesUp, Leaves, Puts, alone, begun, client_sap, connected, get_bytes, own_of, put_bytes, server_sap, Goes, OnSap, Ready, Step, Told, Working, all_emptied, all_heard, all_over, all_readied, emptied, emptied_by, gave_any, gave_something, goes_on, heard, heard_with, idle_after, most_idle, given_up, readied, ready, replied, saps, settled, silent, with_job, told_by, took, units_of}
+use Rattle.snep_core.specs.Talk.{AllReady, EndState, Ends, Finds, Gets, GivenUp, GivesUp, Leaves, Puts, alone, begun, client_sap, connected, get_bytes, own_of, put_bytes, server_sap, Goes, OnSap, Ready, Step, Told, Working, all_emptied, all_heard, all_over, all_readied, all_well, as_they_came, emptied, emptied_by, gave_any, gave_something, goes_on, heard, heard_with, idle_after, most_idle, given_up, readied, ready, replied, saps, settled, silent, with_job, told_by, took, units_of}
 use Rattle.snep_core.specs.RepliesLeft.{CallsBegin, CallsEnd, IsCounted, IsUnderWay, RepliesFall, all_to_come, job_left, replies_left, to_come}
 use Rattle.snep_core.specs.Waning.{one_job, LessensTo, Putting}
 use Rattle.snep_core.proofs.Falling.{both_lessen, gave_lessens, turn_falls}
@@ -107,25 +107,29 @@ to_come_on l new w (x ∷ xs) =
     (let a = pending_wanes x.sap (own_from x.sap l.own) (own_from x.sap new.own) (w x.sap) in let b = to_come_on l new w xs in omega arith)
 
 -- one job hears what came on its connection
-one_heard : (l new : EndState) → Wane l new → (sap : ℕ) (job now : Job) → IsCounted l sap → heard new sap job ≡ Some now
+one_heard : (l new : EndState) → Wane l new → (waiting : Bool) (sap : ℕ) (job now : Job) → IsCounted l sap → heard waiting new sap job ≡ Some now
     → LessensTo (gave_something (own_from sap l.own) (own_from sap new.own) || has_byte (units_of (own_from sap new.own)))
     (to_come (own_from sap l.own) job) (to_come (own_from sap new.own) now)
-one_heard l new w sap job now c e =
+one_heard l new w waiting sap job now c e =
     both_lessen (gave_something (own_from sap l.own) (own_from sap new.own)) (has_byte (units_of (own_from sap new.own)))
     (pending (own_from sap l.own)) (pending (own_from sap new.own)) (job_left job) (job_left now)
     (gave_lessens sap (own_from sap l.own) (own_from sap new.own) (w sap) c (gave_something (own_from sap l.own) (own_from sap new.own)) refl)
-    (heard_lets Putting new sap job now e).left
+    (heard_lets Putting waiting new sap job now e).left
 
 -- what all jobs hear
 record AllHeard (l new : EndState) (xs ys : List OnSap) : Type 0 where
   pub left : LessensTo (gave_any l new xs) (all_to_come l xs) (all_to_come new ys)
   pub same : saps ys ≡ saps xs
 
-all_hear : (l new : EndState) → Wane l new → (xs ys : List OnSap) → AllByRecursion (IsCounted l) (saps xs) → all_heard new xs ≡ Some ys → AllHeard l new xs ys
+all_hear : (l new : EndState) → Wane l new → (xs ys : List OnSap) → AllByRecursion (IsCounted l) (saps xs) → all_well (all_heard l new xs) ≡ Some ys → AllHeard l new xs ys
 all_hear l new w [] ys c e = let k : [] ≡ ys = cc in subst (AllHeard l new []) k (record { left = omega arith; same = refl })
-all_hear l new w (x ∷ xs) ys c e = go (λ zs j. all_hear l new w xs zs c.1 j) (heard new x.sap x.job) refl (all_heard new xs) refl e
+all_hear l new w (x ∷ xs) ys c e = go (λ zs j. all_hear l new w xs zs c.1 j) (heard waiting new x.sap x.job) refl (all_well (all_heard l new xs)) refl e
   where
-    go : ((zs : List OnSap) → all_heard new xs ≡ Some zs → AllHeard l new xs zs) → (o : Option Job) → heard new x.sap x.job ≡ o → (q : Option (List OnSap)) → all_heard new xs ≡ q → heard_with x.sap o q ≡ Some ys → AllHeard l new (x ∷ xs) ys
+    waiting : Bool
+    waiting = has_waiting_of (own_from x.sap l.own)
+
+    go : ((zs : List OnSap) → all_well (all_heard l new xs) ≡ Some zs → AllHeard l new xs zs) → (o : Option Job) → heard waiting new x.sap x.job ≡ o
+        → (q : Option (List OnSap)) → all_well (all_heard l new xs) ≡ q → heard_with x.sap o q ≡ Some ys → AllHeard l new (x ∷ xs) ys
     go rest None i q j k = absurd cc
     go rest (Some now) i None j k = absurd cc
     go rest (Some now) i (Some zs) j k =
@@ -134,7 +138,7 @@ all_hear l new w (x ∷ xs) ys c e = go (λ zs j. all_hear l new w xs zs c.1 j) 
         subst (AllHeard l new (x ∷ xs)) same (record {
           left = both_lessen (gave_something (own_from x.sap l.own) (own_from x.sap new.own) || has_byte (units_of (own_from x.sap new.own)))
               (gave_any l new xs) (to_come (own_from x.sap l.own) x.job) (to_come (own_from x.sap new.own) now) (all_to_come l xs) (all_to_come new zs)
-              (one_heard l new w x.sap x.job now c.0 i) more.left;
+              (one_heard l new w waiting x.sap x.job now c.0 i) more.left;
           same = ap (λ ss. x.sap ∷ ss) more.same;
         })
 
@@ -188,7 +192,7 @@ module _ (w : Working) (new : EndState) where
   -- its jobs came to these
   goes_so : (now : List OnSap) (idle : ℕ) → (idle < most_idle → Falls (record { llc = new; jobs = now; idle = idle })) → FallsOn (goes_on new now idle)
   goes_so now idle f =
-      either {X = Step} FallsOn (nat_lt idle most_idle) (Goes (record { llc = new; jobs = now; idle = idle })) (given_up new now)
+      either {X = Step} FallsOn (nat_lt idle most_idle) (Goes (record { llc = new; jobs = now; idle = idle })) (given_up new now (as_they_came now))
       (λ i next e. (let k : record { llc = new; jobs = now; idle = idle } ≡ next = cc in subst Falls k (f (is_below idle most_idle i)))) (λ i next e. absurd cc)
 
   settles_so : (now : List OnSap) (idle : ℕ) → (idle < most_idle → Falls (record { llc = new; jobs = now; idle = idle })) → FallsOn (settled new now idle)
@@ -197,7 +201,7 @@ module _ (w : Working) (new : EndState) where
 -- an end that gave and took a payload
 took_falls : (w : Working) → IsUnderWay w → (r : AllReady) → AllReadies w.llc w.jobs r → (mid l : EndState) → Wane r.llc mid → Wane mid l
     → (next : Working) → took mid l r.jobs w.idle ≡ Goes next → IsUnderWay next × (replies_left next < replies_left w)
-took_falls w way r h mid l one two next e = go (all_heard l r.jobs) refl e
+took_falls w way r h mid l one two next e = go (all_well (all_heard mid l r.jobs)) refl e
   where
     same : saps r.jobs ≡ saps w.jobs
     same = h.same
@@ -205,7 +209,7 @@ took_falls w way r h mid l one two next e = go (all_heard l r.jobs) refl e
     begun : AllByRecursion (IsCounted mid) (saps r.jobs)
     begun = counted_on r.llc mid one (saps r.jobs) (subst (AllByRecursion (IsCounted r.llc)) (sym same) (h.counted way.counted))
 
-    go : (q : Option (List OnSap)) → all_heard l r.jobs ≡ q → told_by l r.jobs (idle_after (gave_any mid l r.jobs) w.idle) q ≡ Goes next
+    go : (q : Option (List OnSap)) → all_well (all_heard mid l r.jobs) ≡ q → told_by l r.jobs (all_heard mid l r.jobs) (idle_after (gave_any mid l r.jobs) w.idle) q ≡ Goes next
         → IsUnderWay next × (replies_left next < replies_left w)
     go None i k = absurd cc
     go (Some now) i k =
@@ -239,7 +243,7 @@ ended : (xs : List OnSap) (l : EndState) (ns : List ℕ) (did : List FarStep) (t
 ended xs l ns [] to t = refl
 ended xs l ns (d ∷ ds) to t = absurd t
 
-gave_up : (l : EndState) (ns : List ℕ) (did : List FarStep) (to : Step) → Told ns (GivesUp l) did to → length did ≡ 0
+gave_up : (l : GivenUp) (ns : List ℕ) (did : List FarStep) (to : Step) → Told ns (GivesUp l) did to → length did ≡ 0
 gave_up l ns [] to t = refl
 gave_up l ns (d ∷ ds) to t = absurd t
 

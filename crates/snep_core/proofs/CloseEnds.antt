@@ -13,7 +13,7 @@ use Rattle.llcp_link.proofs.Ranged.{either}
 use Rattle.snep_core.specs.declared.fault.SnepFault.{SnepFault}
 use Rattle.snep_core.specs.Accord.{Accords, AreOver, AsideFails, IsClosed, IsFair, IsPeer, Numbers, PeerState}
 use Rattle.snep_core.specs.Calling.{FailsBy, Talks}
-use Rattle.snep_core.specs.Jobs.{Closes, Done, Over, told_all}
+use Rattle.snep_core.specs.Jobs.{Closes, Done, Over, told_in}
 use Rattle.snep_core.specs.Server.{ServerState, serving}
 use Rattle.snep_core.specs.Talk.{EndState, Ends, Leaves, Step, alone, begins, begun, client_sap, emptied, finished, heard, heard_so, is_waiting, own_of, server_sap, silent}
 use Rattle.snep_core.proofs.AtOneSap.{found_none}
@@ -131,11 +131,11 @@ module _ (names : List Bound) (s : ServerState) where
       subst (λ z. HopSo serving silent (λ q e. Parted e q) l (gave serving z)) (sym h.p_is)
       (subst (λ o. HopSo serving silent (λ q e. Parted e q) l o) (sym (bare_none h.far s h.far_fair)) tt)
 
-  pub was_closed : (l : EndState) (p : PeerState) → Parted l p → heard l client_sap Closes ≡ Some (Over Done)
-  was_closed l p h =
+  pub was_closed : (waiting : Bool) (l : EndState) (p : PeerState) → Parted l p → heard waiting l client_sap Closes ≡ Some (Over Done)
+  was_closed waiting l p h =
       let z = client_at h.base (Apart h.os) [] in
-      ap (λ e. heard e client_sap Closes) h.l_is
-      ∙ ap (λ us. heard_so (emptied z client_sap) client_sap (told_all Closes us)) (stand_units (Apart h.os) s h.are_over)
+      ap (λ e. heard waiting e client_sap Closes) h.l_is
+      ∙ ap (λ us. heard_so (emptied z client_sap) client_sap (told_in waiting Closes us)) (stand_units (Apart h.os) s h.are_over)
       ∙ ap (λ (e : EndState). Some (finished e client_sap Closes)) (stand_emptied h.base (Apart h.os) s h.are_over)
       ∙ ap (λ b. Some (if b then Closes else Over Done)) (over_shut h.os h.are_over).1
 

@@ -1,7 +1,8 @@
 -- One request on a connection, unit by unit: where the two ends stand, and how they come from one phase to another.
-use Rattle.std.proofs.Common.{◌≡◌, ◌<◌, ◌≤◌, ◌⊎◌, false, ℕ, List, [], ◌∷◌, ◌++◌, length, Some, None, refl, ap}
+use Rattle.std.proofs.Common.{◌≡◌, ◌<◌, ◌≤◌, ◌⊎◌, Bool, true, false, ℕ, List, [], ◌∷◌, ◌++◌, length, Option, Some, None, is_some, refl, sym, ap}
+use Rattle.llcp_conn.specs.Conn.{first}
 use Rattle.snep_core.specs.Accord.{IsPaired, Numbers, client_open}
-use Rattle.snep_core.specs.Jobs.{Job, told_all}
+use Rattle.snep_core.specs.Jobs.{Job, told_all, told_in}
 use Rattle.snep_core.specs.Server.{Received, ServerState, serving}
 use Rattle.snep_core.specs.Session.{Offer, Session, fresh_session}
 use Rattle.snep_core.specs.Talk.{EndState, client_sap, finished, is_over, readied, ready_so}
@@ -57,6 +58,7 @@ module _ (limit : ℕ) (table : List Offer) (c : Conversation) where
     pub to : c.Phase
     pub holds : c.Holds to
     pub told : told_all (c.job_at from) (c.units_at from) ≡ Some (c.job_at to)
+    pub apart : is_some (first (c.queue_at from)) ≡ true → c.units_at from ≡ []
     pub queue_is : c.queue_at to ≡ c.queue_at from
     pub units_is : c.units_at to ≡ []
     pub session_is : c.session_at to ≡ c.session_at from
@@ -97,6 +99,12 @@ module _ (limit : ℕ) (table : List Offer) (c : Conversation) where
 pub no_unit : (u : List ℕ) (units : List (List ℕ)) → ◌≡◌ {A = List (List ℕ)} [] (u ∷ units) → ⊥
 no_unit u units e = cc
 
+-- nothing is heard while a unit waits to be given
+pub told_apart : (waiting : Bool) (job : Job) (us : List (List ℕ)) (o : Option Job) → told_all job us ≡ o → (waiting ≡ true → us ≡ []) → told_in waiting job us ≡ o
+told_apart waiting job [] o e f = e
+told_apart true job (u ∷ us) o e f = absurd (no_unit u us (sym (f refl)))
+told_apart false job (u ∷ us) o e f = e
+
 module _ (limit : ℕ) (table : List Offer) (c : Conversation) (ph : c.Phase) (holds : c.Holds ph) where
   -- the client heard nothing
   pub hears_nothing : c.units_at ph ≡ [] → Hears limit table c ph
@@ -104,6 +112,7 @@ module _ (limit : ℕ) (table : List Offer) (c : Conversation) (ph : c.Phase) (h
     to = ph;
     holds = holds;
     told = ap (told_all (c.job_at ph)) e;
+    apart = λ w. e;
     queue_is = refl;
     units_is = e;
     session_is = refl;

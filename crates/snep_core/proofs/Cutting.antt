@@ -4,10 +4,12 @@ use Rattle.nfc_base.specs.declared.carrier.EndCause.{EndCause}
 use Rattle.nfc_base.specs.declared.carrier.LinkEnd.{LinkEnd}
 use Rattle.nfc_base.specs.Links.{CarrierView, FarStep, Stepped, SwapDone, SwapFailed, SwapRefused, Swapped, AskedBy}
 use Rattle.llcp_link.specs.Answering.{Gives}
+use Rattle.llcp_link.specs.Asking.{has_waiting_of}
 use Rattle.llcp_link.specs.Taking.{taken_from}
 use Rattle.llcp_link.specs.Giving.{given}
 use Rattle.snep_core.specs.declared.fault.SnepFault.{SnepFault}
 use Rattle.snep_core.specs.declared.fault.SnepFault.TheVariants.{Memory}
+use Rattle.snep_core.specs.declared.job.Passed.{Passed}
 use Rattle.snep_core.specs.Calling.{Exchanged, IsCut, fault_of}
 use Rattle.snep_core.specs.Talk.{EndState, gave_something, own_of, silent}
 
@@ -57,13 +59,15 @@ module _ {C A : Type 0} (seen : C → CarrierView) (swaps : C → List ℕ → L
     swapped = subst (λ b. Swapped swaps steps stops link b far now after (λ did. did ≡ Stepped b reply ∷ [])) g.bytes_are swapped;
   }))
 
-  pub exchanged : (reply : List ℕ) (gave : Bool) (new : EndState) → SwapDone steps (seen link) (seen now) out reply far after
+  pub exchanged : (reply : List ℕ) (passed : Passed) (new : EndState) → SwapDone steps (seen link) (seen now) out reply far after
       → Swapped swaps steps stops link out far now after (λ did. did ≡ Stepped out reply ∷ []) → new ≡ taken_from silent mid reply
-      → gave ≡ gave_something (own_of mid) (own_of new) → Exchanged seen swaps steps stops count llc link far gave new now after
-  exchanged reply gave new done swapped took something = record {
+      → passed.gave ≡ gave_something (own_of mid) (own_of new) → passed.waiting ≡ has_waiting_of (own_of mid)
+      → Exchanged seen swaps steps stops count llc link far passed new now after
+  exchanged reply passed new done swapped took something waiting = record {
     reply = reply;
     swap = subst (λ b. SwapDone steps (seen link) (seen now) b reply far after) g.bytes_are done;
     swapped = subst (λ b. Swapped swaps steps stops link b far now after (λ did. did ≡ Stepped b reply ∷ [])) g.bytes_are swapped;
     took = took ∙ ap (λ l. taken_from silent l reply) g.left;
     something = something ∙ ap (λ l. gave_something (own_of l) (own_of new)) g.left;
+    waiting = waiting ∙ ap (λ l. has_waiting_of (own_of l)) g.left;
   }

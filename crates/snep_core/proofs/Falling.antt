@@ -96,7 +96,7 @@ pub goes_falls : (l between mid last : EndState) (job now next : Job) (idle : �
     → LessensTo some (job_left now) (job_left next) → last ≡ emptied mid client_sap → GoesAs next (idle_after (gave || some) idle) last turn new
     → Falls (one_job l job idle) turn new
 goes_falls l between mid last job now next idle gave some (Ended e) new r g s k goes = tt
-goes_falls l between mid last job now next idle gave some GaveUp new r g s k goes = tt
+goes_falls l between mid last job now next idle gave some (GaveUp came) new r g s k goes = tt
 goes_falls l between mid last job now next idle gave some (Went j n) new r g s k goes =
     let p : pending (own_of new) ≡ pending (own_of mid) = ap (λ z. pending (own_of z)) (goes.3 ∙ k) ∙ pending_emptied mid in
     let less = both_lessen gave some (pending (own_of between)) (pending (own_of mid)) (job_left now) (job_left next) g s in

@@ -8,7 +8,7 @@ use Rattle.snep_core.specs.declared.job.Refusal.{Refusal}
 use Rattle.snep_core.specs.declared.message.Answer.TheVariants as answers
 use Rattle.snep_core.specs.Message.{answer_code}
 use Rattle.snep_core.specs.First.{info_of}
-use Rattle.snep_core.specs.Jobs.{Job, Begins, Waits, Sends, Asks, Collects, Looks, Closes, Over, Done, Value, Sap, Refused, ended_by, has_byte, head_of, is_bare, refusal, sent_told, success_told, told, told_all, told_on, value_told, waiting_told}
+use Rattle.snep_core.specs.Jobs.{Job, Begins, Waits, Sends, Asks, Collects, Looks, Closes, Over, Done, Value, Sap, Refused, ended_by, has_byte, head_of, is_bare, refusal, sent_told, success_told, told, told_all, told_in, told_on, value_told, waiting_told}
 use Rattle.snep_core.specs.Talk.{EndState, emptied, finished, found_so, heard, heard_so, is_lost, is_waiting, units_of}
 use Rattle.llcp_link.specs.Asking.{found_in, standing_of}
 use Rattle.llcp_link.specs.State.{own_from}
@@ -189,20 +189,25 @@ finished_left l sap (Asks size have) = refl
 finished_left l sap (Collects size have) = refl
 finished_left l sap (Over o) = refl
 
+told_so : (waiting : Bool) (job mid : Job) (us : List (List ℕ)) → told_in waiting job us ≡ Some mid → told_all job us ≡ Some mid
+told_so waiting job mid [] e = e
+told_so true job mid (u ∷ us) e = absurd cc
+told_so false job mid (u ∷ us) e = e
+
 -- what was heard leaves a job with the same aim, and less to come where a unit had a byte
-pub heard_lets : (aim : Aim) (l : EndState) (sap : ℕ) (job new : Job) → heard l sap job ≡ Some new
+pub heard_lets : (aim : Aim) (waiting : Bool) (l : EndState) (sap : ℕ) (job new : Job) → heard waiting l sap job ≡ Some new
     → Lets aim (has_byte (units_of (own_from sap l.own))) job new
-heard_lets aim l sap job new e = go (told_all job (units_of (own_from sap l.own))) refl e
+heard_lets aim waiting l sap job new e = go (told_in waiting job (units_of (own_from sap l.own))) refl e
   where
     some : Bool
     some = has_byte (units_of (own_from sap l.own))
 
-    go : (o : Option Job) → told_all job (units_of (own_from sap l.own)) ≡ o → heard_so (emptied l sap) sap o ≡ Some new → Lets aim some job new
+    go : (o : Option Job) → told_in waiting job (units_of (own_from sap l.own)) ≡ o → heard_so (emptied l sap) sap o ≡ Some new → Lets aim some job new
     go None i k = absurd cc
     go (Some mid) i k =
         either {X = Option Job} (λ o. o ≡ Some new → Lets aim some job new) (is_lost (emptied l sap) sap mid) None (Some (finished (emptied l sap) sap mid))
         (λ b q. absurd cc)
-        (λ b q. (let h = lets_all aim (units_of (own_from sap l.own)) job mid i in
+        (λ b q. (let h = lets_all aim (units_of (own_from sap l.own)) job mid (told_so waiting job mid (units_of (own_from sap l.own)) i) in
         let same : finished (emptied l sap) sap mid ≡ new = cc in
         record {
           serves = λ s. subst (Serves aim) same (finished_serves aim (emptied l sap) sap mid (h.serves s));

@@ -15,7 +15,7 @@ use Rattle.llcp_link.specs.Taking.{steps_part, tells}
 use Rattle.snep_core.specs.declared.fault.SnepFault.{SnepFault}
 use Rattle.snep_core.specs.Accord.{Accords, AsideFails, IsFound, IsPeer, PeerState}
 use Rattle.snep_core.specs.Calling.{FailsBy, Talks}
-use Rattle.snep_core.specs.Jobs.{Job, Looks, Over, Sap, told_all}
+use Rattle.snep_core.specs.Jobs.{Job, Looks, Over, Sap, told_in}
 use Rattle.snep_core.specs.Server.{ServerState, serving}
 use Rattle.snep_core.specs.Talk.{EndState, Ends, Finds, OnSap, alone, begins, client_sap, emptied, found_so, heard, heard_so, silent}
 use Rattle.snep_core.proofs.Asides.{Calm, Stand, accord_at, client_at, client_hop, peer_at, peer_hop, stand_emptied, stand_units, stands_at}
@@ -119,10 +119,10 @@ module _ (tid : ℕ) (name : List ℕ) (short : length name ≤ 64) (names : Lis
         },
       ))
 
-  pub was_told : (l : EndState) (p : PeerState) → After l p → heard l client_sap (Looks tid) ≡ Some (Over (Sap sap))
-  was_told l p h =
-      ap (λ z. heard z client_sap (Looks tid)) h.l_is
-      ∙ ap (λ us. heard_so (emptied (client_at h.base h.st []) client_sap) client_sap (told_all (Looks tid) us)) (stand_units h.st s h.stand)
+  pub was_told : (waiting : Bool) (l : EndState) (p : PeerState) → After l p → heard waiting l client_sap (Looks tid) ≡ Some (Over (Sap sap))
+  was_told waiting l p h =
+      ap (λ z. heard waiting z client_sap (Looks tid)) h.l_is
+      ∙ ap (λ us. heard_so (emptied (client_at h.base h.st []) client_sap) client_sap (told_in waiting (Looks tid) us)) (stand_units h.st s h.stand)
       ∙ ap (λ (z : EndState). Some (found_so tid (found_in tid z.lookups))) (stand_emptied h.base h.st s h.stand)
       ∙ ap (λ o. Some (found_so tid o)) h.found
 

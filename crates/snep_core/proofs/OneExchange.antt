@@ -1,13 +1,14 @@
 -- A call over a peer that is over with its first exchange.
-use Rattle.std.proofs.Common.{◌≡◌, ◌⊎◌, ℕ, ◌||◌, true, List, Option, Some, None, refl, sym, ◌∙◌, ap, subst, inl, inr}
+use Rattle.std.proofs.Common.{◌≡◌, ◌⊎◌, ℕ, ◌||◌, Bool, true, List, Option, Some, None, refl, sym, ◌∙◌, ap, subst, inl, inr}
 use Rattle.nfc_base.specs.declared.carrier.EndCause.{EndCause}
 use Rattle.nfc_base.specs.declared.carrier.EndCause.TheVariants as cause
 use Rattle.nfc_base.specs.Links.{CarrierView, FarStep}
+use Rattle.llcp_link.specs.Asking.{has_waiting_of}
 use Rattle.llcp_link.specs.Taking.{steps, taken_from}
 use Rattle.llcp_link.specs.Giving.{Gave, after_giving, gave, given}
 use Rattle.snep_core.specs.declared.fault.SnepFault.{SnepFault}
 use Rattle.snep_core.specs.Accord.{AsideFails, IsPeer, PeerState, PeerSteps}
-use Rattle.snep_core.specs.Calling.{FailsBy, fault_of}
+use Rattle.snep_core.specs.Calling.{FailsBy, fault_of, gives_up}
 use Rattle.snep_core.specs.Jobs.{Ending, Job, Over, has_byte}
 use Rattle.snep_core.specs.Server.{Received, ServerState, serving}
 use Rattle.snep_core.specs.declared.silent.NoService.{NoService}
@@ -31,7 +32,7 @@ pub record OneExchange (s : ServerState) (job : Job) (ending : Ending) : Type 1 
   pub between_kept : (l : EndState) (p : PeerState) → Between l p → p.service ≡ s
   pub after_kept : (l : EndState) (p : PeerState) → After l p → p.service ≡ s
   pub plain : (l : EndState) → readied l client_sap job ≡ ready_so l job
-  pub over : (l : EndState) (p : PeerState) → After l p → heard l client_sap job ≡ Some (Over ending)
+  pub over : (waiting : Bool) (l : EndState) (p : PeerState) → After l p → heard waiting l client_sap job ≡ Some (Over ending)
   pub emptied_is : (l : EndState) (p : PeerState) → After l p → emptied l client_sap ≡ l
 
 module _ (s : ServerState) (job : Job) (ending : Ending) (x : OneExchange s job ending) where
@@ -103,7 +104,7 @@ module _ (s : ServerState) (job : Job) (ending : Ending) (x : OneExchange s job 
         (subst (λ b. x.After (taken_from silent mid (given serving z.count there)) b) (sym z.left) (answered l p h k z.count)) in
         let gave_ = gave_something (own_of mid) (own_of end_) || has_byte (units_of (own_of end_)) in
         let same = x.emptied_is end_ q now in
-        subst (λ b. StepSo b q) (sym (took_some mid end_ end_ job job idle (Over ending) gave_ (x.over end_ q now) refl))
+        subst (λ b. StepSo b q) (sym (took_some mid end_ end_ job job idle (Over ending) gave_ (x.over (has_waiting_of (own_of mid)) end_ q now) refl))
         (refl, subst (λ b. x.After b q) (sym same) now)
 
     turned : TurnSo (readied l client_sap job)
@@ -131,7 +132,7 @@ module _ (s : ServerState) (job : Job) (ending : Ending) (x : OneExchange s job 
       (view : A → PeerState) (peer : IsPeer far_steps far_stops view) (link : C) (far : A) (is : (view far).service ≡ s) (numbers : List ℕ) where
     pub fails_so : (from : Step) (e : SnepFault) (new : EndState) (now : C) (after : A) → StepSo from (view far) → FailsBy seen swaps far_steps far_stops numbers from link far e new now after
         → AsideFails (view far) e (view after)
-    fails_so from e new now after h (inl (f, t)) = absurd (came Same course seen swaps far_steps far_stops view peer numbers from (GivesUp new) link now far after h t)
+    fails_so from e new now after h (inl (f, k, t)) = absurd (came Same course seen swaps far_steps far_stops view peer numbers from (gives_up k new) link now far after h t)
     fails_so from e new now after h (inr b) =
         let k = breaks_off Same course seen swaps far_steps far_stops view peer numbers from link far e new now after h b in
         subst (λ z. AsideFails (view far) z (view after)) (sym k.fault)

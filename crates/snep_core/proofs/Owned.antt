@@ -7,7 +7,7 @@ use Rattle.llcp_link.specs.Asking.{forgotten, unit_of, unit_taken_by, without_ow
 use Rattle.llcp_link.specs.Waning.{pending}
 use Rattle.llcp_link.proofs.Awaited.{here_of, with_same}
 use Rattle.llcp_link.proofs.Submitted.{own_with}
-use Rattle.snep_core.specs.Jobs.{Job, has_byte, told, told_all, told_on}
+use Rattle.snep_core.specs.Jobs.{Job, has_byte, told, told_all, told_in, told_on}
 use Rattle.snep_core.specs.Talk.{EndState, client_sap, emptied, emptied_by, finished, heard, heard_so, is_lost, own_of, units_of}
 
 is_same : (m n : ℕ) → m ≡ n → (m == n) ≡ true
@@ -118,8 +118,14 @@ byte_on : (u : List ℕ) (us : List (List ℕ)) → has_byte (u ∷ us) ≡ (has
 byte_on [] us = refl
 byte_on (b ∷ bs) us = refl
 
+-- What a job comes to where no unit waits to be given.
+told_free : (job : Job) (us : List (List ℕ)) → told_in false job us ≡ told_all job us
+told_free job [] = refl
+told_free job (u ∷ us) = refl
+
 -- One unit is heard, and the others are as they were.
 pub record HearsOne (l new : EndState) (job : Job) (u : List ℕ) (some : Bool) : Type 0 where
+  pub units_are : units_of (own_of l) ≡ u ∷ units_of (own_of new)
   pub told_is : told_all job (units_of (own_of l)) ≡ told_on (told job u) (units_of (own_of new))
   pub some_is : (some || has_byte (units_of (own_of l))) ≡ ((some || has_byte (u ∷ [])) || has_byte (units_of (own_of new)))
   pub emptied_is : emptied new client_sap ≡ emptied l client_sap
@@ -129,6 +135,7 @@ pub record HearsOne (l new : EndState) (job : Job) (u : List ℕ) (some : Bool) 
 pub hears_one : (l new : EndState) (job : Job) (u : List ℕ) (some : Bool) → unit_of (own_of l) ≡ Some u → new ≡ unit_taken_by l (own_of l)
     → HearsOne l new job u some
 hears_one l new job u some e k = subst (λ z. HearsOne l z job u some) (sym k) (record {
+  units_are = one.0;
   told_is = ap (told_all job) one.0;
   some_is =
       ap (λ us. some || has_byte us) one.0 ∙ ap (λ b. some || b) (byte_on u (units_of (own_of (taken l))))
@@ -142,10 +149,29 @@ hears_one l new job u some e k = subst (λ z. HearsOne l z job u some) (sym k) (
         × (forgotten (taken l) client_sap ≡ forgotten l client_sap)
     one = emptied_one l u e
 
+module _ (l new : EndState) (job : Job) (u : List ℕ) (some : Bool) (one : HearsOne l new job u some) where
+  -- the job goes on, and hears the others
+  pub hears_on : (waiting : Bool) (next : Job) → waiting ≡ false → told job u ≡ Some next
+      → told_in waiting job (units_of (own_of l)) ≡ told_in waiting next (units_of (own_of new))
+  hears_on waiting next f e =
+      ap (λ b. told_in b job (units_of (own_of l))) f ∙ told_free job (units_of (own_of l)) ∙ one.told_is
+      ∙ ap (λ o. told_on o (units_of (own_of new))) e ∙ sym (told_free next (units_of (own_of new)))
+      ∙ ap (λ b. told_in b next (units_of (own_of new))) (sym f)
+
+  -- it puts the far end at fault
+  pub hears_fault : (waiting : Bool) → waiting ≡ false → told job u ≡ None → told_in waiting job (units_of (own_of l)) ≡ None
+  hears_fault waiting f e =
+      ap (λ b. told_in b job (units_of (own_of l))) f ∙ told_free job (units_of (own_of l)) ∙ one.told_is
+      ∙ ap (λ o. told_on o (units_of (own_of new))) e
+
+  -- it came too early
+  pub hears_early : (waiting : Bool) → waiting ≡ true → told_in waiting job (units_of (own_of l)) ≡ None
+  hears_early waiting f = ap (λ b. told_in b job (units_of (own_of l))) f ∙ ap (told_in true job) one.units_are
+
 -- the far end refused the connection of a job that needs it, or closed it
-pub lost_so : (l mid new : EndState) (job now : Job) → told_all job (units_of (own_of l)) ≡ Some now → mid ≡ emptied l client_sap
-    → is_lost mid client_sap now ≡ true → new ≡ forgotten mid client_sap → (heard l client_sap job ≡ None) × (new ≡ forgotten l client_sap)
-lost_so l mid new job now t e b f = (
+pub lost_so : (waiting : Bool) (l mid new : EndState) (job now : Job) → told_in waiting job (units_of (own_of l)) ≡ Some now → mid ≡ emptied l client_sap
+    → is_lost mid client_sap now ≡ true → new ≡ forgotten mid client_sap → (heard waiting l client_sap job ≡ None) × (new ≡ forgotten l client_sap)
+lost_so waiting l mid new job now t e b f = (
   ap (heard_so (emptied l client_sap) client_sap) t
       ∙ ap (λ x. if x then None else Some (finished (emptied l client_sap) client_sap now)) (ap (λ z. is_lost z client_sap now) (sym e) ∙ b),
   f ∙ ap (λ z. forgotten z client_sap) e ∙ forgotten_emptied l,

@@ -1,9 +1,10 @@
 -- Each exchange of a client and a peer gives the client something, until its request is answered.
-use Rattle.std.proofs.Common.{◌≡◌, ◌<◌, ◌≤◌, ◌⊎◌, nat_lt, ℕ, ◌+◌, ◌%◌, ◌==◌, ◌||◌, not, Bool, true, false, List, [], ◌∷◌, ◌++◌, length, Option, Some, None, refl, sym, ◌∙◌, ap, subst, inl, inr, arith}
+use Rattle.std.proofs.Common.{◌≡◌, ◌<◌, ◌≤◌, ◌⊎◌, nat_lt, ℕ, ◌+◌, ◌%◌, ◌==◌, ◌||◌, not, Bool, true, false, List, [], ◌∷◌, ◌++◌, length, Option, Some, None, is_some, refl, sym, ◌∙◌, ap, subst, inl, inr, arith}
 use Rattle.std.proofs.lemmas.Bool.{lt-ltb}
 use Rattle.std.proofs.lemmas.Bool.Decides.{nat_tests}
 use Rattle.llcp_pdu.specs.declared.part.Part.TheVariants.{Rr}
-use Rattle.llcp_conn.specs.Conn.{count_end, modulus}
+use Rattle.llcp_conn.specs.Conn.{count_end, first as first_in, modulus}
+use Rattle.llcp_link.specs.Asking.{has_waiting_of}
 use Rattle.llcp_link.specs.Giving.{Gave, after_giving, gave, given}
 use Rattle.llcp_link.specs.Taking.{steps_part, taken_from}
 use Rattle.llcp_link.specs.State.{Bound}
@@ -75,9 +76,10 @@ module _ (limit : ℕ) (table : List Offer) (names : List Bound) (conv : ℕ →
     pub told : joined.n.told ≡ []
     pub due : IsSome joined.n.asked ⊎ HasAnswer joined
 
-  -- A unit was handed up, or units were acknowledged since so many.
-  pub record Moved (before : ℕ) (l : EndState) (p : PeerState) : Type 0 where
+  -- A unit was handed up, or units were acknowledged since so many. These units wait to be given.
+  pub record Moved (before : ℕ) (queue : List (List ℕ)) (l : EndState) (p : PeerState) : Type 0 where
     pub joined : J l p
+    pub queue_is : (conv joined.n.server_miu joined.n.client_miu).queue_at joined.phase ≡ queue
     pub moved : (has_byte ((conv joined.n.server_miu joined.n.client_miu).units_at joined.phase) ≡ true) ⊎ ((joined.n.asked ≡ []) × ((joined.n.asked_count == before) ≡ false))
 
   abbrev pub Presses : EndState → PeerState → Type 0
@@ -137,19 +139,20 @@ module _ (limit : ℕ) (table : List Offer) (names : List Bound) (conv : ℕ →
   press_hop l p (inr x) = next_by l p x.joined x.told _ refl
 
   -- the server gives
-  module _ (before : ℕ) (l : EndState) (p : PeerState) (h : J l p) where
+  module _ (before : ℕ) (queue : List (List ℕ)) (l : EndState) (p : PeerState) (h : J l p) (still : (conv h.n.server_miu h.n.client_miu).queue_at h.phase ≡ queue) where
     abbrev d : Conversation
     d = conv h.n.server_miu h.n.client_miu
 
     abbrev Back : Option (Gave ServerState) → Type 0
-    Back o = FirstSo serving silent (λ q e. Moved before e q) p l o
+    Back o = FirstSo serving silent (λ q e. Moved before queue e q) p l o
 
     told_moves : (t : HasAnswer h) → nat_lt (length h.n.told + 0) h.n.client_window ≡ true
-        → IsShort (told_part h.n t.unit) × Moved before (steps_part silent l (told_part h.n t.unit)) (server_open (marked h.far) (tells h.n t.unit) (serving.sent h.service client_sap h.n.client_miu))
+        → IsShort (told_part h.n t.unit) × Moved before queue (steps_part silent l (told_part h.n t.unit)) (server_open (marked h.far) (tells h.n t.unit) (serving.sent h.service client_sap h.n.client_miu))
     told_moves t room = (
       tells_short limit table names conv job h.base h.far h.n h.service h.base_fair h.far_fair h.bound (laws_of h) h.phase h.paired h.holds h.job_is h.serves t,
-      subst (λ z. Moved before (steps_part silent z (told_part h.n t.unit)) (server_open (marked h.far) (tells h.n t.unit) (serving.sent h.service client_sap h.n.client_miu))) (sym h.l_is) (record {
+      subst (λ z. Moved before queue (steps_part silent z (told_part h.n t.unit)) (server_open (marked h.far) (tells h.n t.unit) (serving.sent h.service client_sap h.n.client_miu))) (sym h.l_is) (record {
         joined = joined_tells limit table names conv job h.base h.far h.n h.service h.base_fair h.far_fair h.bound (laws_of h) h.phase h.paired h.holds h.job_is h.serves t room;
+        queue_is = t.queue_is ∙ still;
         moved = inl (ap has_byte t.units_is ∙ byte_of (d.units_at h.phase) t.unit t.some);
       }),
     )
@@ -167,11 +170,12 @@ module _ (limit : ℕ) (table : List Offer) (names : List Bound) (conv : ℕ →
 
     acks_move : ((has_byte (d.units_at h.phase) ≡ true) ⊎ ((((h.n.asked_count + length h.n.asked) % count_end) == before) ≡ false))
         → IsShort (Rr client_sap server_sap ((h.n.asked_sa + length h.n.asked) % modulus))
-        × Moved before (steps_part silent l (Rr client_sap server_sap ((h.n.asked_sa + length h.n.asked) % modulus))) (server_open (marked h.far) (server_acks h.n) h.service)
+        × Moved before queue (steps_part silent l (Rr client_sap server_sap ((h.n.asked_sa + length h.n.asked) % modulus))) (server_open (marked h.far) (server_acks h.n) h.service)
     acks_move w = (
       server_ack_short limit table names conv job h.base h.far h.n h.service h.base_fair h.far_fair h.bound (laws_of h) h.phase h.paired h.holds h.job_is h.serves,
-      subst (λ z. Moved before (steps_part silent z (Rr client_sap server_sap ((h.n.asked_sa + length h.n.asked) % modulus))) (server_open (marked h.far) (server_acks h.n) h.service)) (sym h.l_is) (record {
+      subst (λ z. Moved before queue (steps_part silent z (Rr client_sap server_sap ((h.n.asked_sa + length h.n.asked) % modulus))) (server_open (marked h.far) (server_acks h.n) h.service)) (sym h.l_is) (record {
         joined = joined_server_acks limit table names conv job h.base h.far h.n h.service h.base_fair h.far_fair h.bound (laws_of h) h.phase h.paired h.holds h.job_is h.serves;
+        queue_is = still;
         moved = moved_so (d.units_at h.phase) (((h.n.asked_count + length h.n.asked) % count_end) == before) w;
       }),
     )
@@ -192,7 +196,7 @@ module _ (limit : ℕ) (table : List Offer) (names : List Bound) (conv : ℕ →
         (acks_move (inr (ap (λ z. ((h.n.asked_count + length h.n.asked) % count_end) == z) b ∙ other_count h.n.asked_count (length h.n.asked) k few)))
 
     abbrev Next : Option (Gave ServerState) → Type 0
-    Next o = HopSo serving silent (λ q e. Moved before e q) l o
+    Next o = HopSo serving silent (λ q e. Moved before queue e q) l o
 
     abbrev MovedSo : Type 0
     MovedSo = (has_byte (d.units_at h.phase) ≡ true) ⊎ ((h.n.asked ≡ []) × ((h.n.asked_count == before) ≡ false))
@@ -207,9 +211,10 @@ module _ (limit : ℕ) (table : List Offer) (names : List Bound) (conv : ℕ →
     next_back w (inr y) true e = subst Next (sym (gave_told y e)) (told_moves y e)
     next_back w (inr y) false e = rests_back (inr e) w h.n.asked refl
 
-  moved_hop : (before : ℕ) (p : PeerState) (l : EndState) → Moved before l p → HopSo serving silent (λ q e. Moved before e q) l (gave serving p)
-  moved_hop before p l x =
-      let h = x.joined in next_back before l p h x.moved ((laws_of h).tells h.phase h.holds h.service h.serves) _ refl
+  moved_hop : (before : ℕ) (queue : List (List ℕ)) (p : PeerState) (l : EndState) → Moved before queue l p
+      → HopSo serving silent (λ q e. Moved before queue e q) l (gave serving p)
+  moved_hop before queue p l x =
+      let h = x.joined in next_back before queue l p h x.queue_is x.moved ((laws_of h).tells h.phase h.holds h.service h.serves) _ refl
 
   joined_hop : (p : PeerState) (l : EndState) → J l p → HopSo serving silent (λ q e. J e q) l (gave serving p)
   joined_hop p l h =
@@ -221,6 +226,7 @@ module _ (limit : ℕ) (table : List Offer) (names : List Bound) (conv : ℕ →
   pub record Answered (before after : EndState) (q : PeerState) : Type 0 where
     pub joined : J after q
     pub gave_some : (gave_something (own_of before) (own_of after) || has_byte (units_of (own_of after))) ≡ true
+    pub waiting : has_waiting_of (own_of before) ≡ true → is_some (first_in ((conv joined.n.server_miu joined.n.client_miu).queue_at joined.phase)) ≡ true
 
   module _ (l : EndState) (p : PeerState) (k : ℕ) where
     abbrev after : EndState
@@ -234,12 +240,17 @@ module _ (limit : ℕ) (table : List Offer) (names : List Bound) (conv : ℕ →
         let h = x.joined in
         let r : l.readable ≡ true = ap (λ (z : EndState). z.readable) h.l_is in
         let s : p.readable ≡ true = ap (λ (z : PeerState). z.readable) h.p_is in
-        let m = handed_first serving silent (λ q e. Moved h.n.asked_count e q) (moved_hop h.n.asked_count) k p l s r
-        (first_back h.n.asked_count l p h refl x.told x.due ((laws_of h).tells h.phase h.holds h.service h.serves)) in
-        record { joined = m.joined; gave_some = seen h m }
+        let queue = (conv h.n.server_miu h.n.client_miu).queue_at h.phase in
+        let m = handed_first serving silent (λ q e. Moved h.n.asked_count queue e q) (moved_hop h.n.asked_count queue) k p l s r
+        (first_back h.n.asked_count queue l p h refl refl x.told x.due ((laws_of h).tells h.phase h.holds h.service h.serves)) in
+        record {
+          joined = m.joined;
+          gave_some = seen h queue m;
+          waiting = λ e. ap (λ z. is_some (first_in z)) m.queue_is ∙ sym (ap (λ z. has_waiting_of (own_of z)) h.l_is) ∙ e;
+        }
       where
-        seen : (h : J l p) (m : Moved h.n.asked_count after q_) → (gave_something (own_of l) (own_of after) || has_byte (units_of (own_of after))) ≡ true
-        seen h m =
+        seen : (h : J l p) (queue : List (List ℕ)) (m : Moved h.n.asked_count queue after q_) → (gave_something (own_of l) (own_of after) || has_byte (units_of (own_of after))) ≡ true
+        seen h queue m =
             let g = m.joined in
             let units = (conv g.n.server_miu g.n.client_miu).units_at g.phase in
             ap (λ z. gave_something (own_of z) (own_of after) || has_byte (units_of (own_of after))) h.l_is
@@ -259,6 +270,7 @@ module _ (limit : ℕ) (table : List Offer) (names : List Bound) (conv : ℕ →
           gave_some =
               ap (λ z. gave_something (own_of z) (own_of after) || has_byte (units_of (own_of after))) w.l_is
               ∙ ap (λ z. gave_something (own_of (awaiting w.base)) (own_of z) || has_byte (units_of (own_of z))) g.l_is;
+          waiting = λ e. (let none : false ≡ true = sym (ap (λ z. has_waiting_of (own_of z)) w.l_is) ∙ e in absurd cc);
         }
 
     pub answers : Presses l p → Answered l after q_

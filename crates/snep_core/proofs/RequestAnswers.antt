@@ -179,6 +179,7 @@ module _ (miu size limit : ℕ) (table : List Offer) (ask : Asked) (old : List R
     to = Came x.to;
     holds = x.holds;
     told = x.told;
+    apart = x.apart;
     queue_is = x.queue_is;
     units_is = x.units_is;
     session_is = x.session_is;
@@ -231,6 +232,7 @@ module _ (miu size limit : ℕ) (table : List Offer) (ask : Asked) (old : List R
       to = Rejected;
       holds = k;
       told = refused_by (rest_units miu limit table ask old later);
+      apart = λ w. absurd cc;
       queue_is = refl;
       units_is = refl;
       session_is = refl;
@@ -242,6 +244,7 @@ module _ (miu size limit : ℕ) (table : List Offer) (ask : Asked) (old : List R
           to = Sending (info_of first) [] rest;
           holds = (k.0, k.1, begun_info miu limit table ask old later w range read, tt, tt);
           told = continued_by rest k.1;
+          apart = λ w. absurd cc;
           queue_is = refl;
           units_is = refl;
           session_is = refl;

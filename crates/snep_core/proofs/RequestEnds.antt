@@ -7,11 +7,11 @@ use Rattle.snep_core.specs.declared.fault.SnepFault.{SnepFault}
 use Rattle.snep_core.specs.declared.job.Refusal.{Refusal}
 use Rattle.snep_core.specs.declared.job.Refusal.TheVariants as refusals
 use Rattle.snep_core.specs.Accord.{Accords, IsAnswered, IsPeer, PeerState}
-use Rattle.snep_core.specs.Calling.{RequestFails, Talks, fault_of, refused_by}
+use Rattle.snep_core.specs.Calling.{RequestFails, Talks, fault_of, gives_up, refused_by}
 use Rattle.snep_core.specs.Jobs.{Begins, Ending, Job, Over, Refused}
 use Rattle.snep_core.specs.Server.{Received}
 use Rattle.snep_core.specs.Session.{Offer, fresh_session}
-use Rattle.snep_core.specs.Talk.{EndState, Ends, GivesUp, OnSap, Step, alone, begun, behind_first, client_sap, connected}
+use Rattle.snep_core.specs.Talk.{EndState, Ends, OnSap, Step, alone, begun, behind_first, client_sap, connected}
 use Rattle.snep_core.proofs.Conversations.{Conversation}
 use Rattle.snep_core.proofs.Courses.{Course, breaks_off, came}
 use Rattle.snep_core.proofs.Ends.{accord_begins, accepted_is, accords_again, limit_is, names_are, request_course, table_is}
@@ -166,7 +166,7 @@ module _ {C A : Type 0} (seen : C → CarrierView) (swaps : C → List ℕ → L
 
   pub request_failed : (e : SnepFault) (new : EndState) (now : C) (after : A) → RequestFails seen swaps steps stops numbers from link far e new now after → Failed e new after
   request_failed e new now after (inl h) = inl (h.why, h.fault, request_ended (Refused h.why) new now after h.talks)
-  request_failed e new now after (inr (inl (f, t))) = absurd (came_to (GivesUp new) now after t)
+  request_failed e new now after (inr (inl (f, k, t))) = absurd (came_to (gives_up k new) now after t)
   request_failed e new now after (inr (inr b)) =
       let k = breaks_off (AddsSome ask peer_state read o) course seen swaps steps stops view peer numbers from link far e new now after begins_so b in
       inr (k.why, k.fault, k.added)

@@ -3,13 +3,14 @@ use Rattle.std.proofs.Common.{◌≡◌, ℕ, Bool, true, false, List, [], ◌�
 use Rattle.std.proofs.lemmas.List.{append_assoc}
 use Rattle.nfc_base.specs.Choosing.{first_number, later_numbers}
 use Rattle.nfc_base.specs.Links.{CarrierView, FarStep, Stepped, Stopped, FarMoved, SwapDone, Swapped, BySwaps, payload_of}
-use Rattle.llcp_link.specs.Asking.{forgotten}
+use Rattle.llcp_link.specs.Asking.{forgotten, has_waiting_of}
 use Rattle.llcp_link.specs.Giving.{given, after_giving}
+use Rattle.snep_core.specs.declared.job.Passed.{Passed}
 use Rattle.snep_core.specs.declared.job.Turn.{Turn}
 use Rattle.snep_core.specs.declared.job.Turn.TheVariants.{GaveUp}
 use Rattle.snep_core.specs.declared.fault.SnepFault.{SnepFault}
 use Rattle.snep_core.specs.declared.fault.SnepFault.TheVariants.{Memory}
-use Rattle.snep_core.specs.Calling.{Breaks, Exchanged, IsCut, Talks, Turned, last_of, payloads, step_of}
+use Rattle.snep_core.specs.Calling.{Breaks, Exchanged, IsCut, Talks, Turned, gives_up, last_of, payloads, step_of}
 use Rattle.snep_core.specs.Jobs.{Job, has_byte}
 use Rattle.snep_core.specs.Talk.{EndState, Ends, GivesUp, Goes, Ready, Step, Told, Working, alone, client_sap, emptied, gave_something, heard, heard_with, idle_after, numbers_behind, own_of, payload, ready, readied, ready_so, replied, replied_ready, settled, silent, told_by, took, units_of}
 
@@ -112,25 +113,28 @@ module _ (old mid new : EndState) (job now : Job) (idle : ℕ) where
   or_false true = refl
   or_false false = refl
 
-  pub took_none : heard mid client_sap now ≡ None → new ≡ forgotten mid client_sap → took old mid (alone now) idle ≡ step_of GaveUp new
+  pub took_none : heard (has_waiting_of (own_of old)) mid client_sap now ≡ None → new ≡ forgotten mid client_sap
+      → took old mid (alone now) idle ≡ step_of (GaveUp None) new
   took_none h e =
-      ap (λ o. told_by mid (alone now) (idle_after ((gave_something (own_of old) (own_of mid) || has_byte (units_of (own_of mid))) || false) idle)
+      ap (λ o. told_by mid (alone now) (record { sap = client_sap; job = o } ∷ [])
+      (idle_after ((gave_something (own_of old) (own_of mid) || has_byte (units_of (own_of mid))) || false) idle)
       (heard_with client_sap o (Some []))) h
-      ∙ ap GivesUp (sym e)
+      ∙ ap (gives_up None) (sym e)
 
-  pub took_some : (next : Job) (gave : Bool) → heard mid client_sap now ≡ Some next
+  pub took_some : (next : Job) (gave : Bool) → heard (has_waiting_of (own_of old)) mid client_sap now ≡ Some next
       → gave ≡ (gave_something (own_of old) (own_of mid) || has_byte (units_of (own_of mid)))
       → took old mid (alone now) idle ≡ settled (emptied mid client_sap) (alone next) (idle_after gave idle)
   took_some next gave h e =
-      ap (λ o. told_by mid (alone now) (idle_after ((gave_something (own_of old) (own_of mid) || has_byte (units_of (own_of mid))) || false) idle)
+      ap (λ o. told_by mid (alone now) (record { sap = client_sap; job = o } ∷ [])
+      (idle_after ((gave_something (own_of old) (own_of mid) || has_byte (units_of (own_of mid))) || false) idle)
       (heard_with client_sap o (Some []))) h
       ∙ ap (λ b. settled (emptied mid client_sap) (alone next) (idle_after b idle))
       (or_false (gave_something (own_of old) (own_of mid) || has_byte (units_of (own_of mid))) ∙ sym e)
 
 module _ {C A : Type 0} (seen : C → CarrierView) (swaps : C → List ℕ → List FarStep → C → Type 0) (steps : A → List ℕ → List ℕ → A → Type 0)
     (stops : A → List ℕ → A → Type 0) (link : C) (far : A) (over : C) (after : A) (l mid heard_end : EndState) (job now : Job) (idle : ℕ)
-    (r : readied l client_sap job ≡ ready_so mid now) (count : ℕ) (gave : Bool)
-    (x : Exchanged seen swaps steps stops count mid link far gave heard_end over after) where
+    (r : readied l client_sap job ≡ ready_so mid now) (count : ℕ) (passed : Passed)
+    (x : Exchanged seen swaps steps stops count mid link far passed heard_end over after) where
   abbrev working : Working
   working = record { llc = l; jobs = alone job; idle = idle }
 
@@ -146,19 +150,24 @@ module _ {C A : Type 0} (seen : C → CarrierView) (swaps : C → List ℕ → L
         ∙ ap (λ z. took (after_giving silent count mid) z (alone now) idle) (sym x.took) ∙ e;
   }
 
+  heard_where : (o : Option Job) → heard passed.waiting heard_end client_sap now ≡ o
+      → heard (has_waiting_of (own_of (after_giving silent count mid))) heard_end client_sap now ≡ o
+  heard_where o h = ap (λ b. heard b heard_end client_sap now) (sym x.waiting) ∙ h
+
   -- the far end was at fault
-  pub turned_none : (new : EndState) → heard heard_end client_sap now ≡ None → new ≡ forgotten heard_end client_sap
-      → Turned seen swaps steps stops count working link far GaveUp new over after
-  turned_none new h e = turned_by GaveUp new (took_none (after_giving silent count mid) heard_end new job now idle h e)
+  pub turned_none : (new : EndState) → heard passed.waiting heard_end client_sap now ≡ None → new ≡ forgotten heard_end client_sap
+      → Turned seen swaps steps stops count working link far (GaveUp None) new over after
+  turned_none new h e =
+      turned_by (GaveUp None) new (took_none (after_giving silent count mid) heard_end new job now idle (heard_where None h) e)
 
   -- its job came to this
-  pub turned_some : (turn : Turn) (new : EndState) (next : Job) (some : Bool) → heard heard_end client_sap now ≡ Some next
+  pub turned_some : (turn : Turn) (new : EndState) (next : Job) (some : Bool) → heard passed.waiting heard_end client_sap now ≡ Some next
       → some ≡ has_byte (units_of (own_of heard_end))
-      → settled (emptied heard_end client_sap) (alone next) (idle_after (gave || some) idle) ≡ step_of turn new
+      → settled (emptied heard_end client_sap) (alone next) (idle_after (passed.gave || some) idle) ≡ step_of turn new
       → Turned seen swaps steps stops count working link far turn new over after
   turned_some turn new next some h s e =
       turned_by turn new
-      (took_some (after_giving silent count mid) heard_end new job now idle next (gave || some) h
+      (took_some (after_giving silent count mid) heard_end new job now idle next (passed.gave || some) (heard_where (Some next) h)
       (ap (λ b. b || some) x.something ∙ ap (λ b. gave_something (own_of (after_giving silent count mid)) (own_of heard_end) || b) s) ∙ e)
 
   -- it was answered, and memory was wanting as the reply was read

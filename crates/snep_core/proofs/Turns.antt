@@ -1,5 +1,7 @@
 -- A call over a peer, turn by turn, from its begin to its end.
-use Rattle.std.proofs.Common.{◌≡◌, ◌⊎◌, ℕ, ◌&&◌, ◌||◌, not, Bool, true, false, List, [], length, Option, Some, None, refl, sym, ◌∙◌, ap, subst, inl, inr, if◌then◌else◌}
+use Rattle.std.proofs.Common.{is_some, ◌≡◌, ◌⊎◌, ℕ, ◌&&◌, ◌||◌, not, Bool, true, false, List, [], length, Option, Some, None, refl, sym, ◌∙◌, ap, subst, inl, inr, if◌then◌else◌}
+use Rattle.llcp_conn.specs.Conn.{first}
+use Rattle.llcp_link.specs.Asking.{has_waiting_of}
 use Rattle.llcp_link.specs.Taking.{taken_from}
 use Rattle.llcp_link.specs.Giving.{after_giving, given}
 use Rattle.llcp_link.proofs.Ranged.{either}
@@ -10,7 +12,7 @@ use Rattle.snep_core.specs.Server.{Received, serving}
 use Rattle.snep_core.specs.Session.{Offer}
 use Rattle.snep_core.specs.Talk.{EndState, Ends, GivesUp, Goes, Ready, Step, Working, all_over, alone, client_sap, emptied, finished, gave_something, heard, heard_so, idle_after, is_over, needs, own_of, payload, readied, replied, settled, silent, units_of}
 use Rattle.snep_core.proofs.Carrying.{Handed, handed}
-use Rattle.snep_core.proofs.Conversations.{Conversation}
+use Rattle.snep_core.proofs.Conversations.{Conversation, told_apart}
 use Rattle.snep_core.proofs.Meets.{Joined}
 use Rattle.snep_core.proofs.Pressing.{Answered, IsReady, Presses, answers, asks_presses_all, awaits_presses, ready_presses}
 use Rattle.snep_core.proofs.Opening.{Asks, Awaits, Keeps, Meeting, asking, asks_again, awaiting, awaits_again, hops, hops_back, joined_client}
@@ -96,25 +98,26 @@ module _ (limit : ℕ) (table : List Offer) (names : List Bound) (conv : ℕ →
   rested_meets (inr (inr h)) = inr (inr h.joined)
 
   -- What was heard is taken up.
-  record HearsMore (job : Job) (p : PeerState) (l : EndState) : Type 0 where
+  record HearsMore (waiting : Bool) (job : Job) (p : PeerState) (l : EndState) : Type 0 where
     pub next : Job
-    pub heard_is : heard l client_sap job ≡ Some next
+    pub heard_is : heard waiting l client_sap job ≡ Some next
     pub rested : IsRested next (emptied l client_sap) p
 
-  joined_hears : {job : Job} → {l : EndState} → {p : PeerState} → (h : Joined limit table names conv job l p) → HearsMore job p l
-  joined_hears {job} {l} {p} h =
+  joined_hears : {job : Job} → {l : EndState} → {p : PeerState} → (waiting : Bool) (h : Joined limit table names conv job l p)
+      → (waiting ≡ true → is_some (first ((conv h.n.server_miu h.n.client_miu).queue_at h.phase)) ≡ true) → HearsMore waiting job p l
+  joined_hears {job} {l} {p} waiting h w =
       let c = conv h.n.server_miu h.n.client_miu in
       let laws = keeps.laws h.n.server_miu h.n.client_miu h.paired.server_miu h.paired.client_miu in
       let x = laws.hears h.phase h.holds in
       let now = c.job_at x.to in
       let left = client_open h.base h.n (c.queue_at h.phase) [] in
-      let here : heard (joined_client limit table names conv most bytes old h) client_sap (c.job_at h.phase) ≡ Some now =
-      ap (heard_so left client_sap) x.told
+      let here : heard waiting (joined_client limit table names conv most bytes old h) client_sap (c.job_at h.phase) ≡ Some now =
+      ap (heard_so left client_sap) (told_apart waiting (c.job_at h.phase) (c.units_at h.phase) (Some now) x.told (λ e. x.apart (w e)))
       ∙ ap (λ b. if b then None else Some (finished left client_sap now)) (lost_not (needs now))
       ∙ ap Some (laws.plain x.to left) in
-      subst (HearsMore job p) (sym h.l_is) (record {
+      subst (HearsMore waiting job p) (sym h.l_is) (record {
         next = now;
-        heard_is = ap (heard (joined_client limit table names conv most bytes old h) client_sap) h.job_is ∙ here;
+        heard_is = ap (heard waiting (joined_client limit table names conv most bytes old h) client_sap) h.job_is ∙ here;
         rested = record {
           joined = record {
             base = h.base;
@@ -218,7 +221,7 @@ module _ (limit : ℕ) (table : List Offer) (names : List Bound) (conv : ℕ →
         (subst (λ z. Answered limit table names conv most bytes old keeps r.job mid (taken_from silent mid (given serving s.count there)) z) (sym s.left)
         (answers limit table names conv most bytes old keeps r.job mid there s.count out)) in
         let end_ = taken_from silent mid reply in
-        let x = joined_hears back.joined in
+        let x = joined_hears (has_waiting_of (own_of mid)) back.joined back.waiting in
         let gave = gave_something (own_of mid) (own_of end_) || has_byte (units_of (own_of end_)) in
         subst (λ z. StepSo z q) (sym (took_some mid end_ end_ job r.job idle x.next gave x.heard_is refl
         ∙ ap (λ b. settled (emptied end_ client_sap) (alone x.next) (idle_after b idle)) back.gave_some))

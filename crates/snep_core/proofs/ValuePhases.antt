@@ -299,6 +299,7 @@ module _ (limit counts most : ℕ) (v : List ℕ) (old : List Received) (size : 
             to = Got;
             holds = (k, tt);
             told = ap (λ o. told_on o []) (first_told ∙ value_is_whole (length v) (info_of first) (Asks (length v) (info_of first)) (ap length whole) ∙ ap (λ z. Some (Over (Value z))) whole);
+            apart = λ w. absurd cc;
             queue_is = refl;
             units_is = refl;
             session_is = ap keeping (sym e);
@@ -313,6 +314,7 @@ module _ (limit counts most : ℕ) (v : List ℕ) (old : List Received) (size : 
             to = Asking;
             holds = (k, some);
             told = ap (λ o. told_on o []) (first_told ∙ on);
+            apart = λ w. absurd cc;
             queue_is = refl;
             units_is = refl;
             session_is = refl;
@@ -326,6 +328,7 @@ module _ (limit counts most : ℕ) (v : List ℕ) (old : List Received) (size : 
             to = Got;
             holds = (k, tt);
             told = collects_all (length v) us u have w.each.1 (ap length whole) ∙ ap (λ z. Some (Over (Value z))) whole;
+            apart = λ w. absurd cc;
             queue_is = refl;
             units_is = refl;
             session_is = refl;
@@ -337,6 +340,7 @@ module _ (limit counts most : ℕ) (v : List ℕ) (old : List Received) (size : 
             to = Collecting (have ++ concat units) [] (b ∷ bs);
             holds = (k, record { all = same; some = omega arith; each = tt });
             told = collects_on (length v) units have short;
+            apart = λ w. absurd cc;
             queue_is = refl;
             units_is = refl;
             session_is = refl;

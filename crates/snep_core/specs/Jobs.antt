@@ -78,6 +78,12 @@ told_on (Some job) (u ∷ us) = told_on (told job u) us
 abbrev pub told_all : Job → List (List ℕ) → Option Job
 told_all job units = told_on (Some job) units
 
+-- What a job comes to by units, where one of this end's waited to be given as they came, or none did. While one waits, each that
+-- comes is a fault: it answers what its sender doesn't have.
+abbrev pub told_in : Bool → Job → List (List ℕ) → Option Job
+told_in waiting job [] = Some job
+told_in waiting job (u ∷ us) = if waiting then None else told_all job (u ∷ us)
+
 -- one of them has a byte
 abbrev pub has_byte : List (List ℕ) → Bool
 has_byte [] = false

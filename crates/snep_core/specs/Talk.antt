@@ -10,13 +10,13 @@ use Rattle.llcp_link.specs.Names.{own_params}
 use Rattle.llcp_link.specs.State.{LlcState, OwnState, own_from, with_own}
 use Rattle.llcp_link.specs.declared.standing.Standing.{Standing}
 use Rattle.llcp_link.specs.declared.standing.Standing.TheVariants as stands
-use Rattle.llcp_link.specs.Asking.{acked_of, asked_from, disconnected_by, forgotten, found_in, is_busy_by, is_open_by, looked_up, put_own, refusal_of, request, standing_of, submitted_by}
+use Rattle.llcp_link.specs.Asking.{acked_of, asked_from, disconnected_by, forgotten, found_in, has_waiting_of, is_busy_by, is_open_by, looked_up, put_own, refusal_of, request, standing_of, submitted_by}
 use Rattle.llcp_link.specs.Taking.{taken_from}
 use Rattle.llcp_link.specs.Giving.{given, after_giving}
 use Rattle.snep_core.specs.declared.silent.NoService.{NoService}
 use Rattle.snep_core.specs.declared.client.Stands.{Stands}
 use Rattle.snep_core.specs.Message.{continue_code, four_bytes, get_code, message_of_code, put_code}
-use Rattle.snep_core.specs.Jobs.{Job, Begins, Waits, Sends, Asks, Collects, Looks, Closes, Over, Done, Sap, told_all, has_byte}
+use Rattle.snep_core.specs.Jobs.{Job, Begins, Waits, Sends, Asks, Collects, Looks, Closes, Over, Done, Sap, told_in, has_byte}
 
 -- a service with nothing to send
 abbrev pub silent : Serving NoService
@@ -71,11 +71,21 @@ saps (x ∷ xs) = x.sap ∷ saps xs
 abbrev pub AreApart : List OnSap → Type 0
 AreApart jobs = IsDistinct eqb (saps jobs)
 
+-- what the job on the connection from a SAP came to by a reply; none where the far end is at fault there
+pub record CameTo : Type 0 where
+  pub sap : ℕ
+  pub job : Option Job
+
+-- A far end that is given up: what each job came to by its last reply, and the end, which has no connection of theirs any more.
+pub record GivenUp : Type 0 where
+  pub came : List CameTo
+  pub llc : EndState
+
 -- a call goes on; all its jobs are over; or the far end is given up
 pub data Step : Type 0 where
   Goes : Working → Step
   Ends : List OnSap → EndState → Step
-  GivesUp : EndState → Step
+  GivesUp : GivenUp → Step
 
 -- one job alone
 abbrev pub alone : Job → List OnSap
@@ -246,17 +256,28 @@ abbrev pub heard_so : EndState → ℕ → Option Job → Option Job
 heard_so l sap None = None
 heard_so l sap (Some job) = if is_lost l sap job then None else Some (finished l sap job)
 
-abbrev pub heard : EndState → ℕ → Job → Option Job
-heard l sap job = heard_so (emptied l sap) sap (told_all job (units_of (own_from sap l.own)))
+-- by the units of a reply, which came while one of this end's waited to be given, or while none did
+abbrev pub heard : Bool → EndState → ℕ → Job → Option Job
+heard waiting l sap job = heard_so (emptied l sap) sap (told_in waiting job (units_of (own_from sap l.own)))
 
--- all jobs
+-- what each job comes to, from an end that gave its payload to the same once it took the reply
+abbrev pub all_heard : EndState → EndState → List OnSap → List CameTo
+all_heard old l [] = []
+all_heard old l (x ∷ xs) =
+    record { sap = x.sap; job = heard (has_waiting_of (own_from x.sap old.own)) l x.sap x.job } ∷ all_heard old l xs
+
+-- all jobs, unless the far end is at fault at one of them
 abbrev pub heard_with : ℕ → Option Job → Option (List OnSap) → Option (List OnSap)
 heard_with sap (Some job) (Some more) = Some (record { sap = sap; job = job } ∷ more)
 heard_with sap _ _ = None
 
-abbrev pub all_heard : EndState → List OnSap → Option (List OnSap)
-all_heard l [] = Some []
-all_heard l (x ∷ xs) = heard_with x.sap (heard l x.sap x.job) (all_heard l xs)
+abbrev pub all_well : List CameTo → Option (List OnSap)
+all_well [] = Some []
+all_well (x ∷ xs) = heard_with x.sap x.job (all_well xs)
+
+abbrev pub as_they_came : List OnSap → List CameTo
+as_they_came [] = []
+as_they_came (x ∷ xs) = record { sap = x.sap; job = Some x.job } ∷ as_they_came xs
 
 abbrev pub all_emptied : List OnSap → EndState → EndState
 all_emptied [] l = l
@@ -285,22 +306,23 @@ abbrev pub all_forgotten : List OnSap → EndState → EndState
 all_forgotten [] l = l
 all_forgotten (x ∷ xs) l = all_forgotten xs (forgotten l x.sap)
 
-abbrev pub given_up : EndState → List OnSap → Step
-given_up l jobs = GivesUp (all_forgotten jobs l)
+abbrev pub given_up : EndState → List OnSap → List CameTo → Step
+given_up l jobs came = GivesUp (record { came = came; llc = all_forgotten jobs l })
 
 abbrev pub goes_on : EndState → List OnSap → ℕ → Step
-goes_on l jobs idle = if nat_lt idle most_idle then Goes (record { llc = l; jobs = jobs; idle = idle }) else given_up l jobs
+goes_on l jobs idle = if nat_lt idle most_idle then Goes (record { llc = l; jobs = jobs; idle = idle }) else given_up l jobs (as_they_came jobs)
 
 abbrev pub settled : EndState → List OnSap → ℕ → Step
 settled l jobs idle = if all_over jobs then Ends jobs l else goes_on l jobs idle
 
-abbrev pub told_by : EndState → List OnSap → ℕ → Option (List OnSap) → Step
-told_by l jobs idle None = given_up l jobs
-told_by l jobs idle (Some now) = settled (all_emptied jobs l) now idle
+abbrev pub told_by : EndState → List OnSap → List CameTo → ℕ → Option (List OnSap) → Step
+told_by l jobs came idle None = given_up l jobs came
+told_by l jobs came idle (Some now) = settled (all_emptied jobs l) now idle
 
 -- what a call is once its end gave a payload and took the reply
 abbrev pub took : EndState → EndState → List OnSap → ℕ → Step
-took old l jobs idle = told_by l jobs (idle_after (gave_any old l jobs) idle) (all_heard l jobs)
+took old l jobs idle =
+    told_by l jobs (all_heard old l jobs) (idle_after (gave_any old l jobs) idle) (all_well (all_heard old l jobs))
 
 -- What a call is once its payload, with so many PDUs in it, was answered.
 abbrev pub replied_ready : ℕ → Working → List ℕ → Step

@@ -78,4 +78,4 @@ Serves aim (Over e) = IsOf aim e
 abbrev pub TurnServes : Aim → Turn → Type 0
 TurnServes aim (Ended e) = IsOf aim e
 TurnServes aim (Went job idle) = Serves aim job
-TurnServes aim GaveUp = Unit {0}
+TurnServes aim (GaveUp came) = Unit {0}

@@ -67,11 +67,19 @@ pub struct Heard {
     pub(crate) some: bool,
 }
 
+/// What an exchange showed on the connection: whether its reply gave something, and whether a unit of the client waited to be
+/// given as it came.
+#[derive(Clone, Copy, Debug)]
+pub struct Passed {
+    pub(crate) gave: bool,
+    pub(crate) waiting: bool,
+}
+
 /// What a call is behind an exchange: at its end; going on after so many replies that gave nothing; or the far end is given
-/// up.
+/// up, with what the job came to, if it wasn't at fault there.
 #[derive(Debug, Drop)]
 pub enum Turn {
     Ended(Ending),
     Went(Job, u8),
-    GaveUp,
+    GaveUp(Option<Job>),
 }

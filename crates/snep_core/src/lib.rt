@@ -29,16 +29,3 @@ pub use law::{
 };
 pub use server::{SNEP_NAME, SNEP_SAP, Server};
 pub use silent::NoService;
-
-#[cfg(test)]
-mod client_tests;
-#[cfg(test)]
-mod get_tests;
-#[cfg(test)]
-mod link_tests;
-#[cfg(test)]
-mod put_tests;
-#[cfg(test)]
-mod stranger_tests;
-#[cfg(test)]
-mod tests;

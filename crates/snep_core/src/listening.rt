@@ -36,9 +36,10 @@ fn gives_more(some: bool, bytes: &[u8]) -> bool
 }
 
 impl Client {
-    /// The units that were handed up, each taken away. None where one of them puts the far end at fault.
-    fn hear_units(&mut self, first: Job) -> Result<Option<Heard>, SnepFault>
-        ensures ok { IfOk result (λ heard. HearsUnits self.old.llc first heard self.new.llc) }
+    /// The units that were handed up, each taken away. None where one of them puts the far end at fault, or comes while one
+    /// of this end's waits to be given.
+    fn hear_units(&mut self, first: Job, waiting: bool) -> Result<Option<Heard>, SnepFault>
+        ensures ok { IfOk result (λ heard. HearsUnits waiting self.old.llc first heard self.new.llc) }
         ensures going { OnOk result (self.new.spent ≡ self.old.spent) }
         ensures err { IfErr result (λ e. e ≡ SnepFault.Memory) }
         ensures spent { IfErr result (λ e. self.new.spent ≡ true) }
@@ -46,6 +47,9 @@ impl Client {
         let mut job = first;
         let mut some = false;
         'units: while let Some(unit) = self.llc.unit(CLIENT_SAP) {
+            if waiting {
+                return Ok(None);
+            }
             let bytes = unit.as_slice();
             some = gives_more(some, bytes);
             match hear_unit(self.alloc, job, bytes) {
@@ -93,14 +97,15 @@ impl Client {
         }
     }
 
-    /// What was heard makes of its job. None where the far end is at fault: the connection is forgotten.
-    pub(crate) fn hear(&mut self, job: Job) -> Result<Option<Heard>, SnepFault>
-        ensures ok { IfOk result (λ heard. Hears self.old.llc job heard self.new.llc) }
+    /// What was heard makes of its job, where a unit of this end waits to be given or none does. None where the far end is at
+    /// fault: the connection is forgotten.
+    pub(crate) fn hear(&mut self, job: Job, waiting: bool) -> Result<Option<Heard>, SnepFault>
+        ensures ok { IfOk result (λ heard. Hears waiting self.old.llc job heard self.new.llc) }
         ensures going { OnOk result (self.new.spent ≡ self.old.spent) }
         ensures err { IfErr result (λ e. e ≡ SnepFault.Memory) }
         ensures spent { IfErr result (λ e. self.new.spent ≡ true) }
     {
-        let heard = match self.hear_units(job) {
+        let heard = match self.hear_units(job, waiting) {
             Err(fault) => return Err(fault),
             Ok(heard) => heard,
         };

@@ -9,7 +9,7 @@ ghost use Rattle.snep_core.specs.declared.fault.SnepFault.{SnepFault};
 
 use crate::client::{CLIENT_SAP, Client, gave_between};
 use crate::fault::SnepFault;
-use crate::job::{Ending, Job, Turn};
+use crate::job::{Ending, Job, Passed, Turn};
 use llcp_link::Counts;
 use nfc_base::{Answerer, Carrier, EndCause};
 
@@ -32,20 +32,19 @@ impl Client {
         }
     }
 
-    /// One exchange: the next payload goes out, with so many PDUs, and its reply is taken. Whether that gave something
-    /// on the connection.
+    /// One exchange: the next payload goes out, with so many PDUs, and its reply is taken.
     fn exchange<C: Carrier, A: Answerer>(
         &mut self,
         carrier: &mut C,
         far: &mut A,
         count: u32,
-    ) -> Result<bool, SnepFault>
+    ) -> Result<Passed, SnepFault>
         requires ready { C.ready carrier.old }
         requires going { self.old.spent ≡ false }
-        ensures ok { IfOk result (λ gave.
-            Exchanged C.seen C.swaps A.steps A.stops count self.old.llc carrier.old far.old gave
+        ensures ok { IfOk result (λ passed.
+            Exchanged C.seen C.swaps A.steps A.stops count self.old.llc carrier.old far.old passed
             self.new.llc carrier.new far.new) }
-        ensures falls { IfOk result (λ gave. Lessens gave (own_of self.old.llc) (own_of self.new.llc)) }
+        ensures falls { IfOk result (λ passed. Lessens passed.gave (own_of self.old.llc) (own_of self.new.llc)) }
         ensures going { OnOk result (self.new.spent ≡ false) }
         ensures err { IfErr result (λ e.
             IsCut C.seen C.swaps A.steps A.stops count self.old.llc carrier.old far.old e self.new.llc
@@ -59,13 +58,17 @@ impl Client {
             return Err(self.spend());
         }
         let before = self.stands();
+        let waiting = self.llc.has_waiting(CLIENT_SAP);
         match carrier.swap(self.alloc, &out, far) {
             Err(end) => Err(self.ended(end.cause)),
             Ok(reply) => {
                 if self.llc.take(&reply).is_err() {
                     return Err(self.spend());
                 }
-                Ok(gave_between(before, self.stands()))
+                Ok(Passed {
+                    gave: gave_between(before, self.stands()),
+                    waiting,
+                })
             }
         }
     }
@@ -86,7 +89,7 @@ impl Client {
                     return Turn::Went(other, next);
                 }
                 self.llc.forget(CLIENT_SAP);
-                Turn::GaveUp
+                Turn::GaveUp(Some(other))
             }
         }
     }
@@ -119,14 +122,14 @@ impl Client {
             Err(fault) => return Err(fault),
             Ok(now) => now,
         };
-        let gave = match self.exchange(carrier, far, count) {
+        let passed = match self.exchange(carrier, far, count) {
             Err(fault) => return Err(fault),
-            Ok(gave) => gave,
+            Ok(passed) => passed,
         };
-        match self.hear(now) {
+        match self.hear(now, passed.waiting) {
             Err(fault) => Err(fault),
-            Ok(None) => Ok(Turn::GaveUp),
-            Ok(Some(heard)) => Ok(self.settle(heard.job, gave, heard.some, idle)),
+            Ok(None) => Ok(Turn::GaveUp(None)),
+            Ok(Some(heard)) => Ok(self.settle(heard.job, passed.gave, heard.some, idle)),
         }
     }
 
@@ -157,7 +160,7 @@ impl Client {
             match self.turn(carrier, far, left.next(), job, idle) {
                 Err(fault) => return Err(fault),
                 Ok(Turn::Ended(ending)) => return Ok(ending),
-                Ok(Turn::GaveUp) => return Err(SnepFault::BadPeer),
+                Ok(Turn::GaveUp(_came)) => return Err(SnepFault::BadPeer),
                 Ok(Turn::Went(next, replies)) => {
                     job = next;
                     idle = replies;

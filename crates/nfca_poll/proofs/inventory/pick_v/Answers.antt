@@ -1,6 +1,7 @@
 use Rattle.std.proofs.Common.{◌≡◌, ℕ, ◌<◌, ◌+◌, true, false, Some, Result, Ok, Err, inl, inr, refl, sym, ◌∙◌, ap, subst, arith, ◌≤◌}
 use Rattle.std.proofs.lemmas.Grind.{common_steps}
 use Rattle.nfca_poll.specs.declared.fault.PollFault.{PollFault}
+use Rattle.nfca_poll.specs.declared.fault.PollFault.TheVariants as faults
 use Rattle.nfca_poll.specs.Enquiry.{Enquires, LosesByBreak}
 use Rattle.nfca_poll.specs.Inventory.{Inventory, picking_v, inventory_of, Tries, is_present, pick_step, pick_ended}
 use Rattle.nfc_base.specs.Signal.{Signal}
@@ -10,7 +11,8 @@ use Rattle.nfca_poll.specs.Muted.{mute_air}
 use Rattle.nfca_poll.proofs.Steady.{well_heard, vain_start, vain_turn, far_missed}
 use Rattle.nfca_poll.proofs.Enquiring.{Reached, reached_start, reached_turn, enquires_err, enquires_end}
 use Rattle.nfca_poll.proofs.LostField.{lost_err}
-use Rattle.nfca_poll.proofs.Inventories.{asks_again, pick_again, pick_present, pick_strange, not_true}
+use Rattle.nfca_poll.proofs.Inventories.{asks_again, pick_again, pick_present, pick_strange, pick_over, not_true}
+use Rattle.nfca_poll.proofs.TellingPickedV.{tells_picked_v}
 use Rattle.nfca_poll.proofs.inventory.pick_v.Goals as goal
 
 pub returns-in_err-answer-clause-turns : goal.returns-in_err-answer-clause-turns
@@ -107,3 +109,22 @@ returns-in-None-clause-cause g c lit s =
           (subst T c.inventory_req_of-request.ensures c.in_ok-answer.ensures.0) c.in-Whole.is s well in
           cc;
     }
+
+pub returns-in_err-answer-clause-told : goal.returns-in_err-answer-clause-told
+returns-in_err-answer-clause-told g c lit = tells_picked_v c.args.id g.L.Listener.machine c.args.field.now c.ask.new.field _ (returns-in_err-answer-clause-turns g c lit)
+
+pub returns-in-Some-clause-told : goal.returns-in-Some-clause-told
+returns-in-Some-clause-told g c lit = tells_picked_v c.args.id g.L.Listener.machine c.args.field.now c.ask.new.field _ (returns-in-Some-clause-turns g c lit)
+
+pub returns-in-None-clause-told : goal.returns-in-None-clause-told
+returns-in-None-clause-told g c lit = tells_picked_v c.args.id g.L.Listener.machine c.args.field.now c.ask.new.field _ (returns-in-None-clause-turns g c lit)
+
+pub returns-in-Collided-clause-told : goal.returns-in-Collided-clause-told
+returns-in-Collided-clause-told g c lit = tells_picked_v c.args.id g.L.Listener.machine c.args.field.now c.ask.new.field _ (returns-in-Collided-clause-turns g c lit)
+
+pub returns-clause-turns : goal.returns-clause-turns
+returns-clause-turns g c lit =
+    enquires_end (picking_v c.args.id) g.L.Listener.machine c.args.field.now c.loop.field (Tries c.loop.counter false) (Err faults.NotFound) c.loop.invariant.so_far (pick_over c.loop.counter false (omega arith))
+
+pub returns-clause-told : goal.returns-clause-told
+returns-clause-told g c lit = tells_picked_v c.args.id g.L.Listener.machine c.args.field.now c.loop.field _ (returns-clause-turns g c lit)

@@ -12,6 +12,7 @@ use Rattle.nfca_poll.proofs.Enquiring.{Reached, reached_start, enquires_end}
 use Rattle.nfca_poll.proofs.RoundCalls.{round_begins, round_came, round_failed, given_up}
 use Rattle.nfca_poll.proofs.TellingRounds.{tells_found}
 use Rattle.nfca_poll.proofs.FoundCrowd.{finds_crowd}
+use Rattle.nfca_poll.proofs.GivenUp.{find_given_up}
 use Rattle.nfca_poll.proofs.CallEnds.{find_lit, find_lost, find_rounds, find_other}
 use Rattle.nfca_poll.proofs.rounds.find_all.Goals as goal
 
@@ -101,3 +102,12 @@ returns-in-Nobody-clause-told g c = tells_found g.L.Listener.machine c.args.fiel
 
 pub returns-clause-told : goal.returns-clause-told
 returns-clause-told g c = tells_found g.L.Listener.machine c.args.field.now c.loop.field (Err faults.Disturbed) (returns-clause-turns g c)
+
+pub returns-in_err-found-clause-disturbed : goal.returns-in_err-found-clause-disturbed
+returns-in_err-found-clause-disturbed g c = find_given_up g.L.Listener.machine c.args.field.now c.round.new.field (listed c.from_residual.result) (returns-in_err-found-clause-turns g c)
+
+pub returns-in-Nobody-clause-disturbed : goal.returns-in-Nobody-clause-disturbed
+returns-in-Nobody-clause-disturbed g c = find_given_up g.L.Listener.machine c.args.field.now c.round.new.field (Ok c.into_vec.result.items) (returns-in-Nobody-clause-turns g c)
+
+pub returns-clause-disturbed : goal.returns-clause-disturbed
+returns-clause-disturbed g c = find_given_up g.L.Listener.machine c.args.field.now c.loop.field (Err faults.Disturbed) (returns-clause-turns g c)

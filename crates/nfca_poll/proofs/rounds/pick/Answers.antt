@@ -12,6 +12,7 @@ use Rattle.nfca_poll.proofs.Enquiring.{Reached, reached_start, enquires_end}
 use Rattle.nfca_poll.proofs.RoundCalls.{round_begins, round_came, round_failed}
 use Rattle.nfca_poll.proofs.TellingRounds.{tells_picked}
 use Rattle.nfca_poll.proofs.FoundCrowd.{selects_alone}
+use Rattle.nfca_poll.proofs.GivenUp.{pick_given_up}
 use Rattle.nfca_poll.proofs.CallEnds.{pick_lit, pick_lost, pick_rounds, pick_other}
 use Rattle.nfca_poll.proofs.rounds.pick.Goals as goal
 
@@ -128,3 +129,15 @@ returns-in-Selected-clause-told g c = tells_picked g.L.Listener.machine c.args.i
 
 pub returns-clause-told : goal.returns-clause-told
 returns-clause-told g c = tells_picked g.L.Listener.machine c.args.id.now c.args.field.now c.loop.field (Err faults.Disturbed) (returns-clause-turns g c)
+
+pub returns-in_err-round-clause-disturbed : goal.returns-in_err-round-clause-disturbed
+returns-in_err-round-clause-disturbed g c = pick_given_up g.L.Listener.machine c.args.id.now c.args.field.now c.round.new.field c.from_residual.result (returns-in_err-round-clause-turns g c)
+
+pub returns-in-Nobody-clause-disturbed : goal.returns-in-Nobody-clause-disturbed
+returns-in-Nobody-clause-disturbed g c = pick_given_up g.L.Listener.machine c.args.id.now c.args.field.now c.round.new.field (Err faults.NotFound) (returns-in-Nobody-clause-turns g c)
+
+pub returns-in-Selected-clause-disturbed : goal.returns-in-Selected-clause-disturbed
+returns-in-Selected-clause-disturbed g c = pick_given_up g.L.Listener.machine c.args.id.now c.args.field.now c.round.new.field (Ok c.in-Selected.kind) (returns-in-Selected-clause-turns g c)
+
+pub returns-clause-disturbed : goal.returns-clause-disturbed
+returns-clause-disturbed g c = pick_given_up g.L.Listener.machine c.args.id.now c.args.field.now c.loop.field (Err faults.Disturbed) (returns-clause-turns g c)

@@ -59,12 +59,13 @@ returns-in-Ok-GaveUp-clause-err g c =
     c.turn.new.carrier c.turn.new.far) c.in-Ok-GaveUp.field-0-is c.in-Ok-GaveUp.ensures.ok in
     let counted =
     subst (λ (n : ℕ). Turned g.C.Carrier.seen g.C.Carrier.swaps g.A.Answerer.steps g.A.Answerer.stops n w c.turns.carrier c.turns.far
-    GaveUp new c.turn.new.carrier c.turn.new.far) c.next.ensures.first turned in
+    (GaveUp c.in-Ok-GaveUp._came) new c.turn.new.carrier c.turn.new.far) c.next.ensures.first turned in
     inl (
       refl,
+      c.in-Ok-GaveUp._came,
       (talks_on g.C.Carrier.seen g.C.Carrier.swaps g.A.Answerer.steps g.A.Answerer.stops c.args.counts
           (begun c.args.self.now.llc c.args.first) c.args.carrier.now c.args.far.now c.turns.left w c.turns.carrier c.turns.far
-          c.turns.invariant.talks GaveUp new c.turn.new.carrier c.turn.new.far counted).talks,
+          c.turns.invariant.talks (GaveUp c.in-Ok-GaveUp._came) new c.turn.new.carrier c.turn.new.far counted).talks,
     )
 
 pub turns-preserved : goal.turns-preserved

@@ -2,7 +2,7 @@ use Rattle.std.proofs.Common.{rules, ◌≡◌, ◌<◌, ap, ◌∙◌, subst, s
 use Rattle.llcp_link.specs.Answering.{Gives}
 use Rattle.llcp_link.specs.Taking.{taken_from}
 use Rattle.snep_core.specs.Talk.{gave_something, own_of, silent}
-use Rattle.llcp_link.specs.Asking.{acked_of}
+use Rattle.llcp_link.specs.Asking.{acked_of, has_waiting_of}
 use Rattle.snep_core.proofs.Falling.{exchange_falls}
 use Rattle.snep_core.proofs.Cutting.{cut_failed, cut_unread, exchanged}
 use Rattle.snep_core.proofs.client.Client.exchange.Goals as goal
@@ -35,9 +35,11 @@ returns-clause-ok g c =
     let read : c.take.new.self ≡ taken_from silent c.give.new.self c.in-Ok.reply.items =
     took ∙ ap (taken_from silent c.give.new.self) c.deref-in-Ok.ensures.value in
     let gave : c.gave_between.result ≡ gave_something (own_of c.give.new.self) (own_of c.take.new.self) = search rules in
+    let waiting : c.has_waiting-waiting.result ≡ has_waiting_of (own_of c.give.new.self) = search rules in
     exchanged g.C.Carrier.seen g.C.Carrier.swaps g.A.Answerer.steps g.A.Answerer.stops c.args.carrier.now c.args.far.now c.swap.new.self
-    c.swap.new.far c.args.self.now.llc c.give.new.self c.args.count c.deref.result.now sent c.in-Ok.reply.items c.gave_between.result c.take.new.self
-    c.in-Ok.ensures.ok c.in-Ok.ensures.swapped read gave
+    c.swap.new.far c.args.self.now.llc c.give.new.self c.args.count c.deref.result.now sent c.in-Ok.reply.items
+    (record { gave = c.gave_between.result; waiting = c.has_waiting-waiting.result }) c.take.new.self
+    c.in-Ok.ensures.ok c.in-Ok.ensures.swapped read gave waiting
 
 pub returns-clause-falls : goal.returns-clause-falls
 returns-clause-falls g c =

@@ -9,7 +9,7 @@ use Rattle.snep_core.proofs.client.Client.hear.Goals as goal
 pub returns-then-is_lost-clause-ok : goal.returns-then-is_lost-clause-ok
 returns-then-is_lost-clause-ok c =
     let h =
-    subst (λ (o : Option Heard). HearsUnits c.args.self.now.llc c.args.job o c.hear_units.new.self.llc) c.in-Some.is c.in-Ok.ensures.ok in
+    subst (λ (o : Option Heard). HearsUnits c.args.waiting c.args.self.now.llc c.args.job o c.hear_units.new.self.llc) c.in-Some.is c.in-Ok.ensures.ok in
     let f : c.forget-then-is_lost.new.self ≡ forgotten c.hear_units.new.self.llc client_sap = search rules in
-    lost_so c.args.self.now.llc c.hear_units.new.self.llc c.forget-then-is_lost.new.self c.args.job c.in-Some.heard.job h.0 h.2
+    lost_so c.args.waiting c.args.self.now.llc c.hear_units.new.self.llc c.forget-then-is_lost.new.self c.args.job c.in-Some.heard.job h.0 h.2
     (sym c.is_lost.ensures ∙ c.if-is_lost.true) f

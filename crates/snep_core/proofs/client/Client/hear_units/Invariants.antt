@@ -1,13 +1,13 @@
 use Rattle.std.proofs.Common.{◌≡◌, ◌||◌, length}
 use Rattle.llcp_link.specs.Asking.{forgotten}
-use Rattle.snep_core.specs.Jobs.{has_byte, told_all}
+use Rattle.snep_core.specs.Jobs.{has_byte, told_in}
 use Rattle.snep_core.specs.Talk.{client_sap, emptied, own_of, units_of}
 use Rattle.snep_core.proofs.client.Client.hear_units.Given as goal
 
 abbrev pub invariant-units : goal.invariant-units
 invariant-units l = record {
   spent : l.self.spent ≡ l.fn.self.spent;
-  told : told_all l.fn.first (units_of (own_of l.fn.self.llc)) ≡ told_all l.job (units_of (own_of l.self.llc));
+  told : told_in l.fn.waiting l.fn.first (units_of (own_of l.fn.self.llc)) ≡ told_in l.fn.waiting l.job (units_of (own_of l.self.llc));
   some : has_byte (units_of (own_of l.fn.self.llc)) ≡ (l.some || has_byte (units_of (own_of l.self.llc)));
   emptied_is : emptied l.self.llc client_sap ≡ emptied l.fn.self.llc client_sap;
   forgotten_is : forgotten l.self.llc client_sap ≡ forgotten l.fn.self.llc client_sap;

@@ -1,7 +1,7 @@
 //! How many PDUs stand in a payload.
 
-use crate::tests::{Notes, replies_by, server};
-use crate::{Counted, Counts, Llc};
+use crate::ends::{Notes, gives, replies_by, server};
+use llcp_link::{Counted, Counts, Llc};
 use std::alloc::Global;
 use std::process::Abort;
 use std::test::Fail;
@@ -18,20 +18,6 @@ const FIVE: [u8; 22] = [
 ];
 
 const SYMM: [u8; 2] = [0x00, 0x00];
-
-/// It gives a payload of so many PDUs.
-fn gives(
-    rt: &impl Abort,
-    alloc: Global,
-    llc: &mut Llc<Notes>,
-    count: u32,
-    payload: &[u8],
-) -> Result<(), Fail> {
-    let mut got = Vec::new(alloc);
-    assert_eq!(rt; llc.give(count, &mut got), Ok(()));
-    assert_eq!(rt; got.as_slice(), payload, "by {count}");
-    Ok(())
-}
 
 /// It gives these payloads, one after the other, each by the number before it.
 fn gives_all(

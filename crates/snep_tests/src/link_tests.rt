@@ -2,10 +2,10 @@
 
 ghost use Rattle.std.specs.Prelude.{◌≤◌, length};
 
-use crate::Server;
 use llcp_link::Llc;
 use llcp_pdu::LinkParams;
 use nfc_base::Answerer;
+use snep_core::Server;
 use std::alloc::Global;
 use std::process::Abort;
 use std::test::Fail;

@@ -1,7 +1,7 @@
 //! What an end asks of the other.
 
-use crate::tests::{Notes, SNEP, server};
-use crate::{Llc, Standing};
+use crate::ends::{Notes, SNEP, server};
+use llcp_link::{Llc, Standing};
 use nfc_base::Answerer;
 use std::alloc::Global;
 use std::fmt::Write;
@@ -45,7 +45,7 @@ fn passes(
 }
 
 /// Gives an open connection up.
-#[tactic(auto, using(crate::proofs::Asked::open_standing))]
+#[tactic(auto, using(llcp_link::proofs::Asked::open_standing))]
 fn leaves(alloc: Global, llc: &mut Llc<Notes>, ssap: u8) -> Result<String, Fail> {
     match llc.standing(ssap) {
         Standing::Open { .. } => Ok(format!(in alloc; "{:?}", llc.disconnect(ssap))?),

@@ -1,13 +1,13 @@
-//! A client over a carrier without an air.
+//! What the tests of a client have in common.
 
 ghost use Rattle.std.specs.Prelude.{◌≡◌, Bool, None};
 ghost use Rattle.llcp_link.specs.State.{own_from};
 
-use crate::{Client, NoService, Server, SnepFault};
 use arrayvec::ArrayVec;
 use llcp_link::{Counts, Llc};
 use llcp_pdu::LinkParams;
-use nfc_base::{Answerer, Carrier, EndCause, Items, LinkEnd, Mute};
+use nfc_base::{Answerer, Carrier, EndCause, Items, LinkEnd};
+use snep_core::{Client, NoService, Server, SnepFault};
 use std::alloc::{AllocError, Global};
 use std::fmt::Write;
 use std::process::Abort;
@@ -184,7 +184,6 @@ pub(crate) fn client(alloc: Global) -> Client {
 #[derive(Clone, Copy)]
 pub(crate) enum Step {
     Lookup(&'static str),
-    Connect,
     Put(&'static [u8]),
     /// A value of at most so many bytes is asked for by its key.
     Get(u32, &'static [u8]),
@@ -309,7 +308,6 @@ fn told(
             let sap = looked_up(rt, alloc, client, link, far, name);
             Ok(format!(in alloc; "{sap:?}")?)
         }
-        Step::Connect => Ok(format!(in alloc; "{:?}", client.llc.connect(4))?),
         Step::Put(message) => done(alloc, put(rt, alloc, client, link, far, message)),
         Step::Get(most, key) => written_value(alloc, got(rt, alloc, client, link, far, most, key)),
         Step::Close => done(alloc, client.close(link, far, Counts::most(alloc))),
@@ -340,75 +338,4 @@ pub(crate) fn follows(
 /// The same of a new client and a new server.
 pub(crate) fn new_ends(rt: &impl Abort, alloc: Global, rows: &[(Step, &str)]) -> Result<(), Fail> {
     follows(rt, alloc, &mut client(alloc), &mut peer(rt, alloc)?, rows)
-}
-
-#[test]
-fn names_are_looked_up(rt: HostRuntime) -> Result<(), Fail> {
-    let rows = [
-        (Step::Lookup("urn:nfc:sn:snep"), "Ok(4)"),
-        (Step::Lookup("urn:nfc:sn:none"), "Ok(0)"),
-        (Step::Lookup("urn:nfc:sn:sdp"), "Ok(1)"),
-        (Step::Close, "Ok(())"),
-        (Step::Handed, "3"),
-        // an SNL with the number 0 and "urn:nfc:sn:snep"
-        (Step::Payload(0), "064108100075726E3A6E66633A736E3A736E6570"),
-    ];
-    new_ends(&rt, rt.alloc(), &rows)
-}
-
-#[test]
-fn an_open_connection_is_closed(rt: HostRuntime) -> Result<(), Fail> {
-    let rows = [
-        (Step::Connect, "Ok(())"),
-        (Step::Lookup("urn:nfc:sn:snep"), "Ok(4)"),
-        (Step::Close, "Ok(())"),
-        (Step::Close, "Ok(())"),
-        (Step::Payload(1), "1160"),
-        (Step::Handed, "2"),
-    ];
-    new_ends(&rt, rt.alloc(), &rows)
-}
-
-#[test]
-fn sixteen_replies_that_give_nothing_are_enough(rt: HostRuntime) -> Result<(), Fail> {
-    let alloc = rt.alloc();
-    let mut link = Straight::new(alloc, None);
-    let told = client(alloc).lookup(&mut link, &mut Mute, Counts::most(alloc), "urn:nfc:sn:snep");
-    assert_eq!(rt; told, Err(SnepFault::BadPeer));
-    assert_eq!(rt; link.handed.len(), 16);
-    Ok(())
-}
-
-/// What a lookup comes to over a link that is over by this cause.
-fn lookup_over(
-    alloc: Global,
-    client: &mut Client,
-    far: &mut Llc<Server>,
-    cause: EndCause,
-) -> Result<u8, SnepFault> {
-    let mut link = Straight::new(alloc, Some(cause));
-    client.lookup(&mut link, far, Counts::most(alloc), "urn:nfc:sn:snep")
-}
-
-/// The causes are told, and behind want of memory the client is spent.
-fn causes(
-    rt: &impl Abort,
-    alloc: Global,
-    client: &mut Client,
-    far: &mut Llc<Server>,
-) -> Result<(), Fail> {
-    let six_bad = Err(SnepFault::LinkEnded(EndCause::SixBad));
-    assert_eq!(rt; lookup_over(alloc, client, far, EndCause::SixBad), six_bad);
-    assert_eq!(rt;
-        lookup_over(alloc, client, far, EndCause::Memory),
-        Err(SnepFault::Memory)
-    );
-    follows(rt, alloc, client, far, &[(Step::Close, "Err(Memory)")])
-}
-
-#[test]
-fn a_link_that_is_over_is_told_by_its_cause(rt: HostRuntime) -> Result<(), Fail> {
-    let alloc = rt.alloc();
-    assert_eq!(rt; SnepFault::BadPeer.number(), 7);
-    causes(&rt, alloc, &mut client(alloc), &mut peer(&rt, alloc)?)
 }

@@ -1,7 +1,7 @@
 use Rattle.std.proofs.Common.{rules, [], ◌∷◌, inr, refl, sym, subst}
 use Rattle.nfc_base.specs.declared.carrier.LinkEnd.{LinkEnd}
 use Rattle.nfc_base.specs.Links.{Stepped, Stopped, AskedBy}
-use Rattle.snep_core.proofs.client_tests.StraightCarrier.swap.Goals as goal
+use Rattle.snep_tests.proofs.ends.StraightCarrier.swap.Goals as goal
 
 pub returns-in-Err-clause-failed : goal.returns-in-Err-clause-failed
 returns-in-Err-clause-failed g c = λ none.
