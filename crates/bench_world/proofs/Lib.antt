@@ -30,6 +30,8 @@ pub mod HeldOn
 pub mod ReadBehind
 pub mod OneAnswer
 pub mod QuietHearing
+pub mod Written
+pub mod QuietWritten
 pub mod OneJournal
 pub mod Shapes
 pub mod Quiet
