@@ -11,12 +11,12 @@ use tag_reader::{How, ReadFault, read};
 use tag_writer::{WriteFault, write};
 
 /// A container of a real tag that is free to write: updates of at most 13 bytes, a file E104h of 512 bytes.
-pub const CONTAINER: [u8; 15] = [
+const CONTAINER: [u8; 15] = [
     0x00, 0x0F, 0x20, 0x00, 0x3B, 0x00, 0x0D, 0x04, 0x06, 0xE1, 0x04, 0x02, 0x00, 0x00, 0x00,
 ];
 
 /// A file with a message of three bytes.
-pub const OLD: [u8; 5] = [0, 3, 0xD0, 0, 0];
+const OLD: [u8; 5] = [0, 3, 0xD0, 0, 0];
 
 /// How many commands stand before the first update.
 const SURVEY: usize = 5;
@@ -29,17 +29,13 @@ fn container_with(mlc: [u8; 2], access: u8) -> [u8; 15] {
 }
 
 /// A tag whose file of 512 bytes begins so.
-pub fn tag_t4(alloc: Global, container: &[u8; 15], head: &[u8]) -> Result<T4Tag, Fail> {
+fn tag_t4(alloc: Global, container: &[u8; 15], head: &[u8]) -> Result<T4Tag, Fail> {
     let mut file = head.to_vec(alloc)?;
     file.resize(512, 0)?;
     Ok(T4Tag::new(8, container.to_vec(alloc)?, file)?)
 }
 
-pub fn write_t4(
-    alloc: Global,
-    link: &mut MemLink<T4Tag>,
-    message: &[u8],
-) -> Result<(), WriteFault> {
+fn write_t4(alloc: Global, link: &mut MemLink<T4Tag>, message: &[u8]) -> Result<(), WriteFault> {
     write(alloc, link, How::T4, message)
 }
 
