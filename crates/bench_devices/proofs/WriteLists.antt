@@ -28,7 +28,8 @@ use Rattle.bench_devices.specs.Linking.{IsPlain}
 use Rattle.bench_devices.specs.Writing.{AsksWriteOf}
 use Rattle.bench_devices.proofs.ReadingTags.{no_tag}
 use Rattle.bench_devices.proofs.SurveyLists.{two_surveyed, four_surveyed, five_surveyed}
-use Rattle.bench_devices.proofs.WriteParts.{IsBlocks, takes_decided, some_writes}
+use Rattle.tag_writer.proofs.SomeParts.{IsBlocks}
+use Rattle.bench_devices.proofs.WriteParts.{takes_decided, some_writes}
 
 some_surveyed : (d : Device) → is_tag d ≡ true → IsSound (kept d) → (xs : List Signal) × IsAskedFor ToWrite (how_of d) (size_of d) (device_store d) xs
 some_surveyed (T2 d) tag is = two_surveyed 16 d.upper.store refl

@@ -143,37 +143,20 @@ impl Command {
     {
         match self {
             Command::Skip => Ok(Command::Skip),
-            Command::Fates(fates) => {
-                let copy = Vec::from_slice(alloc, fates.as_slice())?;
-                Ok(Command::Fates(Items::new(copy)))
-            }
-            Command::PlaceT2 { id, blocks, head } => Ok(Command::PlaceT2 {
-                id: id.copy(),
-                blocks: *blocks,
-                head: Items::from_bytes(alloc, head.as_slice())?,
-            }),
+            Command::Fates(fates) => copy_fates(alloc, fates.as_slice()),
+            Command::PlaceT2 { id, blocks, head } => copy_t2(alloc, id, *blocks, head.as_slice()),
             Command::PlaceT4 {
                 id,
                 code,
                 container,
                 head,
-            } => Ok(Command::PlaceT4 {
-                id: id.copy(),
-                code: *code,
-                container: Items::from_bytes(alloc, container.as_slice())?,
-                head: Items::from_bytes(alloc, head.as_slice())?,
-            }),
+            } => copy_t4(alloc, id, *code, container.as_slice(), head.as_slice()),
             Command::PlaceT5 {
                 id,
                 blocks,
                 size,
                 head,
-            } => Ok(Command::PlaceT5 {
-                id: *id,
-                blocks: *blocks,
-                size: *size,
-                head: Items::from_bytes(alloc, head.as_slice())?,
-            }),
+            } => copy_t5(alloc, *id, *blocks, *size, head.as_slice()),
             Command::PlacePeer {
                 id,
                 lr,
@@ -196,36 +179,118 @@ impl Command {
                 count: *count,
                 times: *times,
             }),
-            Command::Offer { id, key, value } => Ok(Command::Offer {
-                id: id.copy(),
-                key: Items::from_bytes(alloc, key.as_slice())?,
-                value: Items::from_bytes(alloc, value.as_slice())?,
-            }),
+            Command::Offer { id, key, value } => {
+                copy_offer(alloc, id, key.as_slice(), value.as_slice())
+            }
             Command::Remove { id } => Ok(Command::Remove { id: id.copy() }),
             Command::Dump { id } => Ok(Command::Dump { id: id.copy() }),
             Command::Inbox { id } => Ok(Command::Inbox { id: id.copy() }),
             Command::Find => Ok(Command::Find),
             Command::Read { id } => Ok(Command::Read { id: id.copy() }),
-            Command::Write { id, message } => Ok(Command::Write {
-                id: id.copy(),
-                message: message.copy(alloc)?,
-            }),
+            Command::Write { id, message } => copy_write(alloc, id, message),
             Command::Link { id, miu, rw } => Ok(Command::Link {
                 id: id.copy(),
                 miu: *miu,
                 rw: *rw,
             }),
-            Command::Put { message } => Ok(Command::Put {
-                message: message.copy(alloc)?,
-            }),
-            Command::Get { acceptable, key } => Ok(Command::Get {
-                acceptable: *acceptable,
-                key: Items::from_bytes(alloc, key.as_slice())?,
-            }),
-            Command::Lookup { name } => Ok(Command::Lookup {
-                name: Items::from_bytes(alloc, name.as_slice())?,
-            }),
+            Command::Put { message } => copy_put(alloc, message),
+            Command::Get { acceptable, key } => copy_get(alloc, *acceptable, key.as_slice()),
+            Command::Lookup { name } => copy_lookup(alloc, name.as_slice()),
             Command::Unlink => Ok(Command::Unlink),
         }
     }
+}
+
+// Those that hold bytes are each copied by a function of their own. It takes memory first, so that nothing else is left
+// to drop where there is none.
+
+fn copy_fates(alloc: Global, fates: &[Fate]) -> Result<Command, AllocError>
+    ensures { IfOk result (λ c. c ≡ Command.Fates fates.now) }
+{
+    let copy = Vec::from_slice(alloc, fates)?;
+    Ok(Command::Fates(Items::new(copy)))
+}
+
+fn copy_t2(alloc: Global, id: &Ident, blocks: u16, head: &[u8]) -> Result<Command, AllocError>
+    ensures { IfOk result (λ c. c ≡ Command.PlaceT2 id.now blocks head.now) }
+{
+    let head = Items::from_bytes(alloc, head)?;
+    let id = id.copy();
+    Ok(Command::PlaceT2 { id, blocks, head })
+}
+
+fn copy_t4(
+    alloc: Global,
+    id: &Ident,
+    code: u8,
+    container: &[u8],
+    head: &[u8],
+) -> Result<Command, AllocError>
+    ensures { IfOk result (λ c. c ≡ Command.PlaceT4 id.now code container.now head.now) }
+{
+    let container = Items::from_bytes(alloc, container)?;
+    let head = Items::from_bytes(alloc, head)?;
+    let id = id.copy();
+    Ok(Command::PlaceT4 {
+        id,
+        code,
+        container,
+        head,
+    })
+}
+
+fn copy_t5(
+    alloc: Global,
+    id: [u8; 8],
+    blocks: u16,
+    size: u8,
+    head: &[u8],
+) -> Result<Command, AllocError>
+    ensures { IfOk result (λ c. c ≡ Command.PlaceT5 id blocks size head.now) }
+{
+    let head = Items::from_bytes(alloc, head)?;
+    Ok(Command::PlaceT5 {
+        id,
+        blocks,
+        size,
+        head,
+    })
+}
+
+fn copy_offer(alloc: Global, id: &DeviceId, key: &[u8], value: &[u8]) -> Result<Command, AllocError>
+    ensures { IfOk result (λ c. c ≡ Command.Offer id.now key.now value.now) }
+{
+    let key = Items::from_bytes(alloc, key)?;
+    let value = Items::from_bytes(alloc, value)?;
+    let id = id.copy();
+    Ok(Command::Offer { id, key, value })
+}
+
+fn copy_write(alloc: Global, id: &DeviceId, message: &Msg) -> Result<Command, AllocError>
+    ensures { IfOk result (λ c. c ≡ Command.Write id.now message.now) }
+{
+    let message = message.copy(alloc)?;
+    let id = id.copy();
+    Ok(Command::Write { id, message })
+}
+
+fn copy_put(alloc: Global, message: &Msg) -> Result<Command, AllocError>
+    ensures { IfOk result (λ c. c ≡ Command.Put message.now) }
+{
+    let message = message.copy(alloc)?;
+    Ok(Command::Put { message })
+}
+
+fn copy_get(alloc: Global, acceptable: u32, key: &[u8]) -> Result<Command, AllocError>
+    ensures { IfOk result (λ c. c ≡ Command.Get acceptable key.now) }
+{
+    let key = Items::from_bytes(alloc, key)?;
+    Ok(Command::Get { acceptable, key })
+}
+
+fn copy_lookup(alloc: Global, name: &[u8]) -> Result<Command, AllocError>
+    ensures { IfOk result (λ c. c ≡ Command.Lookup name.now) }
+{
+    let name = Items::from_bytes(alloc, name)?;
+    Ok(Command::Lookup { name })
 }

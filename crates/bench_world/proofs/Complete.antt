@@ -30,12 +30,10 @@ use Rattle.bench_script.specs.DeviceIds.{bytes_of}
 use Rattle.bench_world.specs.Crowded.{seen_all, is_crowd}
 use Rattle.bench_devices.specs.Crowded.{crowd_of, others_of}
 use Rattle.bench_devices.specs.Placed.{device_with, OfPlaced}
-use Rattle.bench_devices.proofs.TagOrPeer.{as_tag}
 use Rattle.bench_world.specs.Reading.{TellsOf}
-use Rattle.bench_world.specs.Completing.{IsQuietOnce, HadSixBad, IsUndisturbed, ReadsComplete, WritesComplete, ValidIsWritten, FindsComplete}
+use Rattle.bench_world.specs.Completing.{IsQuietOnce, HadSixBad, IsUndisturbed, ReadsComplete, WritesComplete, FindsComplete}
 use Rattle.bench_world.specs.Legal.{AnswerLaw, ReadLaw, WritingLaw, FindLaw}
 use Rattle.bench_world.specs.Writing.{TellsWrite}
-use Rattle.bench_world.proofs.WriteTelling.{one_written}
 use Rattle.bench_script.specs.Messages.{message_of}
 use Rattle.bench_script.specs.declared.command.Command.{Command}
 use Rattle.bench_devices.specs.Polling.{Told}
@@ -171,10 +169,6 @@ writes_complete s t g e id m d step is placed named calm =
     let L : Command → Type 0 = λ c. AnswerLaw s g c e.events e.answer in
     let law : WritingLaw s g.joins id m g.asked e.events e.answer = subst L is step.answered in
     tag_completes id s.world.field.listeners d placed named (TellsWrite (message_of m)) g.asked e.events e.answer law.tells calm
-
-pub valid_is_written : ValidIsWritten
-valid_is_written s t g e id m d step is placed tag named calm valid =
-    one_written (message_of m) d e.answer answers.Written (writes_complete s t g e id m d step is placed named calm) (as_tag d tag _ _ (Ok tt, valid, refl))
 
 pub finds_complete : FindsComplete
 finds_complete s t g e step is lit round once =

@@ -32,6 +32,8 @@ pub mod ReadBehind
 pub mod OneAnswer
 pub mod QuietHearing
 pub mod Tales
+pub mod Written
+pub mod QuietWritten
 pub mod OneJournal
 pub mod Shapes
 pub mod Quiet

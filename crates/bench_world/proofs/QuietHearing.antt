@@ -45,6 +45,7 @@ use Rattle.bench_world.proofs.Fronts.{on_field}
 use Rattle.bench_world.proofs.Placing.{IsWith, is_with, with_sound}
 use Rattle.bench_world.proofs.Quiet.{quiet_stays, quiet_reads, quiet_writes, quiet_finds}
 use Rattle.bench_world.proofs.QuietLinks.{quiet_talks}
+use Rattle.bench_world.proofs.Written.{told_written}
 use Rattle.bench_world.proofs.WholeNotes.{all_unharmed, nothing_asked, whole_notes}
 use Rattle.bench_world.proofs.CallNotes.{calls_plain, closings_plain}
 use Rattle.bench_world.proofs.OneAnswer.{one_end}
@@ -228,6 +229,7 @@ quiet_entry s t g line e calm q sp step =
         hears = well_heard s t g line e calm.ready sp step pass;
         reads = λ id d r. quiet_reads s t g e id d step r.command r.placed r.named calm.queue;
         writes = λ id m d w. quiet_writes s t g e id m d step w.command w.placed w.named calm.queue;
+        written = λ id m d w may. told_written s e id m d calm.ready w.placed (quiet_writes s t g e id m d step w.command w.placed w.named calm.queue) may;
         finds = λ is. quiet_finds s t g e step is calm.queue;
         links = links_quietly s t g e calm.ready step calm.queue;
         talks = quiet_talks s t g e step calm.queue;

@@ -1,7 +1,7 @@
 -- What a read, a write and a search answer where noise doesn't keep them from it: no Break was used, no wait had six
 -- bad receptions, and polling had one round, of a Type 5 tag one try, without noise (rounds, tries and six receptions
 -- are this project's own).
-use Rattle.std.specs.Prelude.{◌≡◌, ◌<◌, List, Some, Ok, true}
+use Rattle.std.specs.Prelude.{◌≡◌, ◌<◌, ℕ, List, Some, Ok, true}
 use Rattle.nfc_base.specs.Signal.{Signal}
 use Rattle.nfc_base.specs.Trace.{breaks}
 use Rattle.nfc_base.specs.declared.event.Event.{Event}
@@ -10,6 +10,7 @@ use Rattle.air_core.specs.Conversation.{Note, receptions}
 use Rattle.air_core.specs.Waits.{Broken, stand}
 use Rattle.nfca_poll.specs.Inventory.{tries, inventory_all, inventory_of}
 use Rattle.nfca_poll.specs.RoundTrace.{rounds}
+use Rattle.tag_writer.specs.Locks.{IsFreeFor}
 use Rattle.isodep_link.specs.Asking as exchange
 use Rattle.bench_script.specs.declared.command.Command.TheVariants.{Find, Read, Write}
 use Rattle.bench_script.specs.declared.command.DeviceId.{DeviceId}
@@ -18,7 +19,7 @@ use Rattle.bench_script.specs.DeviceIds.{bytes_of}
 use Rattle.bench_script.specs.Messages.{message_of}
 use Rattle.bench_script.specs.declared.message.Msg.{Msg}
 use Rattle.bench_devices.specs.declared.device.Device.{Device}
-use Rattle.bench_devices.specs.Device.{is_tag}
+use Rattle.bench_devices.specs.Device.{device_store, device_locks, how_of, size_of, is_tag}
 use Rattle.bench_devices.specs.declared.polling.SeenKind.{SeenKind}
 use Rattle.bench_devices.specs.declared.polling.SeenKind.TheVariants as seen
 use Rattle.bench_devices.specs.Answering.{IsNamed}
@@ -27,12 +28,12 @@ use Rattle.bench_devices.specs.Crowded.{crowd_of, others_of}
 use Rattle.bench_devices.specs.Noise.{noisy_tries, AreDisturbed}
 use Rattle.bench_devices.specs.Placed.{device_with}
 use Rattle.bench_devices.specs.Polling.{Told, selecting}
-use Rattle.bench_devices.specs.Writing.{ShowsWrite}
 use Rattle.bench_world.specs.declared.entry.Answer.{Answer}
 use Rattle.bench_world.specs.declared.entry.Answer.TheVariants as answers
 use Rattle.bench_world.specs.declared.entry.Entry.{Entry}
 use Rattle.bench_world.specs.Crowded.{seen_all, is_crowd}
-use Rattle.bench_world.specs.Legal.{State, Given, LegalStep}
+use Rattle.bench_world.specs.Journal.{LeadsTo}
+use Rattle.bench_world.specs.Legal.{State, Given, Joins, LegalStep}
 use Rattle.bench_world.specs.Reading.{TellsOf}
 use Rattle.bench_world.specs.Writing.{TellsWrite}
 
@@ -66,12 +67,17 @@ WritesComplete =
     (s t : State) (g : Given) (e : Entry) (id : DeviceId) (m : Msg) (d : Device) → LegalStep s g e t → e.command ≡ Write id m → device_with (bytes_of id) s.world.field.listeners ≡ Some d
     → IsNamed id d → IsUndisturbed id g.asked e.events → TellsWrite (message_of m) d e.answer
 
--- So a message is written where the tag holds one, is free to write, has room for it, takes updates of two bytes, and
--- refuses none of the writes.
+-- A tag takes a message, which it has room for in the place of the one that it holds, and none of the blocks that are written for it
+-- is locked. Of a Type 4 tag none is, and one update may bring two bytes.
+abbrev pub MayBeWritten : List ℕ → Device → Type 0
+MayBeWritten message d = (is_tag d ≡ true) × IsFreeFor (how_of d) (size_of d) (device_locks d) (device_store d) message
+
+-- So a message is written there, wherever the lines of a script lead.
 abbrev pub ValidIsWritten : Type 0
 ValidIsWritten =
-    (s t : State) (g : Given) (e : Entry) (id : DeviceId) (m : Msg) (d : Device) → LegalStep s g e t → e.command ≡ Write id m → device_with (bytes_of id) s.world.field.listeners ≡ Some d
-    → is_tag d ≡ true → IsNamed id d → IsUndisturbed id g.asked e.events → ShowsWrite (message_of m) d (Ok tt) → e.answer ≡ answers.Written
+    (lines : List (List ℕ)) (numbers : List Joins) (journal : List Entry) (s t : State) (g : Given) (e : Entry) (id : DeviceId) (m : Msg) (d : Device) → LeadsTo lines numbers journal s
+    → LegalStep s g e t → e.command ≡ Write id m → device_with (bytes_of id) s.world.field.listeners ≡ Some d → IsNamed id d → IsUndisturbed id g.asked e.events
+    → MayBeWritten (message_of m) d → e.answer ≡ answers.Written
 
 -- A search lists the whole field: all NFC-A devices in crowd order, and the true Type 5 result.
 abbrev pub whole_field : List Device → Answer

@@ -1,5 +1,5 @@
 -- What a bench does on quiet air, where no fate is left but Pass. A later command adds its case.
-use Rattle.std.specs.Prelude.{◌≡◌, List, Some}
+use Rattle.std.specs.Prelude.{◌≡◌, ℕ, List, Some}
 use Rattle.std.specs.List.{AllByRecursion}
 use Rattle.nfc_base.specs.Trace.{noise}
 use Rattle.nfc_base.specs.declared.event.Fate.{Fate}
@@ -12,9 +12,11 @@ use Rattle.bench_script.specs.declared.message.Msg.{Msg}
 use Rattle.bench_devices.specs.declared.device.Device.{Device}
 use Rattle.bench_devices.specs.Answering.{IsNamed}
 use Rattle.bench_devices.specs.Placed.{device_with}
+use Rattle.bench_world.specs.declared.entry.Answer.TheVariants as answers
 use Rattle.bench_world.specs.declared.entry.Entry.{Entry}
-use Rattle.bench_world.specs.Completing.{whole_field}
-use Rattle.bench_world.specs.Legal.{State, Given, LegalStep, changed}
+use Rattle.bench_world.specs.Completing.{MayBeWritten, whole_field}
+use Rattle.bench_world.specs.Journal.{LeadsTo}
+use Rattle.bench_world.specs.Legal.{State, Given, Joins, LegalStep, changed}
 use Rattle.bench_world.specs.Reading.{TellsOf}
 use Rattle.bench_world.specs.Writing.{TellsWrite}
 
@@ -37,6 +39,14 @@ abbrev pub QuietWrites : Type 0
 QuietWrites =
     (s t : State) (g : Given) (e : Entry) (id : DeviceId) (m : Msg) (d : Device) → LegalStep s g e t → e.command ≡ Write id m → device_with (bytes_of id) s.world.field.listeners ≡ Some d
     → IsNamed id d → AllPass s.queue → TellsWrite (message_of m) d e.answer
+
+-- It is written where the tag takes the message and none of the blocks that are written for it is locked, wherever the lines of a
+-- script lead.
+abbrev pub QuietIsWritten : Type 0
+QuietIsWritten =
+    (lines : List (List ℕ)) (numbers : List Joins) (journal : List Entry) (s t : State) (g : Given) (e : Entry) (id : DeviceId) (m : Msg) (d : Device) → LeadsTo lines numbers journal s
+    → LegalStep s g e t → e.command ≡ Write id m → device_with (bytes_of id) s.world.field.listeners ≡ Some d → IsNamed id d → AllPass s.queue
+    → MayBeWritten (message_of m) d → e.answer ≡ answers.Written
 
 -- A search lists all NFC-A devices, in crowd order, and the true Type 5 result.
 abbrev pub QuietFinds : Type 0

@@ -19,8 +19,9 @@ use Rattle.bench_devices.specs.Answering.{IsNamed}
 use Rattle.bench_devices.specs.Hearing.{IsUnharmed, IsAnswered}
 use Rattle.bench_devices.specs.Placed.{device_with}
 use Rattle.bench_devices.specs.Polling.{Told, selecting}
+use Rattle.bench_world.specs.declared.entry.Answer.TheVariants as answers
 use Rattle.bench_world.specs.declared.entry.Entry.{Entry}
-use Rattle.bench_world.specs.Completing.{whole_field}
+use Rattle.bench_world.specs.Completing.{MayBeWritten, whole_field}
 use Rattle.bench_world.specs.Journal.{LeadsTo, IsOnLink}
 use Rattle.bench_world.specs.Legal.{State, Joins, changed, state_after, first_state}
 use Rattle.bench_world.specs.Quiet.{AllPass}
@@ -82,13 +83,14 @@ pub record WritesPlaced (s : State) (e : Entry) (id : DeviceId) (m : Msg) (d : D
   pub named : IsNamed id d
 
 -- An entry of a script without noise: everything passed; a read of a placed tag tells what its store holds, a write
--- what it comes to, and a search lists the whole field; a placed peer is linked, and each command on the open link is
--- answered as the peer answers it.
+-- what it comes to, which is success where the tag takes the message and none of its blocks is locked, and a search lists
+-- the whole field; a placed peer is linked, and each command on the open link is answered as the peer answers it.
 pub record IsQuietEntry (s : State) (e : Entry) (t : State) : Type 0 where
   pub quiet : noise e.events ≡ 0
   pub hears : IsWellHeard e
   pub reads : (id : DeviceId) (d : Device) → ReadsPlaced s e id d → TellsOf d e.answer
   pub writes : (id : DeviceId) (m : Msg) (d : Device) → WritesPlaced s e id m d → TellsWrite (message_of m) d e.answer
+  pub written : (id : DeviceId) (m : Msg) (d : Device) → WritesPlaced s e id m d → MayBeWritten (message_of m) d → e.answer ≡ answers.Written
   pub finds : e.command ≡ Find → e.answer ≡ whole_field s.world.field.listeners
   pub links : LinksQuietly s e
   pub talks : TalksQuietly s e t

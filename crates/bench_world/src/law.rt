@@ -5,7 +5,7 @@ ghost use Rattle.bench_world.specs.Behind.{WrittenIsRead, OneOfThreeIsRead};
 ghost use Rattle.bench_world.specs.Completing.{ReadsComplete, WritesComplete, ValidIsWritten, FindsComplete};
 ghost use Rattle.bench_world.specs.CompletingLinks.{PutsComplete, GetsComplete, LookupsComplete, UnlinksComplete, ValidIsOk, LinkingsComplete, KindsTold};
 ghost use Rattle.bench_world.specs.LinkLaw.{LinkLaw};
-ghost use Rattle.bench_world.specs.Quiet.{QuietStays, QuietReads, QuietWrites, QuietFinds};
+ghost use Rattle.bench_world.specs.Quiet.{QuietStays, QuietReads, QuietWrites, QuietIsWritten, QuietFinds};
 ghost use Rattle.bench_world.specs.QuietHearing.{QuietHears, QuietScript};
 ghost use Rattle.bench_world.specs.QuietLinks.{QuietTalks, QuietLinkings};
 ghost use Rattle.bench_world.specs.ReadBack.{LinesTellEvents, AnswersApart};
@@ -18,7 +18,7 @@ pub fn reads_complete()
 {}
 
 /// So does a legal write tell what it comes to by the tag's store and its locked blocks: a message is written where the
-/// tag takes it and refuses none of its writes.
+/// tag takes it and none of the blocks that are written for it is locked.
 pub fn writes_complete()
     ensures told { WritesComplete }
     ensures written { ValidIsWritten }
@@ -62,13 +62,15 @@ pub fn lines_tell_events()
 {}
 
 /// Where no fate is left but Pass, the air stays quiet, a read of a placed tag tells what its store holds, a write what
-/// it comes to, a search lists the whole field, a placed peer is linked, and each command on the open link is answered
-/// as its peer answers it; no reception is bad but the silences of polling, so behind the selection of a device, and on
-/// a link, each is a whole answer. Where no line has another fate, all this holds of each entry of a script's journal.
+/// it comes to, which is success where the tag takes the message and none of its blocks is locked, a search lists the
+/// whole field, a placed peer is linked, and each command on the open link is answered as its peer answers it; no
+/// reception is bad but the silences of polling, so behind the selection of a device, and on a link, each is a whole
+/// answer. Where no line has another fate, all this holds of each entry of a script's journal.
 pub fn quiet_air()
     ensures stays { QuietStays }
     ensures reads { QuietReads }
     ensures writes { QuietWrites }
+    ensures written { QuietIsWritten }
     ensures finds { QuietFinds }
     ensures talks { QuietTalks }
     ensures linkings { QuietLinkings }

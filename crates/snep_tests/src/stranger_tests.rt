@@ -127,8 +127,16 @@ const BAD: Result<(), SnepFault> = Err(SnepFault::BadPeer);
 /// A request in so many units comes to this, where the first is answered by the code.
 fn comes_to(rt: &impl Abort, alloc: Global, bytes: &[u8], row: Row) {
     let (code, told, got) = row;
-    assert_eq!(rt; put(rt, alloc, far_end(Meets::Cc, code, code), bytes), told, "at {code}");
-    assert_eq!(rt; get(rt, alloc, far_end(Meets::Cc, code, code), bytes), got, "at {code}");
+    assert_eq!(rt;
+        put(rt, alloc, far_end(Meets::Cc, code, code), bytes),
+        told,
+        "at {code}"
+    );
+    assert_eq!(rt;
+        get(rt, alloc, far_end(Meets::Cc, code, code), bytes),
+        got,
+        "at {code}"
+    );
 }
 
 #[test]

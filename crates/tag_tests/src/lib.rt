@@ -16,6 +16,8 @@ mod area_tests;
 #[cfg(test)]
 mod file_tests;
 #[cfg(test)]
+mod lock_tests;
+#[cfg(test)]
 mod phase_tests;
 #[cfg(test)]
 mod read_tests;

@@ -30,3 +30,6 @@ pub mod SameSignals
 pub mod OneWrite
 pub mod OneOutcome
 pub mod Wholes
+pub mod SomeParts
+pub mod DoablePuts
+pub mod Locking

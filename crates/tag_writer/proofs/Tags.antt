@@ -120,7 +120,7 @@ tag_by (T5 id) size a b is kind identifier step store = record {
   steps = (is.steps.0, is.steps.1, λ t c st may. ap (λ f. f t c) step ∙ is.steps.2 t c st may);
 }
 
-near_by : (how : How) (s : TagState) (store : List ℕ) → IsNear how s → IsNear how (record s { store = store })
+pub near_by : (how : How) (s : TagState) (store : List ℕ) → IsNear how s → IsNear how (record s { store = store })
 near_by T2 s store near = near
 near_by T4 s store near = near
 near_by (T5 id) s store near = near

@@ -1,6 +1,7 @@
 pub mod Puts
 pub mod Place
 pub mod WriteAsked
+pub mod Locks
 pub mod Law
 pub mod Puttings
 pub mod Counts

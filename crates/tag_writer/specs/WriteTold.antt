@@ -1,5 +1,5 @@
 -- What a whole write tells, whatever the tag does: what its survey's answers say, and those to its writes.
-use Rattle.std.specs.Prelude.{◌≡◌, ℕ, ◌-◌, ◌<◌, ◌⊎◌, min, List, length, true, false, nat_lt, Result, Ok, Err}
+use Rattle.std.specs.Prelude.{◌≡◌, ℕ, ◌-◌, ◌<◌, ◌≤◌, ◌⊎◌, min, List, length, true, false, nat_lt, Result, Ok, Err}
 use Rattle.nfc_base.specs.TagLinks.{LinkView}
 use Rattle.tlv_area.specs.Tail.{map_room, capacity_of}
 use Rattle.tlv_area.specs.Writing.{GivesPlan}
@@ -42,7 +42,7 @@ IsDeclinedOn (Area known block map') message fault.Memory = Unit {0}
 IsDeclinedOn (Area known block map') message e = ⊥
 IsDeclinedOn (File map' length') message fault.ReadOnly = map'.writable ≡ false
 IsDeclinedOn (File map' length') message (fault.TooLong n) = (map'.writable ≡ true) × (n ≡ map'.size - 2) × (n < length message)
-IsDeclinedOn (File map' length') message fault.ShortMlc = (map'.writable ≡ true) × (map'.mlc < 2)
+IsDeclinedOn (File map' length') message fault.ShortMlc = (map'.writable ≡ true) × (length message ≤ map'.size - 2) × (map'.mlc < 2)
 IsDeclinedOn (File map' length') message fault.Memory = Unit {0}
 IsDeclinedOn (File map' length') message e = ⊥
 

@@ -1,15 +1,19 @@
 //! That a write is one: of the store, the tag's step and the message there is one list of what is asked, one place of the
 //! message, and one thing that is told. The calls do nothing: they stand for these laws.
 
-ghost use Rattle.std.specs.Prelude.{◌≡◌, ℕ, List, true, Result, Err};
+ghost use Rattle.std.specs.Prelude.{◌≡◌, ℕ, List, Bool, true, Result, Ok, Err};
 ghost use Rattle.nfc_base.specs.Signal.{Signal};
 ghost use Rattle.nfc_base.specs.TagLinks.{LinkView, TagState, TagStep};
 ghost use Rattle.tlv_area.specs.Form.{Message};
 ghost use Rattle.tag_reader.specs.declared.how.How.{How};
 ghost use Rattle.tag_reader.specs.Kinds.{IsStore, IsStoreForm};
+ghost use Rattle.tag_reader.specs.Survey.{surveyed};
 ghost use Rattle.tag_writer.specs.declared.fault.WriteFault.{WriteFault};
-ghost use Rattle.tag_writer.specs.Place.{Place, IsPlaceIn};
-ghost use Rattle.tag_writer.specs.WriteAsked.{Parts, ArePuts, IsWriteAsked};
+ghost use Rattle.tag_writer.specs.declared.fault.WriteFault.TheVariants.{Refused};
+ghost use Rattle.tag_writer.specs.Locks.{has_locked, refusal_if, StepsBy, IsFreeFor, IsLockedFor};
+ghost use Rattle.tag_writer.specs.Place.{Place, IsPlaceIn, Takes};
+ghost use Rattle.tag_writer.specs.Puts.{commands_of};
+ghost use Rattle.tag_writer.specs.WriteAsked.{Parts, ArePuts, IsWriteAsked, all_puts, refused_by};
 ghost use Rattle.tag_writer.specs.Faults.{IsWriteFault, is_told};
 ghost use Rattle.tag_writer.specs.Outcome.{IsOutcome};
 
@@ -39,4 +43,20 @@ pub fn one_outcome()
         IsOutcome how size step s message r → IsOutcome how size step s message q → r ≡ q }
     ensures told { (how : How) (size : ℕ) (message : List ℕ) (a b : LinkView) (e : WriteFault) → is_told e ≡ true →
         IsWriteFault how size message a b e → IsOutcome how size a.step a.state message (Err e) }
+{}
+
+/// The tag refuses the writes of a message that it takes exactly where one of them goes to a locked block, by the code for
+/// that, and a Type 4 tag refuses none. So a message that is taken is written where none of its blocks is locked, and a
+/// refusal tells of a locked one.
+pub fn unlocked_is_done()
+    ensures refused { (how : How) (size : ℕ) (locked : List Bool) (step : TagState → Signal → TagStep) (s : TagState) (message : List ℕ)
+        (place : Place) (parts : Parts) → StepsBy how size locked step → IsStore how size s.store →
+        Takes how size s.store message place → ArePuts how size s.store message parts →
+        refused_by how step (surveyed how s) (commands_of (all_puts parts)) ≡ refusal_if how (has_locked how size locked (all_puts parts)) }
+    ensures done { (how : How) (size : ℕ) (locked : List Bool) (step : TagState → Signal → TagStep) (s : TagState) (message : List ℕ) →
+        StepsBy how size locked step → IsStore how size s.store →
+        IsFreeFor how size locked s.store message → IsOutcome how size step s message (Ok tt) }
+    ensures cause { (how : How) (size : ℕ) (locked : List Bool) (step : TagState → Signal → TagStep) (s : TagState) (message : List ℕ)
+        (code : ℕ) → StepsBy how size locked step → IsStore how size s.store →
+        IsOutcome how size step s message (Err (Refused code)) → IsLockedFor how size locked s.store message code }
 {}

@@ -7,7 +7,7 @@
 //! the empty one or the new one.
 //!
 //! What the tag's stores are meanwhile: `specs/Law.antt`. What is asked: `specs/WriteAsked.antt`. `law` says that each write asks
-//! one list, has one place and one outcome.
+//! one list, has one place and one outcome, and that a tag refuses it where a block is locked (`specs/Locks.antt`).
 #![tactic(auto)]
 
 mod fault;
@@ -20,7 +20,7 @@ mod work;
 mod writer;
 
 pub use fault::WriteFault;
-pub use law::{one_outcome, one_place, one_write_asked};
+pub use law::{one_outcome, one_place, one_write_asked, unlocked_is_done};
 pub use phase::{Emptied, Filled, Opened, Phase, Prepared, Stopped};
 pub use preparing::prepare;
 pub use writer::write;

@@ -2,6 +2,7 @@ use Rattle.bench_world.proofs.Quiet as quiet
 use Rattle.bench_world.proofs.QuietHearing as hearing
 use Rattle.bench_world.proofs.QuietLinks as links
 use Rattle.bench_world.proofs.CompleteLinkings.{quiet_linkings}
+use Rattle.bench_world.proofs.QuietWritten.{quiet_is_written}
 use Rattle.bench_world.proofs.law.quiet_air.Goals as goal
 
 pub returns-clause-stays : goal.returns-clause-stays
@@ -21,6 +22,9 @@ returns-clause-script c = hearing.quiet_script
 
 pub returns-clause-writes : goal.returns-clause-writes
 returns-clause-writes c = quiet.quiet_writes
+
+pub returns-clause-written : goal.returns-clause-written
+returns-clause-written c = quiet_is_written
 
 pub returns-clause-talks : goal.returns-clause-talks
 returns-clause-talks c = links.quiet_talks

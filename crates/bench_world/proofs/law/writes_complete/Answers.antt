@@ -1,4 +1,5 @@
-use Rattle.bench_world.proofs.Complete.{writes_complete, valid_is_written}
+use Rattle.bench_world.proofs.Complete.{writes_complete}
+use Rattle.bench_world.proofs.Written.{valid_is_written}
 use Rattle.bench_world.proofs.law.writes_complete.Goals as goal
 
 pub returns-clause-told : goal.returns-clause-told

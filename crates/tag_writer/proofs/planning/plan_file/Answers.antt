@@ -16,3 +16,7 @@ pub returns-then-map-lt-LENGTH_SIZE-clause-err : goal.returns-then-map-lt-LENGTH
 returns-then-map-lt-LENGTH_SIZE-clause-err c size store is k =
     file_short size store c.args.message.now c.args.map c.args.length k (grind (arith, c.if-not-map.false)) (omega (arith, c.if-message-from.false, c.from.ensures, c.saturating_sub-room.ensures))
     (omega (arith, c.if-map-lt-LENGTH_SIZE.true))
+
+pub returns-then-map-lt-LENGTH_SIZE-clause-declined : goal.returns-then-map-lt-LENGTH_SIZE-clause-declined
+returns-then-map-lt-LENGTH_SIZE-clause-declined c =
+    (grind (arith, c.if-not-map.false), omega (arith, c.if-message-from.false, c.from.ensures, c.saturating_sub-room.ensures), omega (arith, c.if-map-lt-LENGTH_SIZE.true))
