@@ -105,7 +105,9 @@ all_last P (y ∷ xs) x all = all_last P xs x all.1
 by_pair : (t : State) (front : List Paired) (x : Paired) (y : Story) (k : Held) → Fits (view_of t) x → t.peers.links ≡ ranges front ++ x.range ∷ [] → x.story ≡ y → y.number ≡ 1 + length (stories front)
     → at (view_of t) y.peer ≡ Some k → gained_on t y.number ≡ y.gained
 by_pair t front x y k fits links is number found =
-    let at_number : x.story.number ≡ suc (length (ranges front)) = ap (λ (z : Story). z.number) is ∙ number ∙ ap suc (sym (as_long front)) in
+    let same : x.story.number ≡ y.number = ap (λ (z : Story). z.number) is in
+    let long : length (ranges front) ≡ length (stories front) = as_long front in
+    let at_number : x.story.number ≡ suc (length (ranges front)) = omega (arith, same, number, long) in
     let range : range_of x.story.number t.peers.links ≡ Some x.range = ap (λ n. range_of n t.peers.links) at_number ∙ ap (range_of (suc (length (ranges front)))) links ∙ range_last (ranges front) x.range in
     subst (λ (z : Story). gained_on t z.number ≡ z.gained) is (gained_fits t x k fits (ap (λ (z : Story). at (view_of t) z.peer) is ∙ found) range)
 
@@ -126,7 +128,7 @@ last_gained t (Some l) before y k stand found =
 still_held : (n : ℕ) (ps : List (Option ℕ)) (ks hs : List (Option Held)) (k : Held) → AreHeld ps hs → at_number n ps ks ≡ Some k → (h : Held) × (at_number n ps hs ≡ Some h)
 still_held n [] ks hs k all found = absurd cc
 still_held n (p ∷ ps) ks [] k all found = absurd all
-still_held n (p ∷ ps) ks (x ∷ hs) k all found = by (is_number n p) refl found
+still_held n (p ∷ ps) ks (x ∷ hs) k all found = by (is_number n p) refl found (still_held n ps (later_fars ks) hs k all.1)
   where
     there : (q : Option ℕ) (h : Option Held) → HasHeld q h → is_number n q ≡ true → (z : Held) × (h ≡ Some z)
     there None h has is = absurd (let clash : false ≡ true = is in cc)
@@ -134,9 +136,9 @@ still_held n (p ∷ ps) ks (x ∷ hs) k all found = by (is_number n p) refl foun
     there (Some q) (Some z) has is = (z, refl)
 
     by : (v : Bool) → is_number n p ≡ v → (if v then first_far ks else at_number n ps (later_fars ks)) ≡ Some k
-        → (h : Held) × ((if v then x else at_number n ps hs) ≡ Some h)
-    by true is found = there p x all.0 is
-    by false is found = still_held n ps (later_fars ks) hs k all.1 found
+        → (at_number n ps (later_fars ks) ≡ Some k → (h : Held) × (at_number n ps hs ≡ Some h)) → (h : Held) × ((if v then x else at_number n ps hs) ≡ Some h)
+    by true is found rest = there p x all.0 is
+    by false is found rest = rest found
 
 -- the link that is open in a stretch was open before it
 open_before : (s : State) (c : Command) (l : OpenLink) → (changed s c).link ≡ Some l → s.link ≡ Some l

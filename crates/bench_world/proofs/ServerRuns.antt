@@ -193,7 +193,7 @@ module _ (old : FarEnd) (general : List ℕ) where
         subst (P (arrival_marks c begin p.before)) here_is (subst (λ ms. P ms here) (to_marks c begin p.before p.next) (law.puts c few))
 
     -- the rest of the payload, the reply, and what came then
-    left : FarEnd
+    abbrev left : FarEnd
     left = steps serving (steps serving here p.came) p.behind
 
     left_is : left ≡ taken_from serving there p.next.payload
@@ -201,7 +201,7 @@ module _ (old : FarEnd) (general : List ℕ) where
         sym (steps_more serving here p.came p.behind) ∙ ap (steps serving here) (sym split_here)
         ∙ ap (λ l. taken_from serving l p.next.payload) here_is
 
-    rest : List (Acted ServerState)
+    abbrev rest : List (Acted ServerState)
     rest = gives until p.next ∷ run_of (end_after until p.next) p.more
 
     rest_does : IsServerRun left rest
