@@ -37,8 +37,8 @@ fn type_5_tag(alloc: Global) -> Result<Device, Fail> {
 fn type_5_tag_has_power_in_the_light(rt: HostRuntime) -> Result<(), Fail> {
     let alloc = rt.alloc();
     let steps = [
-        NOT_FOUND, Light, FOUND, STAY_QUIET, NOT_FOUND, Light, NOT_FOUND, Dark, NOT_FOUND,
-        Light, FOUND,
+        NOT_FOUND, Light, FOUND, STAY_QUIET, NOT_FOUND, Light, NOT_FOUND, Dark, NOT_FOUND, Light,
+        FOUND,
     ];
     goes_through(&rt, alloc, &mut type_5_tag(alloc)?, &[&steps])
 }
@@ -106,8 +106,7 @@ const SELECT: Step = Hears(
 
 fn type_4_tag(alloc: Global) -> Result<Device, Fail> {
     let container = [
-        0x00, 0x0F, 0x20, 0x00, 0x3B, 0x00, 0x0D, 0x04, 0x06, 0xE1, 0x04, 0x00, 0x02, 0x00,
-        0x00,
+        0x00, 0x0F, 0x20, 0x00, 0x3B, 0x00, 0x0D, 0x04, 0x06, 0xE1, 0x04, 0x00, 0x02, 0x00, 0x00,
     ];
     let tag = T4Tag::new(0, container.to_vec(alloc)?, vec![in alloc; 0u8; 2]?)?;
     let id = Ident::new(&[1, 2, 3, 4])?;

@@ -95,9 +95,12 @@ module _ {L C : Type 0} (k : Ghosts L) (target : L → TargetState) (see : C →
 
   pub closing_failed : (client : EndState) (e : SnepFault) → FailsBy (sees see) (swaps k target see) (AnswersCounted serving) (StopsCounted serving) ns from a far e client b half → Fails client (see b).air half e
   closing_failed client e (inl (bad, came, talk)) =
-      subst (Fails client (see b).air half) (sym bad) (came, λ linked links place there os.
-      of_call k linked peer_ends place os ns from i old far (see b).air half target (Comes (gives_up came client) (see b).initiator)
-      (reaches k target see laws a b far half old i is open_ ready ns from (gives_up came client) talk (λ left. refl) linked links place there os).0 (λ q. cc))
+      subst (Fails client (see b).air half) (sym bad) (
+        came,
+        λ linked links place there os.
+            of_call k linked peer_ends place os ns from i old far (see b).air half target (Comes (gives_up came client) (see b).initiator)
+            (reaches k target see laws a b far half old i is open_ ready ns from (gives_up came client) talk (λ left. refl) linked links place there os).0 (λ q. cc),
+      )
   closing_failed client e (inr broke) = cut_closing client e (cut_off k target see laws a b far half old i is open_ ready ns from e client broke)
 
   module _ (jobs : List OnSap) (client : EndState) (talk : Talks (sees see) (swaps k target see) (AnswersCounted serving) (StopsCounted serving) ns from a far (Ends jobs client) b half) (is_stuck : Choosing PeerState → Bool) (new : Air L)

@@ -111,8 +111,12 @@ fn exchanged(alloc: Global, bytes: &[u8]) -> Result<(Told, Told, usize), Fail> {
     let mut initiator = Initiator::new(3);
     let mut far = Mute;
     let mut pair = DepPair::on(&mut field, &mut initiator);
-    let first = pair.exchange(alloc, &[1], &mut far).map(|reply| reply.len());
-    let again = pair.exchange(alloc, &[1], &mut far).map(|reply| reply.len());
+    let first = pair
+        .exchange(alloc, &[1], &mut far)
+        .map(|reply| reply.len());
+    let again = pair
+        .exchange(alloc, &[1], &mut far)
+        .map(|reply| reply.len());
     Ok((first, again, field.trace().len()))
 }
 

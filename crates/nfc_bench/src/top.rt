@@ -1,6 +1,6 @@
 //! The top call: a run, from the bytes of a script to the bytes of its report.
 
-ghost use Rattle.std.specs.Prelude.{map, string_bytes, ◌⊎◌, ◌≡◌, ◌≤◌, [], ℕ, List, Some};
+ghost use Rattle.std.specs.Prelude.{false, map, string_bytes, ◌⊎◌, ◌≡◌, ◌≤◌, [], ℕ, List, Some};
 ghost use Rattle.nfc_io.specs.Counts.{HasRisen};
 ghost use Rattle.nfc_io.specs.Lines.{lines_of};
 ghost use Rattle.nfc_bench.specs.Limits.{most_read};

@@ -1,8 +1,8 @@
 //! Frames of Type 2 tags, read and written.
 
 use nfc_base::{Frame, Tech};
-use t2t_tag::{T2Answer, T2Command};
 use std::test::Fail;
+use t2t_tag::{T2Answer, T2Command};
 
 #[test]
 fn frames_come_back(rt: HostRuntime) -> Result<(), Fail> {

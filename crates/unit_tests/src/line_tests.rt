@@ -165,8 +165,7 @@ const FINDS: Lines = &[
 #[test]
 fn lines(rt: HostRuntime) {
     let tables = [
-        SKIPPED, READS, PLACES_T2, PLACES_T5, PLACES_T4, FATES, REMOVALS, LOCKS, BUSY, DUMPS,
-        FINDS,
+        SKIPPED, READS, PLACES_T2, PLACES_T5, PLACES_T4, FATES, REMOVALS, LOCKS, BUSY, DUMPS, FINDS,
     ];
     for rows in tables {
         faults(&rt, rt.alloc(), rows);

@@ -1,6 +1,6 @@
 //! A run over a workload.
 
-ghost use Rattle.std.specs.Prelude.{◌≡◌, ◌⊎◌, ◌≤◌};
+ghost use Rattle.std.specs.Prelude.{false, ◌≡◌, ◌⊎◌, ◌≤◌};
 ghost use Rattle.nfc_io.specs.Counts.{HasRisen};
 ghost use Rattle.bench_script.specs.Limits.{AreWithinLimits};
 ghost use Rattle.bench_world.specs.Obeying.{new_bench};

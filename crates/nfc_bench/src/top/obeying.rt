@@ -4,7 +4,7 @@ ghost use Rattle.std.specs.Prelude.{◌≡◌, ◌<◌, [], ℕ, List, length, s
 ghost use Rattle.bench_script.specs.declared.command.Command.{Command};
 ghost use Rattle.bench_world.specs.Obeying.{new_bench};
 ghost use Rattle.bench_world.specs.Taking.{IsTaken, AreTaken};
-ghost ghost use Rattle.nfc_bench.specs.Run.{FirstAreObeyed};
+ghost use Rattle.nfc_bench.specs.Run.{FirstAreObeyed};
 ghost use Rattle.nfc_bench.specs.Stops.{LineObeyed, Lost, ObeyedBy};
 
 use arrayvec::ArrayVec;
