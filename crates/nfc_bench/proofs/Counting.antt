@@ -7,13 +7,14 @@ use Rattle.std.proofs.lemmas.List.Elements.{All-cons, All-nil, All-take}
 use Rattle.std.proofs.lemmas.List.Sums.{sum_by-le}
 use Rattle.bench_script.specs.declared.command.Command.{Command}
 use Rattle.bench_script.specs.declared.command.Command.TheVariants.{Put}
-use Rattle.bench_script.specs.Limits.{most_lines}
+use Rattle.bench_script.specs.Limits.{most_lines, AreWithinLimits}
 use Rattle.bench_script.specs.Script.{is_skipped, longest_message}
 use Rattle.bench_world.specs.declared.entry.Answer.{Answer}
 use Rattle.bench_world.specs.declared.entry.Answer.TheVariants.{Success}
 use Rattle.bench_world.specs.declared.entry.Entry.{Entry}
 use Rattle.bench_world.specs.Journal.{NumberedLine, asking_lines, AreEntriesOf}
 use Rattle.bench_world.specs.Legal.{State, Given, Accepts, EachLegal, first_state}
+use Rattle.bench_world.specs.Obeying.{Benched}
 use Rattle.nfc_bench.specs.Made.{put_size, size_told}
 use Rattle.nfc_bench.specs.Run.{AreObeyed}
 
