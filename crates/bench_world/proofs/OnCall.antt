@@ -13,7 +13,7 @@ use Rattle.nfc_base.specs.LinkTurns.{bad_receptions}
 use Rattle.nfc_base.specs.Trace.{noise, breaks}
 use Rattle.air_core.specs.Turn.{Air, moment, world, after_event}
 use Rattle.air_core.specs.Conversation.{Note, Next, Over, Asks, AreTurns, FatesFrom, EachDue, receptions, replay, queue_after, first_fate, later_fates}
-use Rattle.air_core.specs.Turning.{due-append, due_weaker, fates-append, queue_after-append}
+use Rattle.air_core.specs.Turning.{due_weaker}
 use Rattle.dep_link.specs.Initiator.{InitState}
 use Rattle.far_air.specs.FarWorld.{with_numbers}
 use Rattle.far_air.specs.FarLaws.{seen}

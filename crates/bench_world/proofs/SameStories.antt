@@ -5,9 +5,8 @@ use Rattle.std.specs.List.{AllByRecursion}
 use Rattle.std.proofs.lemmas.List.{append-nil}
 use Rattle.far_air.specs.FarEnds.{first_far, later_fars}
 use Rattle.nfc_base.specs.declared.event.Event.{Event}
-use Rattle.snep_core.specs.Server.{Received as Accepted}
 use Rattle.bench_script.specs.declared.command.Command.{Command}
-use Rattle.bench_script.specs.declared.command.Command.TheVariants.{Skip, Fates, PlaceT2, PlaceT4, PlaceT5, PlacePeer, Lock, Busy, Offer, Remove, Dump, Inbox, Find, Read, Write, Link, Put, Get, Lookup, Unlink}
+use Rattle.bench_script.specs.declared.command.Command.TheVariants.{Remove, Find, Read, Write, Link, Put, Get, Lookup, Unlink}
 use Rattle.bench_world.specs.declared.entry.Answer.{Answer}
 use Rattle.bench_world.specs.declared.entry.Entry.{Entry}
 use Rattle.bench_world.specs.declared.inbox.LinkRange.{LinkRange}
@@ -21,8 +20,7 @@ use Rattle.bench_world.specs.Stories.{Story, Stretch, accepted_of, accepted_in, 
 use Rattle.bench_world.proofs.AtNumbers.{AreHeld, HasHeld, Held, IfHeld, at_number, held, held_at}
 use Rattle.bench_world.proofs.PayloadsKept.{unless_numbers}
 use Rattle.bench_world.proofs.StoriesHere.{Stand, StandBy, view_of}
-use Rattle.bench_world.proofs.StoriesStand.{Fits, IsDone, Open, Paired, View, at, last_story, ranges, stories}
-use Rattle.bench_world.proofs.StoriesStep.{base_held}
+use Rattle.bench_world.proofs.StoriesStand.{Fits, IsDone, Open, Paired, at, last_story, ranges, stories}
 use Rattle.bench_world.proofs.Tales.{goes_on, stories_behind, stories_from}
 use Rattle.bench_world.proofs.Unlinking.{same_numbers}
 

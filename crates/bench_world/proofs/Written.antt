@@ -17,7 +17,7 @@ use Rattle.bench_devices.proofs.OneShown.{kind_store}
 use Rattle.bench_devices.proofs.TagOrPeer.{as_tag}
 use Rattle.bench_world.specs.declared.entry.Answer.TheVariants as answers
 use Rattle.bench_world.specs.declared.entry.Entry.{Entry}
-use Rattle.bench_world.specs.Completing.{MayBeWritten, ValidIsWritten}
+use Rattle.bench_world.specs.Completing.{MayBeWritten, ShownIsWritten, ValidIsWritten}
 use Rattle.bench_world.specs.Journal.{LeadsTo, asking_lines}
 use Rattle.bench_world.specs.Legal.{State, Joins, first_state}
 use Rattle.bench_world.specs.Writing.{TellsWrite}
@@ -46,6 +46,10 @@ told_written s e id m d ready placed tells may =
 
 pub reached : (lines : List (List ℕ)) (numbers : List Joins) (journal : List Entry) (s : State) → LeadsTo lines numbers journal s → IsReady s.world.field.listeners
 reached lines numbers journal s leads = ready_behind (asking_lines 1 lines) first_state s leads.given journal first_ready leads.numbered leads.steps
+
+pub shown_is_written : ShownIsWritten
+shown_is_written s t g e id m d step is placed tag named calm shows =
+    one_written (message_of m) d e.answer answers.Written (writes_complete s t g e id m d step is placed named calm) (as_tag d tag _ _ (Ok tt, shows, refl))
 
 pub valid_is_written : ValidIsWritten
 valid_is_written lines numbers journal s t g e id m d leads step is placed named calm may =

@@ -28,6 +28,7 @@ use Rattle.bench_devices.specs.Crowded.{crowd_of, others_of}
 use Rattle.bench_devices.specs.Noise.{noisy_tries, AreDisturbed}
 use Rattle.bench_devices.specs.Placed.{device_with}
 use Rattle.bench_devices.specs.Polling.{Told, selecting}
+use Rattle.bench_devices.specs.Writing.{ShowsWrite}
 use Rattle.bench_world.specs.declared.entry.Answer.{Answer}
 use Rattle.bench_world.specs.declared.entry.Answer.TheVariants as answers
 use Rattle.bench_world.specs.declared.entry.Entry.{Entry}
@@ -67,12 +68,19 @@ WritesComplete =
     (s t : State) (g : Given) (e : Entry) (id : DeviceId) (m : Msg) (d : Device) → LegalStep s g e t → e.command ≡ Write id m → device_with (bytes_of id) s.world.field.listeners ≡ Some d
     → IsNamed id d → IsUndisturbed id g.asked e.events → TellsWrite (message_of m) d e.answer
 
+-- So a message is written where the tag holds one, is free to write, has room for it, takes updates of two bytes, and
+-- refuses none of the writes.
+abbrev pub ShownIsWritten : Type 0
+ShownIsWritten =
+    (s t : State) (g : Given) (e : Entry) (id : DeviceId) (m : Msg) (d : Device) → LegalStep s g e t → e.command ≡ Write id m → device_with (bytes_of id) s.world.field.listeners ≡ Some d
+    → is_tag d ≡ true → IsNamed id d → IsUndisturbed id g.asked e.events → ShowsWrite (message_of m) d (Ok tt) → e.answer ≡ answers.Written
+
 -- A tag takes a message, which it has room for in the place of the one that it holds, and none of the blocks that are written for it
 -- is locked. Of a Type 4 tag none is, and one update may bring two bytes.
 abbrev pub MayBeWritten : List ℕ → Device → Type 0
 MayBeWritten message d = (is_tag d ≡ true) × IsFreeFor (how_of d) (size_of d) (device_locks d) (device_store d) message
 
--- So a message is written there, wherever the lines of a script lead.
+-- It refuses none then, so the message is written, wherever the lines of a script lead.
 abbrev pub ValidIsWritten : Type 0
 ValidIsWritten =
     (lines : List (List ℕ)) (numbers : List Joins) (journal : List Entry) (s t : State) (g : Given) (e : Entry) (id : DeviceId) (m : Msg) (d : Device) → LeadsTo lines numbers journal s

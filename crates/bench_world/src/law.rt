@@ -2,7 +2,7 @@
 //! for these laws.
 
 ghost use Rattle.bench_world.specs.Behind.{WrittenIsRead, OneOfThreeIsRead};
-ghost use Rattle.bench_world.specs.Completing.{ReadsComplete, WritesComplete, ValidIsWritten, FindsComplete};
+ghost use Rattle.bench_world.specs.Completing.{ReadsComplete, WritesComplete, ShownIsWritten, ValidIsWritten, FindsComplete};
 ghost use Rattle.bench_world.specs.CompletingLinks.{PutsComplete, GetsComplete, LookupsComplete, UnlinksComplete, ValidIsOk, LinkingsComplete, KindsTold};
 ghost use Rattle.bench_world.specs.LinkLaw.{LinkLaw};
 ghost use Rattle.bench_world.specs.Quiet.{QuietStays, QuietReads, QuietWrites, QuietIsWritten, QuietFinds};
@@ -21,6 +21,7 @@ pub fn reads_complete()
 /// tag takes it and none of the blocks that are written for it is locked.
 pub fn writes_complete()
     ensures told { WritesComplete }
+    ensures shown { ShownIsWritten }
     ensures written { ValidIsWritten }
 {}
 
