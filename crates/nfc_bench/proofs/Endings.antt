@@ -13,7 +13,6 @@ use Rattle.nfc_io.specs.declared.line_reader.LineStop.TheVariants as ends
 use Rattle.nfc_io.proofs.Counts.{rises_at_last}
 use Rattle.nfc_io.proofs.Moves.{with_end-append, with_end-nil, with_front-nil, read_on}
 use Rattle.nfc_io.proofs.Lines.{GoesOn, some_line, lines_longer, whole_last}
-use Rattle.bench_world.specs.declared.entry.Entry.{Entry}
 use Rattle.nfc_bench.specs.declared.top.lines.Stop.{Stop}
 use Rattle.nfc_bench.specs.declared.top.lines.Stop.TheVariants.{Refused, ReadFault, WriteFault, Memory}
 use Rattle.bench_script.specs.Limits.{most_lines, longest_line, AreWithinLimits}
@@ -22,7 +21,7 @@ use Rattle.bench_world.specs.Legal.{first_state}
 use Rattle.bench_world.specs.Obeying.{Benched, new_bench}
 use Rattle.bench_world.specs.Taking.{AreSpelled, IsTaken, standing_of}
 use Rattle.bench_world.proofs.Shapes.{TakenAlike, legal_taken, taken_at, taken_too}
-use Rattle.nfc_bench.specs.Run.{AreObeyed, FirstAreObeyed, FirstRefused, AllTaken, RefusesLine, ObeysFront, AddsFault, line_fault, read_fault, EndsDone, EndsRefused, EndsUnread, EndsUnwritten, ReadsInTime}
+use Rattle.nfc_bench.specs.Run.{AreObeyed, FirstRefused, AllTaken, RefusesLine, ObeysFront, AddsFault, line_fault, read_fault, EndsDone, EndsRefused, EndsUnread, EndsUnwritten, ReadsInTime}
 use Rattle.nfc_bench.specs.Stops.{Follows, LineRefused, LineCut, LineLost, LineStops, Lost, ObeyedBy, RunRefused, RunUnread, RunLost, RunStops}
 use Rattle.nfc_bench.proofs.Limits.{all_at, IsShort, limits_more, no_limits}
 use Rattle.nfc_bench.proofs.Progress.{Progress, GaveNext, Goes, goes, lines_on, whole_on, ended_on, leads_to, obeyed_lost, obeyed_more, obeyed_new}

@@ -14,7 +14,7 @@ use Rattle.nfc_io.proofs.Lines.{lines_front, whole_front, lines_last}
 use Rattle.bench_world.specs.declared.entry.Entry.{Entry}
 use Rattle.bench_world.specs.Journal.{LeadsTo, Legal}
 use Rattle.bench_world.specs.LinkLaw.{LinksAccept}
-use Rattle.bench_world.specs.Legal.{State, Joins, Given, first_state, no_joins}
+use Rattle.bench_world.specs.Legal.{State, Joins, Given, no_joins}
 use Rattle.bench_world.specs.Obeying.{Benched, new_bench}
 use Rattle.bench_world.specs.Report.{report_text}
 use Rattle.bench_world.proofs.LinkLaw.{link_law}

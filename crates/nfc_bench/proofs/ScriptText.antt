@@ -1,7 +1,6 @@
 -- A script is read in chunks.
-use Rattle.std.proofs.Common.{◌≡◌, ℕ, ◌≤◌, List, [], ◌++◌, length, Option, sym, ◌∙◌, arith}
+use Rattle.std.proofs.Common.{ℕ, ◌≤◌, List, [], ◌++◌, length, Option, sym, arith}
 use Rattle.std.proofs.lemmas.List.{length-append}
-use Rattle.nfc_io.specs.Moves.{with_front}
 use Rattle.nfc_io.proofs.Moves.{with_front-nil}
 use Rattle.nfc_bench.specs.Limits.{longest_script, most_read}
 use Rattle.nfc_bench.specs.Run.{ReadsInTime, ReadsAtMost}

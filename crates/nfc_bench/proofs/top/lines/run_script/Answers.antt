@@ -1,9 +1,8 @@
-use Rattle.std.proofs.Common.{◌≡◌, ◌≤◌, ◌<◌, ◌+◌, ℕ, List, Option, None, true, Ok, Err, refl, sym, ◌∙◌, ap, subst, arith}
+use Rattle.std.proofs.Common.{◌≡◌, ◌≤◌, ℕ, List, Option, true, Ok, Err, refl, ◌∙◌, ap, subst, arith}
 use Rattle.nfc_io.specs.Counts.{HasRisen}
 use Rattle.nfc_io.specs.Reading.{Lined, new_lined, Advances, Looks}
 use Rattle.nfc_io.specs.declared.line_reader.LineStop.{LineStop}
 use Rattle.nfc_io.specs.declared.line_reader.LineStop.TheVariants.{ReadFault, TooLong}
-use Rattle.bench_world.specs.Obeying.{Benched}
 use Rattle.nfc_bench.specs.Stops.{LineDone, LineStops}
 use Rattle.nfc_bench.proofs.ScriptText.{stops_at_once}
 use Rattle.nfc_bench.proofs.Progress.{GaveNext, progress_start, progress_more, gave_next, in_time, line_sound}

@@ -1,4 +1,4 @@
-use Rattle.std.proofs.Common.{◌≡◌, ◌++◌, ℕ, List, Option, ◌∙◌, ap, subst}
+use Rattle.std.proofs.Common.{◌≡◌, ℕ, List, Option, ◌∙◌, ap, subst}
 use Rattle.nfc_io.specs.Moves.{with_end, GainsFront}
 use Rattle.bench_world.specs.Report.{line_text, answer_text}
 use Rattle.nfc_bench.proofs.Writing.{piece_written, piece_cut, on_err}

@@ -1,4 +1,4 @@
-use Rattle.std.proofs.Common.{◌≡◌, ◌++◌, ℕ, List, Bool, Option, sym, ◌∙◌, ap, subst}
+use Rattle.std.proofs.Common.{◌≡◌, ℕ, List, Bool, Option, sym, ◌∙◌, ap, subst}
 use Rattle.nfc_io.specs.Moves.{with_end, GainsFront}
 use Rattle.nfc_io.proofs.Moves.{GainsFront-after}
 use Rattle.bench_world.specs.Report.{events_text, line_text, answer_text, entry_text}

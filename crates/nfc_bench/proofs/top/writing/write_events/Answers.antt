@@ -1,4 +1,4 @@
-use Rattle.std.proofs.Common.{◌≡◌, ◌<◌, ◌++◌, ℕ, List, Option, ◌∙◌, ap, subst, arith}
+use Rattle.std.proofs.Common.{ℕ, List, Option, ◌∙◌, ap, subst, arith}
 use Rattle.nfc_io.specs.Moves.{GainsFront}
 use Rattle.nfc_base.specs.declared.event.Event.{Event}
 use Rattle.bench_world.specs.Report.{event_text, events_text, line_text}
