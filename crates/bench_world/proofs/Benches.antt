@@ -12,18 +12,18 @@ use Rattle.bench_world.specs.Obeying.{Machines, untraced, state_at, IsSettled, O
 use Rattle.bench_world.proofs.Numbers.{none_for}
 
 -- what contracts see of a bench with this journal and these machines
-abbrev pub seen : List Entry → Machines → Bool → Benched
-seen js a spoiled = record { journal = js; state = state_at a; cut = a.air.trace; spoiled = spoiled }
+abbrev pub seen : List (List Entry) → List Entry → Machines → Bool → Benched
+seen rs js a spoiled = record { finished = rs; journal = js; state = state_at a; cut = a.air.trace; spoiled = spoiled }
 
 -- a bench that isn't spoiled isn't a spoiled one
 pub both_ways : (b : Benched) → b.spoiled ≡ false → b.spoiled ≡ true → ⊥
 both_ways b sound bad = (let clash : false ≡ true = sym sound ∙ bad in cc)
 
 -- want of memory cut a command off
-pub spoils : (old : Benched) (a b : Machines) (js ks : List Entry) (c : Command) → old ≡ seen js a false → ks ≡ js → IsCutOff a b c → LacksMemory old (seen ks b true) c
-spoils old a b js ks c is same cut =
-    let S : List Entry → Benched → Type 0 = λ xs o. Spoils o (seen xs b true) c in
-    let it : S js (seen js a false) = record { state = state_at b; cut = b.air.trace; is = refl; front = cut } in
+pub spoils : (old : Benched) (rs : List (List Entry)) (a b : Machines) (js ks : List Entry) (c : Command) → old ≡ seen rs js a false → ks ≡ js → IsCutOff a b c → LacksMemory old (seen rs ks b true) c
+spoils old rs a b js ks c is same cut =
+    let S : List Entry → Benched → Type 0 = λ xs o. Spoils o (seen rs xs b true) c in
+    let it : S js (seen rs js a false) = record { state = state_at b; cut = b.air.trace; is = refl; front = cut } in
     (λ _. subst (λ xs. S xs old) (sym same) (subst (S js) (sym is) it), λ bad. absurd (both_ways old (ap (λ o. o.spoiled) is) bad))
 
 as_obeys : (old new : Benched) (line : ℕ) (c : Command) → (c ≡ Skip → ⊥) → Adds old new line c → Obeys old new line c
@@ -34,10 +34,10 @@ pub cut_most : (a b : Machines) (c : Command) (joins : Joins) → joins ≡ no_j
 cut_most a b c joins most cut = subst (λ j. IsCutOffBy j a b c) (none_for c joins most) cut
 
 -- a command was obeyed, and its entry added
-pub adds_entry : (old : Benched) (a b k : Machines) (js ks : List Entry) (c : Command) (answer : Answer) (e : Entry) (joins : Joins) → joins ≡ no_joins → (c ≡ Skip → ⊥) → old ≡ seen js a false → IsSettled a
+pub adds_entry : (old : Benched) (rs : List (List Entry)) (a b k : Machines) (js ks : List Entry) (c : Command) (answer : Answer) (e : Entry) (joins : Joins) → joins ≡ no_joins → (c ≡ Skip → ⊥) → old ≡ seen rs js a false → IsSettled a
     → ObeyedBy (joins_for c joins) a b c answer
-    → k ≡ record { air = record { lit = b.air.lit; listeners = b.air.listeners; fates = b.air.fates; trace = [] }; ends = b.ends; peers = b.peers; link = b.link } → ks ≡ js ++ e ∷ [] → e.command ≡ c → e.events ≡ b.air.trace → e.answer ≡ answer → Obeys old (seen ks k false) e.line c
-adds_entry old a b k js ks c answer e joins most other is settled o left added command events told =
+    → k ≡ record { air = record { lit = b.air.lit; listeners = b.air.listeners; fates = b.air.fates; trace = [] }; ends = b.ends; peers = b.peers; link = b.link } → ks ≡ js ++ e ∷ [] → e.command ≡ c → e.events ≡ b.air.trace → e.answer ≡ answer → Obeys old (seen rs ks k false) e.line c
+adds_entry old rs a b k js ks c answer e joins most other is settled o left added command events told =
     let to : state_at k ≡ state_at b = ap state_at left in
     let F : List Event → State → Type 0 = λ es t. FrontOf (state_at a) o.given c es (Some answer) t in
     let front : F e.events (state_at k) = subst (λ es. F es (state_at k)) (sym events) (subst (F b.air.trace) (sym to) o.front) in
@@ -50,9 +50,9 @@ adds_entry old a b k js ks c answer e joins most other is settled o left added c
       over = ap (λ x. due (state_at a) o.given x (receptions e.events)) command ∙ over;
       answered = subst (λ x. AnswerLaw (state_at a) o.given x e.events e.answer) (sym command) law;
     } in
-    let B : List Entry → List Event → Benched = λ xs cut. record { journal = xs; state = state_at k; cut = cut; spoiled = false } in
-    let A : Benched → Type 0 = λ x. Adds x (seen ks k false) e.line c in
-    let it : A (seen js a false) = record {
+    let B : List Entry → List Event → Benched = λ xs cut. record { finished = rs; journal = xs; state = state_at k; cut = cut; spoiled = false } in
+    let A : Benched → Type 0 = λ x. Adds x (seen rs ks k false) e.line c in
+    let it : A (seen rs js a false) = record {
       sound = refl;
       entry = e;
       state = state_at k;
@@ -63,7 +63,7 @@ adds_entry old a b k js ks c answer e joins most other is settled o left added c
       joined = o.joined ∙ none_for c joins most;
       legal = step;
     } in
-    as_obeys old (seen ks k false) e.line c other (subst A (sym is) it)
+    as_obeys old (seen rs ks k false) e.line c other (subst A (sym is) it)
 
 -- Behind a command that was obeyed the bench is settled again, once its events are taken.
 pub settled_untraced : (joins : Joins) (a b : Machines) (c : Command) (answer : Answer) → ObeyedBy joins a b c answer → IsSettled (untraced b)

@@ -159,16 +159,22 @@ abbrev pub CutOffUnlinked : Air Device → Air Device → Command → Type 0
 CutOffUnlinked old new c =
     (ends : List (Option FarEnd)) (peers : Peers) → CutFront no_joins (state_at (under ends peers None old)) c new.trace (state_at (under ends peers None new))
 
--- What contracts see of a bench: its journal; the state that its machines are in; what happened in a command that want
--- of memory cut off, since its last entry; and whether that spoiled it.
+-- What contracts see of a bench: the journals of its finished runs, in order; the journal of the run that goes on; the
+-- state that its machines are in; what happened in a command that want of memory cut off, since its last entry; and
+-- whether that spoiled it.
 pub record Benched : Type 0 where
+  pub finished : List (List Entry)
   pub journal : List Entry
   pub state : State
   pub cut : List Event
   pub spoiled : Bool
 
+-- a bench that is new, but for these finished runs
+abbrev pub begun_anew : List (List Entry) → Benched
+begun_anew runs = record { finished = runs; journal = []; state = first_state; cut = []; spoiled = false }
+
 abbrev pub new_bench : Benched
-new_bench = record { journal = []; state = first_state; cut = []; spoiled = false }
+new_bench = begun_anew []
 
 -- The journal gained one entry of this line and command, and the machines are in the state that its step leads to. As
 -- many PDUs as fit were joined in each payload.

@@ -4,7 +4,7 @@ ghost use Rattle.std.specs.Prelude.{◌≡◌, ◌≢◌, ◌↔◌, ◌≤◌, 
 ghost use Rattle.bench_world.specs.Legal.{Accepts, joins_for, memory_of};
 ghost use Rattle.bench_devices.specs.Device.{most_devices};
 ghost use Rattle.bench_devices.specs.Placed.{device_with};
-ghost use Rattle.bench_world.specs.Obeying.{Obeys, Obeyed, ObeyedBy, IsSettled, IsCutOffBy, RefusedOnly, ObeyedBelow, RefusedBelow, LacksMemory, FieldOf, FarAt, new_bench, obey_fault_number};
+ghost use Rattle.bench_world.specs.Obeying.{Obeys, Obeyed, ObeyedBy, IsSettled, IsCutOffBy, RefusedOnly, ObeyedBelow, RefusedBelow, LacksMemory, FieldOf, FarAt, begun_anew, new_bench, obey_fault_number};
 ghost use Rattle.bench_world.specs.Links.{OpenLink};
 ghost use Rattle.bench_devices.specs.Phases.{IsIdle};
 
@@ -26,6 +26,7 @@ use nfca_poll::{Front, Ident};
 use snep_core::{Client, Server};
 use std::alloc::{AllocError, Global};
 use std::marker::Model;
+use std::mem;
 use t2t_tag::T2Tag;
 use t4t_tag::{T4Tag, named_size};
 use t5t_tag::T5Tag;
@@ -341,12 +342,36 @@ fn run_command(
     }
 }
 
-/// A field, the devices in it with the far ends above them, and the journal of the commands that were obeyed. Once want
-/// of memory has cut a command off it obeys none.
+/// A run of a bench that is finished: the journal that it left.
+#[derive(Drop)]
+pub struct Run {
+    entries: Vec<Entry>,
+}
+
+impl Model for Run {
+    ghost use Rattle.std.specs.Prelude.{List};
+
+    ghost Value = { List Entry };
+
+    ghost view = { λ r. r.entries.items };
+}
+
+impl Run {
+    /// What was obeyed in it.
+    pub fn journal(&self) -> &[Entry]
+        ensures { result.now ≡ self.now }
+    {
+        self.entries.as_slice()
+    }
+}
+
+/// A field, the devices in it with the far ends above them, the journal of the commands that were obeyed, and those of
+/// the runs before. Once want of memory has cut a command off it obeys none.
 #[derive(Drop)]
 pub struct Bench {
     alloc: Global,
     machines: Machines,
+    finished: Vec<Run>,
     journal: Vec<Entry>,
     spoiled: bool,
 }
@@ -358,6 +383,7 @@ impl Model for Bench {
     ghost Value = { Benched };
 
     ghost view = { λ b. record {
+      finished = b.finished.items;
       journal = b.journal.items;
       state = state_at b.machines;
       cut = b.machines.air.trace;
@@ -375,20 +401,50 @@ fn record_entry(journal: &mut Vec<Entry>, entry: Entry)
     let _ = journal.push(entry);
 }
 
+/// Adds a finished run where there is room.
+fn add_run(finished: &mut Vec<Run>, run: Run)
+    requires { vec_len finished.old < vec_capacity finished.old }
+    ensures { finished.new.items ≡ finished.old.items ++ run ∷ [] }
+{
+    let _ = finished.push(run);
+}
+
 impl Bench {
-    /// A bench with no device and an empty journal.
+    /// A bench with no device, an empty journal and no finished run.
     pub fn new(alloc: Global) -> Bench
         ensures { result ≡ new_bench }
     {
         Bench {
             alloc,
             machines: Machines::new(alloc),
+            finished: Vec::new(alloc),
             journal: Vec::new(alloc),
             spoiled: false,
         }
     }
 
-    /// What was obeyed so far.
+    /// Begins anew: the journal becomes the last of the finished runs, and all else is as in a new bench. Where memory is
+    /// wanting nothing changes.
+    pub fn again(&mut self) -> Result<(), AllocError>
+        requires { self.old.spoiled ≡ false }
+        ensures ok { OnOk result (self.new ≡ begun_anew (self.old.finished ++ self.old.journal ∷ [])) }
+        ensures err { OnErr result (self.new ≡ self.old) }
+    {
+        self.finished.reserve(1)?;
+        let entries = mem::replace(&mut self.journal, Vec::new(self.alloc));
+        add_run(&mut self.finished, Run { entries });
+        self.machines = Machines::new(self.alloc);
+        Ok(())
+    }
+
+    /// The runs that are finished, in order.
+    pub fn finished(&self) -> &[Run]
+        ensures { result.now ≡ self.now.finished }
+    {
+        self.finished.as_slice()
+    }
+
+    /// What was obeyed so far, since the last finished run.
     pub fn journal(&self) -> &[Entry]
         ensures { result.now ≡ self.now.journal }
     {

@@ -27,7 +27,7 @@ mod peers;
 mod pieces;
 mod report;
 
-pub use bench::{Bench, ObeyFault};
+pub use bench::{Bench, ObeyFault, Run};
 pub use bench_devices::{Device, SeenKind};
 pub use entry::{Answer, Entry, Loss, Received, Seen};
 pub use event_lines::event_line;

@@ -17,7 +17,7 @@ pub returns : goal.returns
 returns c =
     let m : Machines = c.self.inside.machines in
     let place : ℕ = c.args.place in
-    let view : c.args.self.now ≡ seen c.self.inside.journal.items m c.self.inside.spoiled = search rules in
+    let view : c.args.self.now ≡ seen c.self.inside.finished.items c.self.inside.journal.items m c.self.inside.spoiled = search rules in
     let is : c.args.self.now.state ≡ state_at m = ap (λ (b : Benched). b.state) view in
     let within : place < length m.air.listeners = subst (λ (s : State). place < length s.world.field.listeners) is c.requires.place in
     let end : get_or m.ends place None ≡ Some c.in-Some.end.now = search rules in
@@ -27,7 +27,7 @@ pub unreachable-requires : goal.unreachable-requires
 unreachable-requires c =
     let m : Machines = c.self.inside.machines in
     let place : ℕ = c.args.place in
-    let view : c.args.self.now ≡ seen c.self.inside.journal.items m c.self.inside.spoiled = search rules in
+    let view : c.args.self.now ≡ seen c.self.inside.finished.items c.self.inside.journal.items m c.self.inside.spoiled = search rules in
     let is : c.args.self.now.state ≡ state_at m = ap (λ (b : Benched). b.state) view in
     let within : place < length m.air.listeners = subst (λ (s : State). place < length s.world.field.listeners) is c.requires.place in
     let end : get_or m.ends place None ≡ None = c.far.ensures.none c.in-None.is in
