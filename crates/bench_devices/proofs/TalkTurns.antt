@@ -18,6 +18,7 @@ use Rattle.air_core.specs.PlainTags.{IsAside}
 use Rattle.air_core.specs.Turn.{Air, brought, Meets, HearAll, HearSome, TurnBy, TurnIs, Stops}
 use Rattle.air_core.proofs.PlainAside.{aside_silent}
 use Rattle.dep_link.specs.Releasing.{rls_frame, ReleaseFails, Releases}
+use Rattle.dep_link.specs.Stopping.{HeardUpTo}
 use Rattle.bench_devices.specs.declared.device.Device.{Device}
 use Rattle.bench_devices.specs.declared.device.Device.TheVariants.{T2, T4, Peer, T5}
 use Rattle.bench_devices.specs.declared.polling.SeenKind.TheVariants as seen
@@ -71,6 +72,29 @@ module _ (own : List ℕ) (f : Signal) (whole : f ≡ whole_a f.bytes) where
     at = (ap (λ (k : Kept). k.fixed.kind) one.same ∙ is, all.aside);
     tidy = λ t. (one.tidy t.0, all.tidy t.1);
   }
+
+  -- a request that was heard up to the peer
+  aside_heard : (payload : List ℕ) (ls ms : List Device) → AllByRecursion (IsAside ghosts own) ls → HeardUpTo devices f payload ls ms → AllLeave ls ms
+  aside_heard payload [] ms a h = absurd h
+  aside_heard payload (l ∷ ls) ms a (later, left, inl (hands, same)) =
+      subst (AllLeave (l ∷ ls)) (sym left) (all_more l (stepped_by devices l f None) ls later (aside_left l a.0) (subst (AllLeave ls) (sym same) (all_same ls a.1)))
+  aside_heard payload (l ∷ ls) ms a (later, left, inr (quiet, more)) =
+      subst (AllLeave (l ∷ ls)) (sym left) (all_more l (stepped_by devices l f None) ls later (aside_left l a.0) (aside_heard payload ls later a.1 more))
+
+  pub heard_leaves : (payload : List ℕ) (place : ℕ) (ls ms : List Device) → PeerAt own place ls → HeardUpTo devices f payload ls ms → TalkLeaves own place ls ms
+  heard_leaves payload place [] ms a h = absurd h
+  heard_leaves payload zero (l ∷ ls) ms a (later, left, inl (hands, same)) =
+      subst (TalkLeaves own zero (l ∷ ls)) (sym left)
+      (at_first l (stepped_by devices l f None) ls later a.0 (peer_left l None a.0) (subst (AllLeave ls) (sym same) (all_same ls a.1)))
+  heard_leaves payload zero (l ∷ ls) ms a (later, left, inr (quiet, more)) =
+      subst (TalkLeaves own zero (l ∷ ls)) (sym left)
+      (at_first l (stepped_by devices l f None) ls later a.0 (peer_left l None a.0) (aside_heard payload ls later a.1 more))
+  heard_leaves payload (suc place) (l ∷ ls) ms a (later, left, inl (hands, same)) =
+      subst (TalkLeaves own (suc place) (l ∷ ls)) (sym left)
+      (at_more l (stepped_by devices l f None) place ls later (aside_left l a.0) (subst (TalkLeaves own place ls) (sym same) (leaves_all own place ls a.1)))
+  heard_leaves payload (suc place) (l ∷ ls) ms a (later, left, inr (quiet, more)) =
+      subst (TalkLeaves own (suc place) (l ∷ ls)) (sym left)
+      (at_more l (stepped_by devices l f None) place ls later (aside_left l a.0) (heard_leaves payload place ls later a.1 more))
 
   module _ {F : Type 0} (restarts : F → List ℕ → F → Type 0) (steps : F → List ℕ → List ℕ → F → Type 0) where
     aside_met : (l : Device) (far : F) (answer : Option Signal) (m : Device) (mid : F) → IsAside ghosts own l → Meets devices restarts steps f l far answer m mid → OneLeaves l m × IsAside ghosts own m

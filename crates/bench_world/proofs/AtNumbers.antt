@@ -1,5 +1,5 @@
 -- What stands of the peer with a number: its limit and what it accepted, through what commands change of peers.
-use Rattle.std.proofs.Common.{◌≡◌, ℕ, ◌<◌, List, [], ◌∷◌, ◌++◌, map, length, Bool, true, false, nat_eq, if◌then◌else◌, Option, Some, None, refl, sym, ◌∙◌, ap, subst, arith}
+use Rattle.std.proofs.Common.{◌≡◌, ℕ, ◌<◌, List, [], ◌∷◌, ◌++◌, map, length, Bool, true, false, nat_eq, if◌then◌else◌, Option, Some, None, refl, sym, ◌∙◌, ap, subst, arith, append-nil}
 use Rattle.std.specs.Cmp.Lexicographic.{pointwise}
 use Rattle.std.specs.List.{AllByRecursion}
 use Rattle.std.specs.Prelude.{option_map}
@@ -116,6 +116,21 @@ held_more more n (p ∷ ps) (k ∷ ks) all = by (is_number n p) (held_more more 
     by : (v : Bool) → AreHeld ps (with_held more n ps ks) → AreHeld (p ∷ ps) (if v then adding more k ∷ ks else k ∷ with_held more n ps ks)
     by true rest = (one p k all.0, all.1)
     by false rest = (all.0, rest)
+
+-- nothing more
+adding_none : (k : Option Held) → adding [] k ≡ k
+adding_none None = refl
+adding_none (Some k) = ap (λ xs. Some (record { limit = k.limit; accepted = xs })) (append-nil k.accepted)
+
+pub held_none_more : (n : ℕ) (ps : List (Option ℕ)) (ks : List (Option Held)) → AreHeld ps ks → with_held [] n ps ks ≡ ks
+held_none_more n [] [] all = refl
+held_none_more n [] (k ∷ ks) all = absurd all
+held_none_more n (p ∷ ps) [] all = absurd all
+held_none_more n (p ∷ ps) (k ∷ ks) all = by (is_number n p) (held_none_more n ps ks all.1)
+  where
+    by : (v : Bool) → with_held [] n ps ks ≡ ks → (if v then adding [] k ∷ ks else k ∷ with_held [] n ps ks) ≡ k ∷ ks
+    by true e = ap (λ x. x ∷ ks) (adding_none k)
+    by false e = ap (λ xs. k ∷ xs) e
 
 -- the one with the number gained it, and the others nothing
 pub at_own : (more : List Accepted) (n : ℕ) (ps : List (Option ℕ)) (ks : List (Option Held)) → at_number n ps (with_held more n ps ks) ≡ adding more (at_number n ps ks)

@@ -10,7 +10,8 @@ use Rattle.air_core.specs.Turn.{Air}
 use Rattle.dep_link.specs.Initiator.{InitState}
 use Rattle.peer_air.specs.PeerFars.{peer_ends}
 use Rattle.snep_core.specs.Accord.{Accords}
-use Rattle.snep_core.specs.Server.{Received}
+use Rattle.llcp_link.specs.Counting.{StopsCounted}
+use Rattle.snep_core.specs.Server.{Received, serving}
 use Rattle.snep_core.specs.Talk.{EndState, OnSap, Step, Ends, Task, begins}
 use Rattle.link_calls.specs.CallDue.{Comes, BrokenBy, call_due_at}
 use Rattle.link_calls.specs.CallTurns.{CallFront, CallTurns}
@@ -29,7 +30,7 @@ use Rattle.bench_world.specs.declared.entry.Loss.TheVariants as losses
 use Rattle.bench_world.specs.World.{FarEnd, stable}
 use Rattle.bench_world.specs.Calls.{OfEnd, told_loss, told_step, with_accepted}
 use Rattle.bench_world.specs.Links.{OpenLink, accepted_by, with_last_ended}
-use Rattle.bench_world.specs.Legal.{Joins, CutFront, CutStores, HaltsCall, LeavesStable, end_of, world_after}
+use Rattle.bench_world.specs.Legal.{Joins, CutFront, CutStores, HaltAdds, HaltsCall, LeavesStable, end_of, world_after}
 use Rattle.bench_world.specs.Obeying.{Machines, IsSettled, ObeyedBy, state_at, under}
 use Rattle.bench_world.specs.Opened.{IsOpen}
 use Rattle.bench_world.specs.Peers.{Peers}
@@ -129,22 +130,22 @@ module _ (air : Air Device) (ends : FarEnds) (peers : Peers) (l : OpenLink) (set
         → (stable (world_after (from_state air ends peers l settled) joins c events)).ends ≡ with_accepted more l.peer peers.numbers (stable (from_state air ends peers l settled).world).ends)
         → (stays : after.end.service.accepted ≡ far.service.accepted → LeavesStable (from_state air ends peers l settled) joins c events) → CutStores (from_state air ends peers l settled) joins c events
 
-    pub short_cut : IsCutShort ghosts device_end joins.own from air l.initiator counted b j after → Stores
+    pub short_cut : IsCutShort ghosts device_end joins.own from air l.initiator counted b j after → Stores → (more : List Received) → after.end.service.accepted ≡ far.service.accepted ++ more → HaltAdds c far more
         → CutFront joins (from_state air ends peers l settled) c b.trace (state_at Gone) ⊎ HaltsCall joins (from_state air ends peers l settled) c b.trace (state_at Gone)
-    short_cut cut stores = by_left (cut.front device_linked devices_link spot (stands air ends peers l settled) ends)
+    short_cut cut stores more adds fits = by_left (cut.front device_linked devices_link spot (stands air ends peers l settled) ends)
       where
-        by_left : CallFront ghosts device_end device_linked peer_ends joins.own from l.initiator air b spot ends counted after
+        by_left : CallFront ghosts device_end device_linked peer_ends (StopsCounted serving) joins.own from l.initiator air b spot ends counted after
             → CutFront joins (from_state air ends peers l settled) c b.trace (state_at Gone) ⊎ HaltsCall joins (from_state air ends peers l settled) c b.trace (state_at Gone)
         by_left f = elim f.left [
           | inl (field, stays) ↦ inl (
               let T : Air Device → Choosing FarEnd → Type 0 = λ a e. CallTurns ghosts device_end device_linked peer_ends joins.own from l.initiator air a spot ends counted e f.standing in
               let t : T b after = subst (T b) (sym stays) (subst (λ a. T a f.half) (sym field) f.turns) in
               short air ends peers l settled c task is b j after joins f.standing t stores cut.setting)
-          | inr (sent, listeners, due, fate, left) ↦ inr (
+          | inr h ↦ inr (
               let t = f.turns in
               let N = next air ends peers l settled c task is f.mid j f.half joins f.standing t in
               let P = plain air ends peers l settled c task is f.mid j f.half joins f.standing t in
               halted air ends peers l settled N P c joins f.mid f.half t.notes t.going is.still is.accepts is.asks (is.takes joins)
-              (same air ends peers l settled c task is f.mid j f.half joins f.standing t) sent listeners b (ap call_due_at t.stands ∙ due) fate left
-              (slice_set ends spot (Some after.end)) (with_last_ended (accepted_by (get_or (slice_set ends spot (Some after.end)) spot None)) peers))
+              (same air ends peers l settled c task is f.mid j f.half joins f.standing t) h.sent h.payload h.listeners b (ap call_due_at t.stands ∙ h.asked) h.passes h.heard h.left
+              after.end more cut.setting adds (of_end air ends peers l settled (λ e. HaltAdds c e more) fits))
         ]

@@ -73,4 +73,5 @@ pub mod StoriesStep
 pub mod StoriesOnLink
 pub mod SameStories
 pub mod LinkLaw
+pub mod CutLinks
 pub mod PeersNumbered

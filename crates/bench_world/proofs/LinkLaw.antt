@@ -5,6 +5,7 @@ use Rattle.std.proofs.lemmas.List.{append-nil, append_assoc, length-append, leng
 use Rattle.nfc_base.specs.declared.event.Event.{Event}
 use Rattle.nfc_base.specs.declared.event.Fate.{Fate}
 use Rattle.air_core.specs.Conversation.{queue_after}
+use Rattle.snep_core.specs.Server.{Received as Accepted}
 use Rattle.snep_core.specs.Talk.{Puts, Gets, Finds}
 use Rattle.bench_script.specs.declared.command.Command.{Command}
 use Rattle.bench_script.specs.declared.command.Command.TheVariants.{Skip, Fates, PlaceT2, PlaceT4, PlaceT5, PlacePeer, Lock, Busy, Offer, Remove, Dump, Inbox, Find, Read, Write, Link, Put, Get, Lookup, Unlink}
@@ -23,9 +24,9 @@ use Rattle.bench_world.specs.declared.inbox.LinkRange.{LinkRange}
 use Rattle.bench_world.specs.World.{FarEnd, WholeWorld, Stable}
 use Rattle.link_calls.specs.CallDue.{CallStanding}
 use Rattle.bench_world.specs.declared.entry.Loss.{Loss}
-use Rattle.bench_world.specs.Calls.{link_behind, stands_on, told_call}
+use Rattle.bench_world.specs.Calls.{OfEnd, PutAdds, link_behind, stands_on, told_call}
 use Rattle.bench_world.specs.Inbox.{inbox_at, inbox_of}
-use Rattle.bench_world.specs.Legal.{State, Given, Joins, Accepts, IsPeerPlaced, AnswerLaw, PutLaw, FrontOf, LegalStep, EachLegal, begun, changed, first_state, inbox_now, world_after, state_after}
+use Rattle.bench_world.specs.Legal.{State, Given, Joins, Accepts, IsPeerPlaced, AnswerLaw, PutLaw, FrontOf, LegalStep, EachLegal, begun, changed, end_of, first_state, inbox_now, world_after, state_after}
 use Rattle.bench_world.specs.Linking.{LinkTells, link_if, own_general}
 use Rattle.bench_world.specs.LinkLaw.{AreCounted, KeepsLinkLaw, LinksAccept, LinkLaw, TellsInbox, told_by_stories, told_link, told_links, peer_under}
 use Rattle.bench_world.specs.Links.{OpenLink, end_numbered, ended, ended_unless, is_with}
@@ -45,28 +46,28 @@ use Rattle.bench_world.proofs.Tales.{goes_on, stories_behind, stories_from}
 use Rattle.bench_world.specs.ByPayloads.{IsByPayloads}
 use Rattle.bench_world.proofs.SameStories.{same_from}
 
-abbrev view_by : Peers → List (Option Held) → View
+abbrev pub view_by : Peers → List (Option Held) → View
 view_by p ks = record { numbers = p.numbers; placed = next_number p; links = p.links; held = ks }
 
-module _ (w : WholeWorld) (q : List Fate) (p : Peers) (ys : List Story) (o : Option OpenLink) (stand : Stand (record { world = w; queue = q; peers = p; link = o }) ys) (g : Given) (a : Answer) where
+module _ (w : WholeWorld) (q : List Fate) (p : Peers) (ys : List Story) (o : Option OpenLink) (stand : Stand (record { world = w; queue = q; peers = p; link = o }) ys) (g : Given) (told : Option Answer) where
   abbrev s : State
   s = record { world = w; queue = q; peers = p; link = o }
 
   abbrev stretch : Command → List Event → Stretch
-  stretch c es = record { command = c; joins = g.joins; events = es; told = Some a }
+  stretch c es = record { command = c; joins = g.joins; events = es; told = told }
 
   abbrev behind : Command → List Event → State
-  behind c es = state_after s g.joins c es (Some a)
+  behind c es = state_after s g.joins c es told
 
   abbrev Steps : Command → List Event → State → Type 0
   Steps c es t = Stand t (stories_behind s (stretch c es) t ys)
 
   -- where nothing was sent
-  quietly : (c : Command) (es : List Event) (t : State) → FrontOf s g c es (Some a) t → es ≡ [] → Steps c es (behind c []) → Steps c es t
+  pub quietly : (c : Command) (es : List Event) (t : State) → FrontOf s g c es told t → es ≡ [] → Steps c es (behind c []) → Steps c es t
   quietly c es t front none steps = subst (Steps c es) (sym (front.after ∙ ap (behind c) none)) steps
 
   -- where something was, each device keeps its place and each peer its number
-  places_behind : (c : Command) (es : List Event) (ps : List (Option ℕ)) → (changed s c).world.field.listeners ≡ w.field.listeners → length (world_after s g.joins c es).fars ≡ length w.fars → ps ≡ p.numbers
+  pub places_behind : (c : Command) (es : List Event) (ps : List (Option ℕ)) → (changed s c).world.field.listeners ≡ w.field.listeners → length (world_after s g.joins c es).fars ≡ length w.fars → ps ≡ p.numbers
       → HavePlaces (world_after s g.joins c es).field.listeners ps (world_after s g.joins c es).fars
   places_behind c es ps devices many numbers =
       let now : WholeWorld = world_after s g.joins c es in
@@ -74,20 +75,20 @@ module _ (w : WholeWorld) (q : List Fate) (p : Peers) (ys : List Story) (o : Opt
       (subst (λ ds. AllStayDevices ds now.field.listeners) devices (far_stay es (begun s g.joins c)).stay) many numbers stand.places
 
   -- a tag is placed, and a peer
-  tag_placed : (c : Command) (es : List Event) → (changed s c).link ≡ o → (behind c []).link ≡ o → puts_in c (Some a) ≡ [] → begun_in c (Some a) (behind c []) ≡ []
+  pub tag_placed : (c : Command) (es : List Event) → (changed s c).link ≡ o → (behind c []).link ≡ o → puts_in c told ≡ [] → begun_in c told (behind c []) ≡ []
       → view_of (behind c []) ≡ tag_more s ys stand → PlacesOf (behind c []) → Steps c es (behind c [])
   tag_placed c es still same puts begins view places =
       same_link s (behind c []) (stretch c es) ys stand puts begins still same places (λ l is. ap (λ v. at v l.peer) view ∙ same_tag s ys stand l.peer)
       (λ h. subst (λ v. StandBy v o ys) (sym view) (tag_stands s ys stand h))
 
   -- a command that changes nothing of peers
-  nothing_changed : (c : Command) (es : List Event) → (changed s c).link ≡ o → (behind c []).link ≡ o → puts_in c (Some a) ≡ [] → begun_in c (Some a) (behind c []) ≡ []
+  pub nothing_changed : (c : Command) (es : List Event) → (changed s c).link ≡ o → (behind c []).link ≡ o → puts_in c told ≡ [] → begun_in c told (behind c []) ≡ []
       → view_of (behind c []) ≡ view_of s → PlacesOf (behind c []) → Steps c es (behind c [])
   nothing_changed c es still same puts begins view places =
       same_link s (behind c []) (stretch c es) ys stand puts begins still same places (λ l is. ap (λ v. at v l.peer) view) (λ h. subst (λ v. StandBy v o ys) (sym view) h)
 
   -- one that begins with a reset
-  reset : (c : Command) (es : List Event) → begun_in c (Some a) (behind c es) ≡ [] → (changed s c).link ≡ None → (behind c es).link ≡ None → (behind c es).peers ≡ ended o w.fars p
+  pub reset : (c : Command) (es : List Event) → begun_in c told (behind c es) ≡ [] → (changed s c).link ≡ None → (behind c es).link ≡ None → (behind c es).peers ≡ ended o w.fars p
       → (changed s c).world.field.listeners ≡ w.field.listeners → map held (world_after s g.joins c es).fars ≡ map held w.fars → Steps c es (behind c es)
   reset c es begins none gone peers devices same =
       no_link s (behind c es) (stretch c es) ys begins none gone
@@ -95,7 +96,7 @@ module _ (w : WholeWorld) (q : List Fate) (p : Peers) (ys : List Story) (o : Opt
       (subst (λ x. Closed (view_at x (world_after s g.joins c es).fars) ys) (sym peers)
       (subst (λ ks. Closed (view_by (ended o w.fars p) ks) ys) (sym same) (ended_closed o p w.fars ys stand.stand)))
 
-  peer_placed : (id : List ℕ) (lr miu window limit : ℕ) (es : List Event) → Steps (PlacePeer id lr miu window limit) es (behind (PlacePeer id lr miu window limit) [])
+  pub peer_placed : (id : List ℕ) (lr miu window limit : ℕ) (es : List Event) → Steps (PlacePeer id lr miu window limit) es (behind (PlacePeer id lr miu window limit) [])
   peer_placed id lr miu window limit es =
       let c : Command = PlacePeer id lr miu window limit in
       let k : Held = record { limit = limit; accepted = [] } in
@@ -108,98 +109,117 @@ module _ (w : WholeWorld) (q : List Fate) (p : Peers) (ys : List Story) (o : Opt
       (λ l is. ap (λ v. at v l.peer) view ∙ same_peer s ys stand k refl l.peer (own_below s ys stand l is))
       (λ h. subst (λ v. StandBy v o ys) (sym view) (peer_stands s ys stand k refl h))
 
-  offered_here : (id : DeviceId) (key value : List ℕ) (es : List Event) → Steps (Offer id key value) es (behind (Offer id key value) [])
+  pub offered_here : (id : DeviceId) (key value : List ℕ) (es : List Event) → Steps (Offer id key value) es (behind (Offer id key value) [])
   offered_here id key value es =
       let c : Command = Offer id key value in
       nothing_changed c es refl refl refl refl (ap (view_by p) (held_offered key value (bytes_of id) w.field.listeners w.fars stand.places.fars))
       (record { fars = as_many_offered _ (bytes_of id) w.field.listeners w.fars stand.places.fars ∙ stand.places.fars; numbers = stand.places.numbers })
 
-  removed_here : (id : DeviceId) (es : List Event) → Steps (Remove id) es (behind (Remove id) [])
+  pub removed_here : (id : DeviceId) (es : List Event) → Steps (Remove id) es (behind (Remove id) [])
   removed_here id es =
       removed_stands w q p (stretch (Remove id) es) ys (bytes_of id) _ o (is_with o (placed_under (bytes_of id) w.field.listeners p.numbers)) refl refl stand
 
-  -- a link is opened, or not
-  link_here : (id : List ℕ) (miu window : ℕ) (es : List Event) → map held (world_after s g.joins (Link id miu window) es).fars ≡ map held w.fars
+-- a link is opened, or not
+module _ (w : WholeWorld) (q : List Fate) (p : Peers) (ys : List Story) (o : Option OpenLink) (stand : Stand (record { world = w; queue = q; peers = p; link = o }) ys) (g : Given) (a : Answer) where
+  abbrev unopened : State
+  unopened = record { world = w; queue = q; peers = p; link = o }
+
+  link_here : (id : List ℕ) (miu window : ℕ) (es : List Event) → map held (world_after unopened g.joins (Link id miu window) es).fars ≡ map held w.fars
       → ((n : ℕ) → a ≡ answers.Linked n → n ≡ length p.links + 1) → (b : Answer) → a ≡ b
-      → Stand (state_after s g.joins (Link id miu window) es (Some b))
-      (stories_behind s (record { command = Link id miu window; joins = g.joins; events = es; told = Some b }) (state_after s g.joins (Link id miu window) es (Some b)) ys)
+      → Stand (state_after unopened g.joins (Link id miu window) es (Some b))
+      (stories_behind unopened (record { command = Link id miu window; joins = g.joins; events = es; told = Some b }) (state_after unopened g.joins (Link id miu window) es (Some b)) ys)
   link_here id miu window es same next (answers.Linked n) is =
       let c : Command = Link id miu window in
-      let now : WholeWorld = world_after s g.joins c es in
+      let now : WholeWorld = world_after unopened g.joins c es in
       let ends : Peers = ended o w.fars p in
       let closed : Closed (view_at ends now.fars) ys = subst (λ ks. Closed (view_by ends ks) ys) (sym same) (ended_closed o p w.fars ys stand.stand) in
       let numbers : ends.numbers ≡ p.numbers = same_numbers o p w.fars in
-      link_begins now (queue_after (changed s c).queue es) ends id w.field.listeners w.fars same
-      (places_behind c es ends.numbers refl (as_many_held now.fars w.fars same) numbers) ys closed n (own_general miu) (next n is ∙ ap (λ k. k + 1) (sym (count_ended o p w.fars)))
+      link_begins now (queue_after (changed unopened c).queue es) ends id w.field.listeners w.fars same
+      (places_behind w q p ys o stand g (Some a) c es ends.numbers refl (as_many_held now.fars w.fars same) numbers) ys closed n (own_general miu) (next n is ∙ ap (λ k. k + 1) (sym (count_ended o p w.fars)))
       (link_if (placed_under id w.field.listeners p.numbers) (device_with id w.field.listeners) miu window)
       (λ l e. ap (placed_under id w.field.listeners) numbers ∙ linked_peer (placed_under id w.field.listeners p.numbers) (device_with id w.field.listeners) miu window l e)
   link_here id miu window es same next b is =
       let c : Command = Link id miu window in
-      let t : State = state_after s g.joins c es (Some b) in
+      let t : State = state_after unopened g.joins c es (Some b) in
       let ends : Peers = ended o w.fars p in
-      no_link s t (record { command = c; joins = g.joins; events = es; told = Some b }) ys refl refl refl
-      (places_behind c es ends.numbers refl (as_many_held (world_after s g.joins c es).fars w.fars same) (same_numbers o p w.fars))
+      no_link unopened t (record { command = c; joins = g.joins; events = es; told = Some b }) ys refl refl refl
+      (places_behind w q p ys o stand g (Some a) c es ends.numbers refl (as_many_held (world_after unopened g.joins c es).fars w.fars same) (same_numbers o p w.fars))
       (subst (λ ks. Closed (view_by ends ks) ys) (sym same) (ended_closed o p w.fars ys stand.stand))
 
 -- Commands on the link that is open.
-module _ (w : WholeWorld) (q : List Fate) (p : Peers) (ys : List Story) (l : OpenLink) (stand : Stand (record { world = w; queue = q; peers = p; link = Some l }) ys) (g : Given) (a : Answer) where
-  abbrev on : State
+module _ (w : WholeWorld) (q : List Fate) (p : Peers) (ys : List Story) (l : OpenLink) (stand : Stand (record { world = w; queue = q; peers = p; link = Some l }) ys) (g : Given) (told : Option Answer) where
+  abbrev pub on : State
   on = record { world = w; queue = q; peers = p; link = Some l }
 
-  abbrev then_ : Command → List Event → State
-  then_ c es = state_after on g.joins c es (Some a)
+  abbrev pub Goes : Command → List Event → State → Type 0
+  Goes c es t = Stand t (stories_behind on (record { command = c; joins = g.joins; events = es; told = told }) t ys)
 
-  abbrev Goes : Command → List Event → State → Type 0
-  Goes c es t = Stand t (stories_behind on (record { command = c; joins = g.joins; events = es; told = Some a }) t ys)
-
-  abbrev left_by : CallStanding → Option OpenLink
-  left_by stands = link_behind l.peer stands
+  -- a call behind which the world is this one, and this is left of the link
+  abbrev pub called_then : WholeWorld → List Fate → Option OpenLink → State
+  called_then now queue left = record { world = now; queue = queue; peers = ended_unless left (Some l) now.fars p; link = left }
 
   -- one that puts nothing
-  called : (c : Command) (es : List Event) (left : Option OpenLink) → (changed on c).link ≡ Some l → (changed on c).world.field.listeners ≡ w.field.listeners
-      → puts_in c (Some a) ≡ [] → begun_in c (Some a) (then_ c es) ≡ [] → map held (world_after on g.joins c es).fars ≡ map held w.fars
-      → then_ c es ≡ record { world = world_after on g.joins c es; queue = queue_after (changed on c).queue es; peers = ended_unless left (Some l) (world_after on g.joins c es).fars p; link = left }
-      → ((m : OpenLink) → left ≡ Some m → m.peer ≡ l.peer) → Goes c es (then_ c es)
-  called c es left still devices puts begins same is peer =
-      let now : WholeWorld = world_after on g.joins c es in
-      let queue : List Fate = queue_after (changed on c).queue es in
-      let x : Stretch = record { command = c; joins = g.joins; events = es; told = Some a } in
-      let t : State = then_ c es in
-      let u : State = record { world = now; queue = queue; peers = ended_unless left (Some l) now.fars p; link = left } in
+  pub called_so : (c : Command) (es : List Event) (now : WholeWorld) (queue : List Fate) (left : Option OpenLink) → (changed on c).link ≡ Some l → puts_in c told ≡ [] → begun_in c told (called_then now queue left) ≡ []
+      → HavePlaces now.field.listeners p.numbers now.fars → map held now.fars ≡ map held w.fars → ((m : OpenLink) → left ≡ Some m → m.peer ≡ l.peer) → Goes c es (called_then now queue left)
+  called_so c es now queue left still puts begins places same peer =
+      let x : Stretch = record { command = c; joins = g.joins; events = es; told = told } in
+      let t : State = called_then now queue left in
       let opened : Open (view_at p now.fars) l.peer ys = same_opened p w.fars now.fars l.peer ys same stand.stand in
       let own : at (view_of t) l.peer ≡ at (view_of on) l.peer =
-      ap (λ v. at (view_of v) l.peer) is ∙ ap (λ ns. at_number l.peer ns (map held now.fars)) (unless_numbers left (Some l) now.fars p)
-      ∙ ap (at_number l.peer p.numbers) same in
+      ap (λ ns. at_number l.peer ns (map held now.fars)) (unless_numbers left (Some l) now.fars p) ∙ ap (at_number l.peer p.numbers) same in
       let zs : List Story = last_goes_on (goes_on on x t) ys in
       let came : Open (view_at p now.fars) l.peer zs = open_stands on t x ys (view_at p now.fars) l.peer opened puts own in
-      let over : Stand u zs =
-      call_over now queue p l zs came.opened left
-      (places_behind w q p ys (Some l) stand g a c es p.numbers devices (as_many_held now.fars w.fars same) refl) (λ m e. (peer m e, came.step)) in
-      let told : stories_behind on x t ys ≡ zs =
+      let over : Stand t zs = call_over now queue p l zs came.opened left places (λ m e. (peer m e, came.step)) in
+      let told_so : stories_behind on x t ys ≡ zs =
       ap (λ zs. open_goes_on (changed on c).link (goes_on on x t) ys ++ zs) begins ∙ append-nil (open_goes_on (changed on c).link (goes_on on x t) ys)
       ∙ ap (λ k. open_goes_on k (goes_on on x t) ys) still in
-      subst (Stand t) (sym told) (subst (λ v. Stand v zs) (sym is) over)
+      subst (Stand t) (sym told_so) over
 
-  -- a put
-  put_here : (m : Msg) (es : List Event) → PutLaw on g.joins l m es a → Goes (Put m) es (then_ (Put m) es)
+  pub called : (c : Command) (es : List Event) (left : Option OpenLink) → (changed on c).link ≡ Some l → (changed on c).world.field.listeners ≡ w.field.listeners
+      → puts_in c told ≡ [] → begun_in c told (called_then (world_after on g.joins c es) (queue_after (changed on c).queue es) left) ≡ [] → map held (world_after on g.joins c es).fars ≡ map held w.fars
+      → state_after on g.joins c es told ≡ called_then (world_after on g.joins c es) (queue_after (changed on c).queue es) left
+      → ((m : OpenLink) → left ≡ Some m → m.peer ≡ l.peer) → Goes c es (state_after on g.joins c es told)
+  called c es left still devices puts begins same is peer =
+      let now : WholeWorld = world_after on g.joins c es in
+      subst (Goes c es) (sym is)
+      (called_so c es now (queue_after (changed on c).queue es) left still puts begins
+      (places_behind w q p ys (Some l) stand g told c es p.numbers devices (as_many_held now.fars w.fars same) refl) same peer)
+
+-- A put that was told so.
+module _ (w : WholeWorld) (q : List Fate) (p : Peers) (ys : List Story) (l : OpenLink) (stand : Stand (record { world = w; queue = q; peers = p; link = Some l }) ys) (g : Given) (a : Answer) where
+  abbrev put_on : State
+  put_on = record { world = w; queue = q; peers = p; link = Some l }
+
+  -- ... behind which the world is this one, and this is left of the link
+  abbrev put_then : WholeWorld → List Fate → Option OpenLink → State
+  put_then now queue left = record { world = now; queue = queue; peers = ended_unless left (Some l) now.fars p; link = left }
+
+  abbrev put_stretch : Msg → List Event → Stretch
+  put_stretch m es = record { command = Put m; joins = g.joins; events = es; told = Some a }
+
+  pub put_so : (m : Msg) (es : List Event) (now : WholeWorld) (queue : List Fate) (left : Option OpenLink) (more : List Accepted) → OfEnd (λ end. PutAdds (message_of m) end a more) (end_of put_on l)
+      → HavePlaces now.field.listeners p.numbers now.fars → map held now.fars ≡ with_held more l.peer p.numbers (map held w.fars)
+      → ((k : OpenLink) → left ≡ Some k → (k.peer ≡ l.peer) × ((loss : Loss) → a ≡ answers.LinkEnded loss → ⊥))
+      → Stand (put_then now queue left) (stories_behind put_on (put_stretch m es) (put_then now queue left) ys)
+  put_so m es now queue left more adds places accepted goes =
+      let t : State = put_then now queue left in
+      let x : Stretch = put_stretch m es in
+      let zs : List Story = last_goes_on (goes_on put_on x t) ys in
+      let P : List (Option Held) → Type 0 = λ ks. (z : Opened (view_by p ks) l.peer zs) × (((loss : Loss) → a ≡ answers.LinkEnded loss → ⊥) → IsInStep z.now.story) in
+      let z : P (map held now.fars) = subst P (sym accepted) (put_over put_on t l ys stand.stand m g.joins es a more adds (unless_numbers left (Some l) now.fars p) accepted) in
+      subst (Stand t) (sym (append-nil zs)) (call_over now queue p l zs z.0 left places (λ k e. let ends = goes k e in (ends.0, z.1 ends.1)))
+
+  put_here : (m : Msg) (es : List Event) → PutLaw put_on g.joins l m es a → Stand (state_after put_on g.joins (Put m) es (Some a)) (stories_behind put_on (put_stretch m es) (state_after put_on g.joins (Put m) es (Some a)) ys)
   put_here m es law =
       let c : Command = Put m in
-      let now : WholeWorld = world_after on g.joins c es in
-      let t : State = then_ c es in
+      let now : WholeWorld = world_after put_on g.joins c es in
       let stands : CallStanding = stands_on l g.joins.own (Puts (message_of m)) es in
-      let left : Option OpenLink = left_by stands in
-      let queue : List Fate = queue_after q es in
-      let x : Stretch = record { command = c; joins = g.joins; events = es; told = Some a } in
-      let zs : List Story = last_goes_on (goes_on on x t) ys in
       let accepted : map held now.fars ≡ with_held law.more l.peer p.numbers (map held w.fars) = more_held now w law.more l.peer p.numbers law.ends in
-      let both : AreHeld p.numbers (map held w.fars) × _ = base_held (view_of on) (Some l) ys stand.stand in
+      let both : AreHeld p.numbers (map held w.fars) × _ = base_held (view_of put_on) (Some l) ys stand.stand in
       let many : length now.fars ≡ length w.fars =
       sym (length-map now.fars held) ∙ ap length accepted ∙ as_many_with law.more l.peer p.numbers (map held w.fars) both.0 ∙ length-map w.fars held in
-      let places : HavePlaces now.field.listeners p.numbers now.fars = places_behind w q p ys (Some l) stand g a c es p.numbers refl many refl in
-      let P : List (Option Held) → Type 0 = λ ks. (z : Opened (view_by p ks) l.peer zs) × (((loss : Loss) → a ≡ answers.LinkEnded loss → ⊥) → IsInStep z.now.story) in
-      let z : P (map held now.fars) = subst P (sym accepted) (put_over on t l ys stand.stand m g.joins es a law.more law.adds (unless_numbers left (Some l) now.fars p) accepted) in
-      subst (Stand t) (sym (append-nil zs))
-      (call_over now queue p l zs z.0 left places (λ k e. let ends = came_to_end l.peer stands a k law.told.tells e in (ends.0, z.1 ends.1)))
+      put_so m es now (queue_after q es) (link_behind l.peer stands) law.more law.adds (places_behind w q p ys (Some l) stand g (Some a) c es p.numbers refl many refl) accepted
+      (λ k e. came_to_end l.peer stands a k law.told.tells e)
 
 -- A command on the open link.
 call_peer : (l : OpenLink) (s : CallStanding) (a : Answer) → told_call s ≡ Some a → (m : OpenLink) → link_behind l.peer s ≡ Some m → m.peer ≡ l.peer
@@ -219,89 +239,89 @@ module _ (w : WholeWorld) (q : List Fate) (p : Peers) (ys : List Story) (g : Giv
   step_by : (o : Option OpenLink) (c : Command) (es : List Event) (t : State) → Stand (from o) ys → FrontOf (from o) g c es (Some a) t → AnswerLaw (from o) g c es a → so o c es t
   step_by o Skip es t stand front law = absurd law
   step_by o (Fates fates) es t stand front law =
-      quietly w q p ys o stand g a (Fates fates) es t front (nothing_sent (begun (from o) g.joins (Fates fates)) es front.turns front.each)
-      (nothing_changed w q p ys o stand g a (Fates fates) es refl refl refl refl refl stand.places)
+      quietly w q p ys o stand g (Some a) (Fates fates) es t front (nothing_sent (begun (from o) g.joins (Fates fates)) es front.turns front.each)
+      (nothing_changed w q p ys o stand g (Some a) (Fates fates) es refl refl refl refl refl stand.places)
   step_by o (PlaceT2 id blocks head) es t stand front law =
       let c : Command = PlaceT2 id blocks head in
-      quietly w q p ys o stand g a c es t front (nothing_sent (begun (from o) g.joins c) es front.turns front.each)
-      (tag_placed w q p ys o stand g a c es refl refl refl refl (ap (λ ks. record { numbers = p.numbers ++ None ∷ []; placed = next_number p; links = p.links; held = ks }) (map-append held w.fars (None ∷ [])))
+      quietly w q p ys o stand g (Some a) c es t front (nothing_sent (begun (from o) g.joins c) es front.turns front.each)
+      (tag_placed w q p ys o stand g (Some a) c es refl refl refl refl (ap (λ ks. record { numbers = p.numbers ++ None ∷ []; placed = next_number p; links = p.links; held = ks }) (map-append held w.fars (None ∷ [])))
       (places_more w.field.listeners _ p.numbers None w.fars None (many_numbers (from o) ys stand) (λ peer. absurd cc) stand.places))
   step_by o (PlaceT4 id code container head) es t stand front law =
       let c : Command = PlaceT4 id code container head in
-      quietly w q p ys o stand g a c es t front (nothing_sent (begun (from o) g.joins c) es front.turns front.each)
-      (tag_placed w q p ys o stand g a c es refl refl refl refl (ap (λ ks. record { numbers = p.numbers ++ None ∷ []; placed = next_number p; links = p.links; held = ks }) (map-append held w.fars (None ∷ [])))
+      quietly w q p ys o stand g (Some a) c es t front (nothing_sent (begun (from o) g.joins c) es front.turns front.each)
+      (tag_placed w q p ys o stand g (Some a) c es refl refl refl refl (ap (λ ks. record { numbers = p.numbers ++ None ∷ []; placed = next_number p; links = p.links; held = ks }) (map-append held w.fars (None ∷ [])))
       (places_more w.field.listeners _ p.numbers None w.fars None (many_numbers (from o) ys stand) (λ peer. absurd cc) stand.places))
   step_by o (PlaceT5 id blocks size head) es t stand front law =
       let c : Command = PlaceT5 id blocks size head in
-      quietly w q p ys o stand g a c es t front (nothing_sent (begun (from o) g.joins c) es front.turns front.each)
-      (tag_placed w q p ys o stand g a c es refl refl refl refl (ap (λ ks. record { numbers = p.numbers ++ None ∷ []; placed = next_number p; links = p.links; held = ks }) (map-append held w.fars (None ∷ [])))
+      quietly w q p ys o stand g (Some a) c es t front (nothing_sent (begun (from o) g.joins c) es front.turns front.each)
+      (tag_placed w q p ys o stand g (Some a) c es refl refl refl refl (ap (λ ks. record { numbers = p.numbers ++ None ∷ []; placed = next_number p; links = p.links; held = ks }) (map-append held w.fars (None ∷ [])))
       (places_more w.field.listeners _ p.numbers None w.fars None (many_numbers (from o) ys stand) (λ peer. absurd cc) stand.places))
   step_by o (PlacePeer id lr miu window limit) es t stand front law =
       let c : Command = PlacePeer id lr miu window limit in
-      quietly w q p ys o stand g a c es t front (nothing_sent (begun (from o) g.joins c) es front.turns front.each) (peer_placed w q p ys o stand g a id lr miu window limit es)
+      quietly w q p ys o stand g (Some a) c es t front (nothing_sent (begun (from o) g.joins c) es front.turns front.each) (peer_placed w q p ys o stand g (Some a) id lr miu window limit es)
   step_by o (Lock id block) es t stand front law =
       let c : Command = Lock id block in
-      quietly w q p ys o stand g a c es t front (nothing_sent (begun (from o) g.joins c) es front.turns front.each)
-      (nothing_changed w q p ys o stand g a c es refl refl refl refl refl (places_changed (device_locked block) (locked_kind block) (bytes_of id) w.field.listeners p.numbers w.fars stand.places))
+      quietly w q p ys o stand g (Some a) c es t front (nothing_sent (begun (from o) g.joins c) es front.turns front.each)
+      (nothing_changed w q p ys o stand g (Some a) c es refl refl refl refl refl (places_changed (device_locked block) (locked_kind block) (bytes_of id) w.field.listeners p.numbers w.fars stand.places))
   step_by o (Busy id count times) es t stand front law =
       let c : Command = Busy id count times in
-      quietly w q p ys o stand g a c es t front (nothing_sent (begun (from o) g.joins c) es front.turns front.each)
-      (nothing_changed w q p ys o stand g a c es refl refl refl refl refl (places_changed (device_busy count times) (busy_kind count times) (bytes_of id) w.field.listeners p.numbers w.fars stand.places))
+      quietly w q p ys o stand g (Some a) c es t front (nothing_sent (begun (from o) g.joins c) es front.turns front.each)
+      (nothing_changed w q p ys o stand g (Some a) c es refl refl refl refl refl (places_changed (device_busy count times) (busy_kind count times) (bytes_of id) w.field.listeners p.numbers w.fars stand.places))
   step_by o (Offer id key value) es t stand front law =
       let c : Command = Offer id key value in
-      quietly w q p ys o stand g a c es t front (nothing_sent (begun (from o) g.joins c) es front.turns front.each) (offered_here w q p ys o stand g a id key value es)
+      quietly w q p ys o stand g (Some a) c es t front (nothing_sent (begun (from o) g.joins c) es front.turns front.each) (offered_here w q p ys o stand g (Some a) id key value es)
   step_by o (Remove id) es t stand front law =
       let c : Command = Remove id in
-      quietly w q p ys o stand g a c es t front (nothing_sent (begun (from o) g.joins c) es front.turns front.each) (removed_here w q p ys o stand g a id es)
+      quietly w q p ys o stand g (Some a) c es t front (nothing_sent (begun (from o) g.joins c) es front.turns front.each) (removed_here w q p ys o stand g (Some a) id es)
   step_by o (Dump id) es t stand front law =
-      quietly w q p ys o stand g a (Dump id) es t front (nothing_sent (begun (from o) g.joins (Dump id)) es front.turns front.each)
-      (nothing_changed w q p ys o stand g a (Dump id) es refl refl refl refl refl stand.places)
+      quietly w q p ys o stand g (Some a) (Dump id) es t front (nothing_sent (begun (from o) g.joins (Dump id)) es front.turns front.each)
+      (nothing_changed w q p ys o stand g (Some a) (Dump id) es refl refl refl refl refl stand.places)
   step_by o (Inbox id) es t stand front law =
-      quietly w q p ys o stand g a (Inbox id) es t front (nothing_sent (begun (from o) g.joins (Inbox id)) es front.turns front.each)
-      (nothing_changed w q p ys o stand g a (Inbox id) es refl refl refl refl refl stand.places)
+      quietly w q p ys o stand g (Some a) (Inbox id) es t front (nothing_sent (begun (from o) g.joins (Inbox id)) es front.turns front.each)
+      (nothing_changed w q p ys o stand g (Some a) (Inbox id) es refl refl refl refl refl stand.places)
   step_by o Find es t stand front law =
-      after_front o Find es t front (reset w q p ys o stand g a Find es refl refl refl refl refl (same_held (world_after (from o) g.joins Find es) w (ap (λ (z : Stable). z.ends) law.stays)))
+      after_front o Find es t front (reset w q p ys o stand g (Some a) Find es refl refl refl refl refl (same_held (world_after (from o) g.joins Find es) w (ap (λ (z : Stable). z.ends) law.stays)))
   step_by o (Read id) es t stand front law =
-      after_front o (Read id) es t front (reset w q p ys o stand g a (Read id) es refl refl refl refl refl (same_held (world_after (from o) g.joins (Read id) es) w (ap (λ (z : Stable). z.ends) law.stays)))
+      after_front o (Read id) es t front (reset w q p ys o stand g (Some a) (Read id) es refl refl refl refl refl (same_held (world_after (from o) g.joins (Read id) es) w (ap (λ (z : Stable). z.ends) law.stays)))
   step_by o (Write id m) es t stand front law =
-      after_front o (Write id m) es t front (reset w q p ys o stand g a (Write id m) es refl refl refl refl refl (same_held (world_after (from o) g.joins (Write id m) es) w law.stores.ends))
+      after_front o (Write id m) es t front (reset w q p ys o stand g (Some a) (Write id m) es refl refl refl refl refl (same_held (world_after (from o) g.joins (Write id m) es) w law.stores.ends))
   step_by o (Link id miu window) es t stand front law =
       after_front o (Link id miu window) es t front
       (link_here w q p ys o stand g a id miu window es (same_held (world_after (from o) g.joins (Link id miu window) es) w (ap (λ (z : Stable). z.ends) law.stays))
       (λ n is. linked_number (DeviceId.A id) w.field.listeners (length p.links + 1) n (own_general miu) es (subst (LinkTells (DeviceId.A id) w.field.listeners (length p.links + 1) (own_general miu) es) is law.tells)) a refl)
   step_by None (Put m) es t stand front law =
-      quietly w q p ys None stand g a (Put m) es t front (nothing_sent (begun (from None) g.joins (Put m)) es front.turns front.each)
+      quietly w q p ys None stand g (Some a) (Put m) es t front (nothing_sent (begun (from None) g.joins (Put m)) es front.turns front.each)
       (no_link (from None) (state_after (from None) g.joins (Put m) [] (Some a)) (record { command = Put m; joins = g.joins; events = es; told = Some a }) ys refl refl refl stand.places stand.stand)
   step_by (Some l) (Put m) es t stand front law = after_front (Some l) (Put m) es t front (put_here w q p ys l stand g a m es law)
   step_by None (Get most key) es t stand front law =
-      quietly w q p ys None stand g a (Get most key) es t front (nothing_sent (begun (from None) g.joins (Get most key)) es front.turns front.each)
+      quietly w q p ys None stand g (Some a) (Get most key) es t front (nothing_sent (begun (from None) g.joins (Get most key)) es front.turns front.each)
       (no_link (from None) (state_after (from None) g.joins (Get most key) [] (Some a)) (record { command = Get most key; joins = g.joins; events = es; told = Some a }) ys refl refl refl stand.places stand.stand)
   step_by (Some l) (Get most key) es t stand front law =
       let stands : CallStanding = stands_on l g.joins.own (Gets most key) es in
       after_front (Some l) (Get most key) es t front
-      (called w q p ys l stand g a (Get most key) es (link_behind l.peer stands) refl refl refl refl
+      (called w q p ys l stand g (Some a) (Get most key) es (link_behind l.peer stands) refl refl refl refl
       (same_held (world_after (from (Some l)) g.joins (Get most key) es) w (ap (λ (z : Stable). z.ends) law.stays)) refl (call_peer l stands a law.told.tells))
   step_by None (Lookup name) es t stand front law =
-      quietly w q p ys None stand g a (Lookup name) es t front (nothing_sent (begun (from None) g.joins (Lookup name)) es front.turns front.each)
+      quietly w q p ys None stand g (Some a) (Lookup name) es t front (nothing_sent (begun (from None) g.joins (Lookup name)) es front.turns front.each)
       (no_link (from None) (state_after (from None) g.joins (Lookup name) [] (Some a)) (record { command = Lookup name; joins = g.joins; events = es; told = Some a }) ys refl refl refl stand.places stand.stand)
   step_by (Some l) (Lookup name) es t stand front law =
       let stands : CallStanding = stands_on l g.joins.own (Finds name) es in
       after_front (Some l) (Lookup name) es t front
-      (called w q p ys l stand g a (Lookup name) es (link_behind l.peer stands) refl refl refl refl
+      (called w q p ys l stand g (Some a) (Lookup name) es (link_behind l.peer stands) refl refl refl refl
       (same_held (world_after (from (Some l)) g.joins (Lookup name) es) w (ap (λ (z : Stable). z.ends) law.stays)) refl (call_peer l stands a law.told.tells))
   step_by None Unlink es t stand front law =
-      quietly w q p ys None stand g a Unlink es t front (nothing_sent (begun (from None) g.joins Unlink) es front.turns front.each)
+      quietly w q p ys None stand g (Some a) Unlink es t front (nothing_sent (begun (from None) g.joins Unlink) es front.turns front.each)
       (no_link (from None) (state_after (from None) g.joins Unlink [] (Some a)) (record { command = Unlink; joins = g.joins; events = es; told = Some a }) ys refl refl refl stand.places stand.stand)
   step_by (Some l) Unlink es t stand front law =
       after_front (Some l) Unlink es t front
-      (called w q p ys l stand g a Unlink es None refl refl refl refl
+      (called w q p ys l stand g (Some a) Unlink es None refl refl refl refl
       (same_held (world_after (from (Some l)) g.joins Unlink es) w (ap (λ (z : Stable). z.ends) law.stays)) refl (λ m e. absurd cc))
 
-step : (s t : State) (g : Given) (e : Entry) (ys : List Story) → Stand s ys → LegalStep s g e t → Stand t (stories_behind s (stretch_of g.joins e) t ys)
+pub step : (s t : State) (g : Given) (e : Entry) (ys : List Story) → Stand s ys → LegalStep s g e t → Stand t (stories_behind s (stretch_of g.joins e) t ys)
 step s t g e ys stand legal = step_by s.world s.queue s.peers ys g e.answer s.link e.command e.events t stand legal.front legal.answered
 
 -- through some entries
-along : (s t : State) (gs : List Given) (es : List Entry) (ys : List Story) → Stand s ys → EachLegal s gs es t → Stand t (stories_from s ys (map (λ (g : Given). g.joins) gs) es)
+pub along : (s t : State) (gs : List Given) (es : List Entry) (ys : List Story) → Stand s ys → EachLegal s gs es t → Stand t (stories_from s ys (map (λ (g : Given). g.joins) gs) es)
 along s t [] [] ys stand legal = subst (λ x. Stand x ys) (sym legal) stand
 along s t [] (e ∷ es) ys stand legal = absurd legal
 along s t (g ∷ gs) [] ys stand legal = absurd legal
@@ -396,10 +416,10 @@ inbox_along s t (g ∷ gs) (b ∷ before) e behind ys id stand legal is =
     (inbox_along mid t gs before e behind (stories_behind s (stretch_of g.joins b) mid ys) id (step s mid g b ys stand legal.1) legal.2 is)
 
 -- The law.
-first_stand : Stand first_state []
+pub first_stand : Stand first_state []
 first_stand = record { places = record { fars = refl; numbers = tt }; stand = record { done = []; base = record { held = tt; apart = tt; each = tt; covered = λ p. tt; counted = tt }; links = refl; told = refl } }
 
-all_keep : (v : View) (o : Option OpenLink) (ys : List Story) → StandBy v o ys → AllByRecursion KeepsLinkLaw ys × AreCounted 1 ys
+pub all_keep : (v : View) (o : Option OpenLink) (ys : List Story) → StandBy v o ys → AllByRecursion KeepsLinkLaw ys × AreCounted 1 ys
 all_keep v None ys stand = (closed_keep v ys stand, stand.base.counted)
 all_keep v (Some l) ys stand = (open_keep v l.peer ys stand, stand.opened.base.counted)
 

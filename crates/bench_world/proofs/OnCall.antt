@@ -15,8 +15,9 @@ use Rattle.air_core.specs.Turn.{Air, moment, world, after_event}
 use Rattle.air_core.specs.Conversation.{Note, Next, Over, Asks, AreTurns, FatesFrom, EachDue, receptions, replay, queue_after, first_fate, later_fates}
 use Rattle.air_core.specs.Turning.{due_weaker}
 use Rattle.dep_link.specs.Initiator.{InitState}
+use Rattle.dep_link.specs.Stopping.{HeardUpTo}
 use Rattle.far_air.specs.FarWorld.{with_numbers}
-use Rattle.far_air.specs.FarLaws.{seen}
+use Rattle.far_air.specs.FarLaws.{seen, shown}
 use Rattle.far_air.specs.FarTurns.{FarGoing}
 use Rattle.peer_air.specs.PeerFars.{peer_ends}
 use Rattle.snep_core.specs.Server.{Received}
@@ -28,23 +29,27 @@ use Rattle.link_calls.specs.Staying.{setting_of}
 use Rattle.bench_script.specs.declared.command.Command.{Command}
 use Rattle.bench_devices.specs.declared.device.Device.{Device}
 use Rattle.bench_devices.specs.Device.{devices, device_end, device_linked, stable_of, StablePart}
+use Rattle.bench_devices.specs.Beside.{TalkLeaves}
 use Rattle.bench_devices.specs.Keeping.{ghosts}
+use Rattle.bench_devices.proofs.BesideLink.{leaves_both}
+use Rattle.bench_devices.proofs.TalkTurns.{heard_leaves}
 use Rattle.bench_world.specs.declared.entry.Answer.{Answer}
 use Rattle.bench_world.specs.declared.entry.Answer.TheVariants as answers
 use Rattle.bench_world.specs.declared.entry.Loss.{Loss}
 use Rattle.bench_world.specs.declared.entry.Loss.TheVariants as losses
 use Rattle.bench_world.specs.World.{FarEnd, WholeWorld, Stable, bench_air, stable}
-use Rattle.bench_world.specs.Calls.{IsTold, link_behind, stands_on, told_call, told_loss, told_step, with_accepted}
-use Rattle.bench_world.specs.Links.{OpenLink, accepted_by, ended, ended_unless, with_last_ended}
+use Rattle.bench_world.specs.Calls.{IsTold, OfEnd, link_behind, stands_on, told_call, told_loss, told_step, with_accepted}
+use Rattle.bench_world.specs.Links.{OpenLink, accepted_by, end_numbered, ended, ended_unless, with_last_ended}
 use Rattle.bench_world.specs.Arriving.{ArrivesAt}
-use Rattle.bench_world.specs.Legal.{State, Given, Joins, Accepts, AnswerLaw, Came, CutFront, CutStores, FrontOf, HaltsCall, IsAskedBy, LeavesStable, begun, changed, due, joins_for, link_after, peers_after, state_after, world_after}
+use Rattle.bench_world.specs.Legal.{State, Given, Joins, Accepts, AnswerLaw, Came, CutFront, CutStores, FrontOf, HaltAdds, HaltLeaves, HaltsCall, IsAskedBy, LeavesStable, begun, changed, due, end_of, joins_for, link_after, peers_after, state_after, world_after}
 use Rattle.bench_world.specs.Obeying.{Machines, HasPlaces, IsSettled, KeepsLink, ObeyedBy, state_at, under}
 use Rattle.bench_world.specs.Opened.{AreNumbered, AreServed}
 use Rattle.bench_world.specs.Peers.{Peers, next_number}
 use Rattle.bench_world.proofs.Arrived.{GoesOn, came_at}
 use Rattle.bench_world.proofs.CallNotes.{IsPlainNext, call_broken, call_lost, calls_plain}
 use Rattle.bench_world.proofs.Quiet.{no_breaks}
-use Rattle.bench_world.proofs.OnLink.{Ends as FarEnds, accepted_now, as_many, bare, devices_stay, ends_more, ends_same, first, going, leaves, now, opened, queue_is, served, set_long, tame, trace_is, world_is}
+use Rattle.bench_world.proofs.OnLink.{Ends as FarEnds, accepted_now, accepted_there, as_many, bare, bare_alike, bare_more, devices_stay, ends_more, ends_same, first, going, kept_long, kept_stable, leaves, now, opened, own, queue_is, served, set_long, tame, trace_is, world_is}
+use Rattle.bench_world.proofs.Restarted.{set_there}
 
 -- what a step of a call is said for
 abbrev pub given_by : Joins → Given
@@ -161,8 +166,8 @@ module _ (air : Air Device) (ends : FarEnds) (peers : Peers) (l : OpenLink) (set
     cut_off link ps link_is peers_is stores =
         (given, refl, front None link ps link_is peers_is, subst (CutStores from_state given.joins c) (sym (trace_is air ends peers l settled next plain b joins.far after notes g)) stores)
 
-    -- the request behind passed, and the far end stopped
-    module _ (sent : Signal) (listeners : List Device) (d : Air Device) (asked : next notes ≡ Asks sent) (passed : first_fate b.fates ≡ Pass)
+    -- The request behind passed, and the far end stopped as it was handed this payload.
+    module _ (sent : Signal) (payload : List ℕ) (listeners : List Device) (d : Air Device) (asked : next notes ≡ Asks sent) (passed : first_fate b.fates ≡ Pass) (heard : HeardUpTo devices sent payload b.listeners listeners)
         (left : d ≡ after_event b (Request sent Pass) (later_fates b.fates) (record { lit = true; listeners = listeners })) where
       abbrev all : List Event
       all = es ++ Request sent Pass ∷ []
@@ -173,21 +178,63 @@ module _ (air : Air Device) (ends : FarEnds) (peers : Peers) (l : OpenLink) (set
       queue_then : queue_after (changed from_state c).queue es ≡ b.fates
       queue_then = ap (λ (s : State). queue_after s.queue es) still ∙ sym (queue_is air ends peers l settled next plain b joins.far after notes g)
 
-      pub halted : (os : FarEnds) (ps : Peers) → HaltsCall joins from_state c d.trace (state_at (under os ps None d))
-      halted os ps = record {
-        given = given;
-        joined = refl;
-        before = es;
-        mid = state_after from_state given.joins c es None;
-        front = record { accepted = accepts; asks = asks; takes = takes; turns = turns_then; fates = fates_then; each = each_due; after = refl };
-        sent = sent;
-        split = trace_more;
-        asked = ap (due from_state given c) (going air ends peers l settled next plain b joins.far after notes g).known ∙ same notes ∙ asked;
-        passes = ap first_fate queue_then ∙ passed;
-        lit = ap (λ (a : Air Device). a.lit) left;
-        queue = ap (λ (a : Air Device). a.fates) left ∙ ap later_fates (sym queue_then);
-        link = refl;
-      }
+      -- what talking leaves, this request too
+      talk_left : TalkLeaves (own air ends peers l settled) place air.listeners d.listeners
+      talk_left =
+          let before = leaves air ends peers l settled next plain b joins.far after notes g in
+          let at_request = heard_leaves (own air ends peers l settled) sent ((plain notes).asked sent asked) payload place b.listeners listeners before.at heard in
+          subst (TalkLeaves (own air ends peers l settled) place air.listeners) (sym (ap (λ (a : Air Device). a.listeners) left))
+          (leaves_both (own air ends peers l settled) place air.listeners b.listeners listeners before at_request)
+
+      -- ... and left by that
+      module _ (stopped : FarEnd) (more : List Received) (set : setting_of stopped ≡ setting_of end) (adds : stopped.service.accepted ≡ end.service.accepted ++ more)
+          (fits : OfEnd (λ e. HaltAdds c e more) (end_of from_state l)) where
+        abbrev ends_left : FarEnds
+        ends_left = slice_set ends place (Some stopped)
+
+        abbrev pub halted_then : Machines
+        halted_then = under ends_left (with_last_ended (accepted_by (get_or ends_left place None)) peers) None d
+
+        long : length d.listeners ≡ length air.listeners
+        long = kept_long air.listeners d.listeners talk_left.same
+
+        there : get_or ends_left place None ≡ Some stopped
+        there = set_there ends place end stopped (opened air ends peers l settled).above
+
+        range : accepted_by (end_numbered l.peer peers.numbers (shown device_linked peer_ends d.listeners ends_left)) ≡ accepted_by (get_or ends_left place None)
+        range =
+            accepted_there l.peer place peers.numbers d.listeners ends_left stopped (opened air ends peers l settled).number (settled.places.numbers ∙ sym long) there ∙ ap accepted_by (sym there)
+
+        halt_leaves : HaltLeaves from_state c l (state_at halted_then)
+        halt_leaves = record {
+          talk = (own air ends peers l settled, place, talk_left);
+          more = more;
+          adds = fits;
+          devices = kept_stable air.listeners d.listeners talk_left.same;
+          ends =
+              bare_alike d.listeners air.listeners ends_left long
+              ∙ bare_more l.peer place peers.numbers air.listeners ends end stopped more (opened air ends peers l settled).number settled.places.numbers (opened air ends peers l settled).above set adds;
+          peers = ap (λ n. with_last_ended n peers) (sym range);
+          link = refl;
+        }
+
+        pub halted : HaltsCall joins from_state c d.trace (state_at halted_then)
+        halted = record {
+          given = given;
+          joined = refl;
+          before = es;
+          mid = state_after from_state given.joins c es None;
+          front = record { accepted = accepts; asks = asks; takes = takes; turns = turns_then; fates = fates_then; each = each_due; after = refl };
+          sent = sent;
+          split = trace_more;
+          asked = ap (due from_state given c) (going air ends peers l settled next plain b joins.far after notes g).known ∙ same notes ∙ asked;
+          passes = ap first_fate queue_then ∙ passed;
+          lit = ap (λ (a : Air Device). a.lit) left;
+          queue = ap (λ (a : Air Device). a.fates) left ∙ ap later_fates (sym queue_then);
+          on = l;
+          open_ = refl;
+          leaves = halt_leaves;
+        }
 
   -- A command that asks over the link by a call of this task.
   pub record IsCall (c : Command) (task : Task) : Type 0 where

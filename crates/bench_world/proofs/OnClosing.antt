@@ -1,5 +1,5 @@
 -- The open link is closed.
-use Rattle.std.proofs.Common.{◌≡◌, ◌↔◌, ◌⊎◌, ℕ, ◌<◌, List, [], length, Option, Some, None, refl, sym, ◌∙◌, ap, subst, inl, inr, arith}
+use Rattle.std.proofs.Common.{◌≡◌, ◌↔◌, ◌⊎◌, ℕ, ◌<◌, List, [], length, Option, Some, None, refl, sym, ◌∙◌, ap, subst, inl, inr, arith, append-nil}
 use Rattle.std.specs.Prelude.{get_or, slice_set, drop}
 use Rattle.nfc_base.specs.Choosing.{Choosing}
 use Rattle.nfc_base.specs.declared.carrier.EndCause.{EndCause}
@@ -15,7 +15,8 @@ use Rattle.nfc_base.specs.declared.event.Heard.{Heard}
 use Rattle.dep_link.specs.Initiator.{InitState}
 use Rattle.dep_link.specs.Releasing.{rls_frame}
 use Rattle.snep_core.specs.Accord.{IsClosed}
-use Rattle.snep_core.specs.Server.{ServerState}
+use Rattle.llcp_link.specs.Counting.{StopsCounted}
+use Rattle.snep_core.specs.Server.{ServerState, serving}
 use Rattle.snep_core.specs.Talk.{EndState, Step, Leaves, begins}
 use Rattle.link_calls.specs.Arriving.{Arrives}
 use Rattle.link_calls.specs.CallDue.{BrokenBy, call_due}
@@ -35,11 +36,12 @@ use Rattle.bench_world.specs.declared.entry.Loss.TheVariants as losses
 use Rattle.bench_world.specs.World.{FarEnd, WholeWorld}
 use Rattle.bench_world.specs.Calls.{stands_closing, told_closing, told_loss}
 use Rattle.bench_world.specs.Links.{OpenLink, accepted_by, ended, with_last_ended}
-use Rattle.bench_world.specs.Legal.{Joins, CutFront, HaltsCall, due, peers_after, world_after}
+use Rattle.bench_world.specs.Legal.{Joins, CutFront, HaltAdds, HaltsCall, due, peers_after, world_after}
 use Rattle.bench_world.specs.Obeying.{Machines, IsCutOffBy, IsSettled, ObeyedBy, state_at, under}
 use Rattle.bench_world.specs.Peers.{Peers}
 use Rattle.bench_world.specs.World.{bench_air}
 use Rattle.bench_world.proofs.Arrived.{came_at}
+use Rattle.bench_world.proofs.CallEnds.{of_end}
 use Rattle.bench_world.proofs.CallNotes.{IsPlainNext, calls_plain, closing_broken, closing_lost, closings_plain}
 use Rattle.bench_world.proofs.CallCalm.{IsCalm, added_calm, calm_then, made_calm}
 use Rattle.bench_world.proofs.OnLink.{Ends as FarEnds, accepted_now, going, leaves, own, stands, trace_is}
@@ -188,16 +190,17 @@ module _ (air : Air Device) (ends : FarEnds) (peers : Peers) (l : OpenLink) (set
     pub short : IsClosingShort ghosts device_end joins.own from air l.initiator counted b after → after.end.service.accepted ≡ far.service.accepted → IsCutOffBy joins (under ends peers (Some l) air) gone Unlink
     short s accepted = inr (by_left (s.front device_linked devices_link spot (stands air ends peers l settled) ends))
       where
-        by_left : ClosingFront ghosts device_linked peer_ends joins.own from l.initiator air b spot ends counted after
+        by_left : ClosingFront ghosts device_linked peer_ends device_end (StopsCounted serving) joins.own from l.initiator air b spot ends counted after
             → CutFront joins (from_state air ends peers l settled) Unlink b.trace (state_at gone) ⊎ HaltsCall joins (from_state air ends peers l settled) Unlink b.trace (state_at gone)
         by_left f = elim f.left [
           | inl (field, stays) ↦ inl (
               let T : Air Device → Choosing FarEnd → Type 0 = λ a e. ClosingTurns ghosts device_linked peer_ends joins.own from l.initiator air a spot ends counted e f.standing in
               let t : T b after = subst (T b) (sym stays) (subst (λ a. T a f.half) (sym field) f.turns) in
               closing_cut f.standing t (s.setting quiet) accepted)
-          | inr (sent, listeners, due, fate, left) ↦ inr (
+          | inr (inl h) ↦ inr (
               let t = f.turns in
               halted air ends peers l settled (closing_due joins.own from l.initiator) (closings_plain joins.own from l.initiator) Unlink joins f.mid f.half t.notes t.going refl tt refl refl (λ ns. refl)
-              sent listeners b (ap closing_due_at t.stands ∙ due) fate left
-              (slice_set ends spot (Some after.end)) (with_last_ended (accepted_by (get_or (slice_set ends spot (Some after.end)) spot None)) peers))
+              h.sent h.payload h.listeners b (ap closing_due_at t.stands ∙ h.asked) h.passes h.heard h.left
+              after.end [] (s.setting quiet) (accepted ∙ sym (append-nil far.service.accepted)) (of_end air ends peers l settled (λ e. HaltAdds Unlink e []) refl))
+          | inr (inr h) ↦ absurd (h.hands quiet)
         ]

@@ -124,4 +124,4 @@ module _ (air : Air Device) (ends : FarEnds) (peers : Peers) (l : OpenLink) (set
           adds = of_end air ends peers l settled (λ e. PutAddsAtMost (message_of m) e a.0) a.2;
           devices = devices;
           ends = adds_so a.0 a.1;
-        }))
+        }) a.0 a.1 a.2)

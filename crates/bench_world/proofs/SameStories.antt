@@ -110,7 +110,7 @@ by_pair t front x y k fits links is number found =
     subst (λ (z : Story). gained_on t z.number ≡ z.gained) is (gained_fits t x k fits (ap (λ (z : Story). at (view_of t) z.peer) is ∙ found) range)
 
 -- of some stories that stand, the last one's gain stands in its range, where its peer is placed
-last_gained : (t : State) (o : Option OpenLink) (before : List Story) (y : Story) (k : Held) → StandBy (view_of t) o (before ++ y ∷ []) → at (view_of t) y.peer ≡ Some k → gained_on t y.number ≡ y.gained
+pub last_gained : (t : State) (o : Option OpenLink) (before : List Story) (y : Story) (k : Held) → StandBy (view_of t) o (before ++ y ∷ []) → at (view_of t) y.peer ≡ Some k → gained_on t y.number ≡ y.gained
 last_gained t None before y k stand found =
     let p = last_pair stand.done before y (sym stand.told) in
     let counted : y.number ≡ 1 + length (stories p.front) = counted_at 1 before y stand.base.counted ∙ ap (λ (ys : List Story). 1 + length ys) (sym p.fronts) in
@@ -139,7 +139,7 @@ still_held n (p ∷ ps) ks (x ∷ hs) k all found = by (is_number n p) refl foun
     by false is found rest = rest found
 
 -- the link that is open in a stretch was open before it
-open_before : (s : State) (c : Command) (l : OpenLink) → (changed s c).link ≡ Some l → s.link ≡ Some l
+pub open_before : (s : State) (c : Command) (l : OpenLink) → (changed s c).link ≡ Some l → s.link ≡ Some l
 open_before s Find l e = absurd (let clash : None ≡ Some l = e in cc)
 open_before s (Read id) l e = absurd (let clash : None ≡ Some l = e in cc)
 open_before s (Write id m) l e = absurd (let clash : None ≡ Some l = e in cc)
@@ -152,37 +152,33 @@ open_before s (Remove id) l e = by (is_linked_to s id) e
 open_before s c l e = e
 
 -- where it ended in the stretch, no peer came or went
-ended_in : (s : State) (joins : Joins) (c : Command) (es : List Event) (a : Answer) (l : OpenLink) → (changed s c).link ≡ Some l → (state_after s joins c es (Some a)).link ≡ None
-    → (state_after s joins c es (Some a)).peers.numbers ≡ s.peers.numbers
-ended_in s joins (Put m) es a l open_ ended = unless_numbers (link_after s joins (Put m) es (Some a)) s.link (world_after s joins (Put m) es).fars s.peers
-ended_in s joins (Get most key) es a l open_ ended = unless_numbers (link_after s joins (Get most key) es (Some a)) s.link (world_after s joins (Get most key) es).fars s.peers
-ended_in s joins (Lookup name) es a l open_ ended = unless_numbers (link_after s joins (Lookup name) es (Some a)) s.link (world_after s joins (Lookup name) es).fars s.peers
+pub ended_in : (s : State) (joins : Joins) (c : Command) (es : List Event) (a : Option Answer) (l : OpenLink) → (changed s c).link ≡ Some l → (state_after s joins c es a).link ≡ None
+    → (state_after s joins c es a).peers.numbers ≡ s.peers.numbers
+ended_in s joins (Put m) es a l open_ ended = unless_numbers (link_after s joins (Put m) es a) s.link (world_after s joins (Put m) es).fars s.peers
+ended_in s joins (Get most key) es a l open_ ended = unless_numbers (link_after s joins (Get most key) es a) s.link (world_after s joins (Get most key) es).fars s.peers
+ended_in s joins (Lookup name) es a l open_ ended = unless_numbers (link_after s joins (Lookup name) es a) s.link (world_after s joins (Lookup name) es).fars s.peers
 ended_in s joins Unlink es a l open_ ended = same_numbers s.link s.peers (world_after s joins Unlink es).fars
 ended_in s joins (Link id miu window) es a l open_ ended = absurd (let clash : None ≡ Some l = open_ in cc)
 ended_in s joins c es a l open_ ended = absurd (let clash : Some l ≡ None = sym open_ ∙ ended in cc)
 
--- One step: the story of the link that is open in it goes on alike.
-module _ (s t : State) (g : Given) (e : Entry) (ys : List Story) (stand : Stand s ys) (legal : LegalStep s g e t) (after : Stand t (stories_behind s (stretch_of g.joins e) t ys)) where
-  abbrev x : Stretch
-  x = stretch_of g.joins e
+-- In a stretch in which a link was open, and ended, no peer came or went.
+abbrev pub KeepsNumbers : State → Command → State → Type 0
+KeepsNumbers s c t = (l : OpenLink) → (changed s c).link ≡ Some l → t.link ≡ None → t.peers.numbers ≡ s.peers.numbers
 
-  abbrev after_none : List Story → Type 0
-  after_none zs = begun_in e.command (Some e.answer) t ≡ [] → StandBy (view_of t) t.link zs
-
+-- One stretch: the story of the link that is open in it goes on alike.
+module _ (s t : State) (x : Stretch) (ys : List Story) (stand : Stand s ys) (ended : KeepsNumbers s x.command t) (after : Stand t (stories_behind s x t ys)) where
   -- no link begins in a stretch in which one is open
-  none_begins : (c : Command) (a : Answer) (l : OpenLink) → (changed s c).link ≡ Some l → begun_in c (Some a) t ≡ []
+  none_begins : (c : Command) (a : Option Answer) (l : OpenLink) → (changed s c).link ≡ Some l → begun_in c a t ≡ []
   none_begins (Link id miu window) a l open_ = absurd (let clash : None ≡ Some l = open_ in cc)
   none_begins c a l open_ = refl
 
-  placed : (l : OpenLink) → (changed s e.command).link ≡ Some l → (k : Held) → at (view_of s) l.peer ≡ Some k → (before : List Story) (y : Story) → y.peer ≡ l.peer → StandBy (view_of t) t.link (before ++ y ∷ [])
+  placed : (l : OpenLink) → (changed s x.command).link ≡ Some l → (k : Held) → at (view_of s) l.peer ≡ Some k → (before : List Story) (y : Story) → y.peer ≡ l.peer → StandBy (view_of t) t.link (before ++ y ∷ [])
       → (h : Held) × (at (view_of t) y.peer ≡ Some h)
   placed l open_ k found before y own stands = by t.link refl stands
     where
       by : (o : Option OpenLink) → t.link ≡ o → StandBy (view_of t) o (before ++ y ∷ []) → (h : Held) × (at (view_of t) y.peer ≡ Some h)
       by None none stood =
-          let numbers : t.peers.numbers ≡ s.peers.numbers =
-          ap (λ (z : State). z.peers.numbers) legal.front.after
-          ∙ ended_in s g.joins e.command e.events e.answer l open_ (sym (ap (λ (z : State). z.link) legal.front.after) ∙ none) in
+          let numbers : t.peers.numbers ≡ s.peers.numbers = ended l open_ none in
           let all : AreHeld s.peers.numbers (map held t.world.fars) = subst (λ ps. AreHeld ps (map held t.world.fars)) numbers stood.base.held in
           let there = still_held l.peer s.peers.numbers (map held s.world.fars) (map held t.world.fars) k all found in
           (there.0, ap (at (view_of t)) own ∙ ap (λ ps. at_number l.peer ps (map held t.world.fars)) numbers ∙ there.1)
@@ -191,15 +187,15 @@ module _ (s t : State) (g : Given) (e : Entry) (ys : List Story) (stand : Stand 
           let at_own : y.peer ≡ m.peer = ap (λ (z : Story). z.peer) (sym both.1) ∙ stood.opened.going.own in
           (stood.opened.going.there, ap (at (view_of t)) at_own ∙ stood.opened.going.found)
 
-  on_link : (l : OpenLink) → (changed s e.command).link ≡ Some l → Open (view_of s) l.peer ys → last_goes_on (told.goes_on s x t) ys ≡ last_goes_on (goes_on s x t) ys
+  on_link : (l : OpenLink) → (changed s x.command).link ≡ Some l → Open (view_of s) l.peer ys → last_goes_on (told.goes_on s x t) ys ≡ last_goes_on (goes_on s x t) ys
   on_link l open_ o =
       let before : List Story = stories o.opened.done in
       let y : Story = o.opened.now.story in
       let next : Story = goes_on s x t y in
-      let none : begun_in e.command (Some e.answer) t ≡ [] = none_begins e.command e.answer l open_ in
+      let none : begun_in x.command x.told t ≡ [] = none_begins x.command x.told l open_ in
       let goes : last_goes_on (goes_on s x t) ys ≡ before ++ next ∷ [] = ap (last_goes_on (goes_on s x t)) o.opened.told ∙ last_story (goes_on s x t) before y in
       let behind : stories_behind s x t ys ≡ before ++ next ∷ [] =
-      ap (λ zs. open_goes_on (changed s e.command).link (goes_on s x t) ys ++ zs) none ∙ append-nil (open_goes_on (changed s e.command).link (goes_on s x t) ys)
+      ap (λ zs. open_goes_on (changed s x.command).link (goes_on s x t) ys ++ zs) none ∙ append-nil (open_goes_on (changed s x.command).link (goes_on s x t) ys)
       ∙ ap (λ k. open_goes_on k (goes_on s x t) ys) open_ ∙ goes in
       let stands : StandBy (view_of t) t.link (before ++ next ∷ []) = subst (StandBy (view_of t) t.link) behind after.stand in
       let k = placed l open_ o.opened.going.there o.opened.going.found before next o.opened.going.own stands in
@@ -207,12 +203,18 @@ module _ (s t : State) (g : Given) (e : Entry) (ys : List Story) (stand : Stand 
       let same : told.goes_on s x t y ≡ next = ap (λ gs. record next { gained = gs }) gained in
       ap (last_goes_on (told.goes_on s x t)) o.opened.told ∙ last_story (told.goes_on s x t) before y ∙ ap (λ z. before ++ z ∷ []) same ∙ sym goes
 
-  by_link : (o : Option OpenLink) → (changed s e.command).link ≡ o → open_goes_on o (told.goes_on s x t) ys ≡ open_goes_on o (goes_on s x t) ys
+  by_link : (o : Option OpenLink) → (changed s x.command).link ≡ o → open_goes_on o (told.goes_on s x t) ys ≡ open_goes_on o (goes_on s x t) ys
   by_link None at = refl
-  by_link (Some l) at = on_link l at (subst (λ o. StandBy (view_of s) o ys) (open_before s e.command l at) stand.stand)
+  by_link (Some l) at = on_link l at (subst (λ o. StandBy (view_of s) o ys) (open_before s x.command l at) stand.stand)
 
   pub same_behind : told.stories_behind s x t ys ≡ stories_behind s x t ys
-  same_behind = ap (λ zs. zs ++ begun_in e.command (Some e.answer) t) (by_link (changed s e.command).link refl)
+  same_behind = ap (λ zs. zs ++ begun_in x.command x.told t) (by_link (changed s x.command).link refl)
+
+-- so a step keeps them
+step_keeps_numbers : (s t : State) (g : Given) (e : Entry) → LegalStep s g e t → KeepsNumbers s e.command t
+step_keeps_numbers s t g e legal l open_ none =
+    ap (λ (z : State). z.peers.numbers) legal.front.after
+    ∙ ended_in s g.joins e.command e.events (Some e.answer) l open_ (sym (ap (λ (z : State). z.link) legal.front.after) ∙ none)
 
 -- through some entries, by a step that keeps the stories
 pub same_from : ((s t : State) (g : Given) (e : Entry) (ys : List Story) → Stand s ys → LegalStep s g e t → Stand t (stories_behind s (stretch_of g.joins e) t ys))
@@ -225,5 +227,5 @@ same_from step s t (g ∷ gs) (e ∷ es) rest ys stand legal =
     let ns : List Joins = map (λ (h : Given). h.joins) gs in
     let next : Stand mid (stories_behind s (stretch_of g.joins e) mid ys) = step s mid g e ys stand legal.1 in
     subst (λ z. told.stories_from z (told.stories_behind s (stretch_of g.joins e) z ys) ns es ≡ stories_from z (stories_behind s (stretch_of g.joins e) z ys) ns es) legal.1.front.after
-    (ap (λ zs. told.stories_from mid zs ns es) (same_behind s mid g e ys stand legal.1 next)
+    (ap (λ zs. told.stories_from mid zs ns es) (same_behind s mid (stretch_of g.joins e) ys stand (step_keeps_numbers s mid g e legal.1) next)
     ∙ same_from step mid t gs es rest (stories_behind s (stretch_of g.joins e) mid ys) next legal.2)

@@ -24,6 +24,7 @@ use Rattle.bench_devices.specs.TagAsking.{tag_due}
 use Rattle.bench_script.specs.DeviceIds.{bytes_of}
 use Rattle.bench_script.specs.Messages.{message_of}
 use Rattle.bench_devices.specs.Polling.{asks, finding_all}
+use Rattle.bench_devices.specs.Beside.{TalkLeaves}
 use Rattle.bench_devices.specs.Placed.{device_with, without, with_changed, OfPlaced, IfPlaced}
 use Rattle.bench_devices.specs.Keeping.{AllKeepBut}
 use Rattle.tag_writer.specs.Law.{Ending, Stopped}
@@ -465,8 +466,26 @@ CutStores s joins c cut = LeavesStable s joins c cut
 abbrev pub CutFront : Joins → State → Command → List Event → State → Type 0
 CutFront joins s c cut t = (g : Given) × (g.joins ≡ joins) × FrontOf s g c cut None t × CutStores s g.joins c cut
 
+-- What a call may add at most to what the peer's server accepted, at which its end stopped: a put its message, once, and
+-- any other nothing.
+abbrev pub HaltAdds : Command → FarEnd → List Accepted → Type 0
+HaltAdds (Put message) end more = PutAddsAtMost (message_of message) end more
+HaltAdds c end more = more ≡ []
+
+-- What stays where the peer's end stopped. All that stays of a device does, each beside the peer is aside still, and has
+-- a link at most while it is active; the server accepted at most what the call adds, and nothing else of a far end that
+-- stays changed. The open link is gone, and its range goes to what was accepted.
+pub record HaltLeaves (s : State) (c : Command) (l : OpenLink) (t : State) : Type 0 where
+  pub talk : (own : List ℕ) × (place : ℕ) × TalkLeaves own place s.world.field.listeners t.world.field.listeners
+  pub more : List Accepted
+  pub adds : OfEnd (λ end. HaltAdds c end more) (end_of s l)
+  pub devices : (stable t.world).devices ≡ (stable s.world).devices
+  pub ends : (stable t.world).ends ≡ with_accepted more l.peer s.peers.numbers (stable s.world).ends
+  pub peers : t.peers ≡ ended (Some l) t.world.fars s.peers
+  pub link : t.link ≡ None
+
 -- Behind a front of a call on the link a request that was due passed, and as it handed a payload over the peer's end
--- stopped for want of memory: nothing came back. The link is gone then. How that left devices and far ends isn't told.
+-- stopped for want of memory: nothing came back.
 pub record HaltsCall (joins : Joins) (s : State) (c : Command) (cut : List Event) (t : State) : Type 0 where
   pub given : Given
   pub joined : given.joins ≡ joins
@@ -479,7 +498,9 @@ pub record HaltsCall (joins : Joins) (s : State) (c : Command) (cut : List Event
   pub passes : first_fate mid.queue ≡ Pass
   pub lit : t.world.field.lit ≡ true
   pub queue : t.queue ≡ later_fates mid.queue
-  pub link : t.link ≡ None
+  pub on : OpenLink
+  pub open_ : s.link ≡ Some on
+  pub leaves : HaltLeaves s c on t
 
 -- no other command hands anything over
 abbrev pub Halts : Joins → State → Command → List Event → State → Type 0

@@ -1,10 +1,11 @@
 -- The law of links: what a peer accepts on a link is a prefix of what was put there and fits, which covers all that was
 -- told to be taken, and at most one more; and it's what the payloads put that arrived there (NFC Forum SNEP 1.0; the law
 -- is this project's own).
-use Rattle.std.specs.Prelude.{◌≡◌, ℕ, ◌+◌, ◌==◌, nat_eq, List, [], ◌∷◌, ◌++◌, map, if◌then◌else◌, Option, Some}
+use Rattle.std.specs.Prelude.{◌≡◌, ℕ, ◌+◌, ◌==◌, nat_eq, ◌⊎◌, List, [], ◌∷◌, ◌++◌, map, if◌then◌else◌, Option, Some, None}
 use Rattle.std.specs.List.{AllByRecursion}
 use Rattle.snep_core.specs.Links.{Put, LinkAccepts}
 use Rattle.snep_core.specs.Payloads.{accepted_from}
+use Rattle.nfc_base.specs.declared.event.Event.{Event}
 use Rattle.bench_script.specs.declared.command.Command.{Command}
 use Rattle.bench_script.specs.declared.command.Command.TheVariants as commands
 use Rattle.bench_script.specs.declared.command.DeviceId.{DeviceId}
@@ -16,9 +17,9 @@ use Rattle.bench_world.specs.declared.entry.Received.{Received}
 use Rattle.bench_world.specs.ByPayloads.{IsByPayloads}
 use Rattle.bench_world.specs.Inbox.{told_of}
 use Rattle.bench_world.specs.Journal.{LeadsTo}
-use Rattle.bench_world.specs.Legal.{State, Joins, first_state}
+use Rattle.bench_world.specs.Legal.{State, Joins, CutFront, Halts, first_state}
 use Rattle.bench_world.specs.Peers.{placed_under}
-use Rattle.bench_world.specs.Stories.{Opener, ByLink, LinkPut, Story, state_from, stories_of}
+use Rattle.bench_world.specs.Stories.{Opener, ByLink, LinkPut, Story, Stretch, state_from, stories_behind, stories_of}
 
 -- what was put from a client's SAP
 abbrev pub puts_from : ℕ → List LinkPut → List Put
@@ -83,3 +84,15 @@ abbrev pub LinkLaw : Type 0
 LinkLaw =
     (lines : List (List ℕ)) (numbers : List Joins) (journal : List Entry) (last : State) → LeadsTo lines numbers journal last
     → LinksAccept numbers journal
+
+-- A command that want of memory cut off is one stretch more, of which nothing was told.
+abbrev pub cut_stretch : Command → Joins → List Event → Stretch
+cut_stretch c joins cut = record { command = c; joins = joins; events = cut; told = None }
+
+-- Behind it, where something was done, the peers' lists keep the law of links too: its put counts as put, and wasn't
+-- answered. Where nothing was done the links are as the journal left them.
+abbrev pub CutLinkLaw : Type 0
+CutLinkLaw =
+    (lines : List (List ℕ)) (numbers : List Joins) (journal : List Entry) (last : State) → LeadsTo lines numbers journal last
+    → (joins : Joins) (c : Command) (cut : List Event) (t : State) → CutFront joins last c cut t ⊎ Halts joins last c cut t
+    → AllByRecursion KeepsLinkLaw (stories_behind last (cut_stretch c joins cut) t (stories_of numbers journal))

@@ -21,7 +21,7 @@ use bench_script::{Command, DeviceId};
 use dep_link::Initiator;
 use isodep_link::{LONGEST_EXTENSION, MOST_BUSY};
 use llcp_link::Llc;
-use nfc_base::{Fate, Items};
+use nfc_base::{Event, Fate, Items};
 use nfca_poll::{Front, Ident};
 use snep_core::{Client, Server};
 use std::alloc::{AllocError, Global};
@@ -350,6 +350,7 @@ pub struct Run {
 
 impl Model for Run {
     ghost use Rattle.std.specs.Prelude.{List};
+    ghost use Rattle.bench_world.specs.declared.entry.Entry.{Entry};
 
     ghost Value = { List Entry };
 
@@ -451,7 +452,16 @@ impl Bench {
         self.journal.as_slice()
     }
 
-    /// The field and the machines in it; its trace is what happened in a command that want of memory cut off.
+    /// What happened in a command that want of memory cut off, since the last entry: nothing unless `obey` answered
+    /// `Memory`. Where the peer's end of a link stopped, the request at which it did is last, and has no answer.
+    pub fn cut(&self) -> &[Event]
+        ensures cut { result.now ≡ self.now.cut }
+        ensures sound { self.now.spoiled ≡ false → result.now ≡ [] }
+    {
+        self.machines.field.trace()
+    }
+
+    /// The field and the machines in it; its trace is what `cut` tells.
     pub fn field(&self) -> &Field<Device>
         ensures state { FieldOf self.now.state result.now }
         ensures cut { result.now.trace ≡ self.now.cut }

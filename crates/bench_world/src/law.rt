@@ -4,7 +4,7 @@
 ghost use Rattle.bench_world.specs.Behind.{WrittenIsRead, OneOfThreeIsRead};
 ghost use Rattle.bench_world.specs.Completing.{ReadsComplete, WritesComplete, ShownIsWritten, ValidIsWritten, FindsComplete};
 ghost use Rattle.bench_world.specs.CompletingLinks.{PutsComplete, GetsComplete, LookupsComplete, UnlinksComplete, ValidIsOk, LinkingsComplete, KindsTold};
-ghost use Rattle.bench_world.specs.LinkLaw.{LinkLaw};
+ghost use Rattle.bench_world.specs.LinkLaw.{CutLinkLaw, LinkLaw};
 ghost use Rattle.bench_world.specs.Quiet.{QuietStays, QuietReads, QuietWrites, QuietIsWritten, QuietFinds};
 ghost use Rattle.bench_world.specs.QuietHearing.{QuietHears, QuietScript};
 ghost use Rattle.bench_world.specs.QuietLinks.{QuietTalks, QuietLinkings};
@@ -83,7 +83,9 @@ pub fn quiet_air()
 /// and are within its limit, in order, each whole and once, none left out, up to some point. That point covers all that
 /// were told to be taken, and at most one more: the last put, which then wasn't answered. It's just what the payloads put
 /// that arrived there while the link was open, counted from PNI 0, whatever was offered between them. And an inbox tells
-/// what its peer accepted on each link, each message once, and nothing else.
+/// what its peer accepted on each link, each message once, and nothing else. Behind a command that want of memory cut off
+/// it is so too, and its put counts as put.
 pub fn links_accept()
-    ensures { LinkLaw }
+    ensures whole { LinkLaw }
+    ensures cut { CutLinkLaw }
 {}

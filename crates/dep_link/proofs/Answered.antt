@@ -8,7 +8,7 @@ use Rattle.nfc_base.specs.declared.event.Fate.TheVariants.{Pass, Damage, Lose, B
 use Rattle.nfc_base.specs.declared.event.Heard.{Heard}
 use Rattle.nfc_base.specs.LinkTurns.{MovedBy}
 use Rattle.air_core.specs.Joint.{Joint, Nothing, Single, Clashing, joint}
-use Rattle.air_core.specs.World.{Machine, hears, hands_over}
+use Rattle.air_core.specs.World.{Machine, hears, hands_over, stepped_by}
 use Rattle.air_core.specs.Conversation.{first_fate, later_fates}
 use Rattle.air_core.specs.Listening.{Step}
 use Rattle.air_core.specs.Turn.{Air, after_event, brought, Meets, HearAll, HearSome, Passes, TurnBy, TurnIs}
@@ -16,6 +16,7 @@ use Rattle.air_core.specs.Quiet.{EachQuiet, QuietTurn}
 use Rattle.air_core.proofs.Quiet.{quiet_always, quiet_turn, quiet_goes_on}
 use Rattle.dep_link.specs.Sizes.{limit}
 use Rattle.dep_link.specs.Answering.{reply_for, payload_of, answering}
+use Rattle.dep_link.specs.Stopping.{HeardUpTo}
 
 -- what was handed over in a turn whose request had this fate
 abbrev pub handed_by : Fate → FarUse → Option (List ℕ)
@@ -142,6 +143,26 @@ module _ {L A : Type 0} (m : Machine L) (restarts : A → List ℕ → A → Typ
       let same = (one_quiet [] x far on.1 on.0 l' p.0 on.2).0 in
       let rest = stopped_at stops is_stuck before l behind on.1 far' later p.1 q on.3 in
       (rest.0, rest.1, subst (λ (y : A). stops y rest.0 far') same rest.2)
+
+  -- one that hands nothing over
+  met_alone : (x : L) (far : A) (answer : Option Signal) (x' : L) (mid : A) → hands_over m x f ≡ Untouched → Meets m restarts steps f x far answer x' mid → x' ≡ stepped_by m x f None
+  met_alone x far answer x' mid q step =
+      let P : FarUse → Type 0 = λ u. FarDid restarts steps u far step.reply mid in
+      let none : step.reply ≡ None = (subst P q step.far).1 in
+      step.left ∙ ap (stepped_by m x f) none
+
+  -- ... and the frame was heard up to it
+  pub heard_up_to : (stops : A → List ℕ → A → Type 0) (is_stuck : A → Bool) (before : List L) (l : L) (behind : List L) (far far' : A) (ls' : List L) → EachQuiet m f before → EachQuiet m f behind
+      → HearSome m restarts steps stops is_stuck f (before ++ l ∷ behind) far ls' far' → (payload : List ℕ) → hands_over m l f ≡ Hands payload → HeardUpTo m f payload (before ++ l ∷ behind) ls'
+  heard_up_to stops is_stuck [] l behind far far' ls' p q (l', later, e, inl here) payload hands = (later, e ∙ ap (λ x. x ∷ later) here.0.left, inl (hands, here.1))
+  heard_up_to stops is_stuck [] l behind far far' ls' p q (l', later, e, inr on) payload hands =
+      absurd (quiet_goes_on m restarts steps stops is_stuck f behind on.1 later far' q on.3)
+  heard_up_to stops is_stuck (x ∷ before) l behind far far' ls' p q (l', later, e, inl here) payload hands = let a = p.0 in let b = here.0.handed in absurd (cc)
+  heard_up_to stops is_stuck (x ∷ before) l behind far far' ls' p q (l', later, e, inr on) payload hands = (
+    later,
+    e ∙ ap (λ y. y ∷ later) (met_alone x far on.0 l' on.1 p.0 on.2),
+    inr (p.0, heard_up_to stops is_stuck before l behind on.1 far' later p.1 q on.3 payload hands),
+  )
 
   brought_same : (r : List ℕ) (a : Air L) (j : Joint) (y : Fate) → brought m a j y ≡ brought (answering m r) a j y
   brought_same r a Nothing y = refl

@@ -28,7 +28,8 @@ use Rattle.dep_link.specs.Exchange.{nfc_dep, initiator_does, target_does, frames
 use Rattle.dep_link.specs.Peers.{target_use, reached, IsPeer, StepsByTarget}
 use Rattle.dep_link.specs.Asking.{Standing, Waits, Rests, Broken, goes_by, HasPeer, EndsBy}
 use Rattle.dep_link.proofs.Ended.{whole_not_six}
-use Rattle.dep_link.proofs.Answered.{stopped_at}
+use Rattle.dep_link.specs.Stopping.{HeardUpTo}
+use Rattle.dep_link.proofs.Answered.{stopped_at, heard_up_to}
 use Rattle.dep_link.proofs.PeerTurns.{each_quiet, hears_asked}
 use Rattle.dep_link.proofs.Swapping.{OnPeer, HasBytes, begins_on, turn_on, turn_lost, noisy, broken, room, live, on_turns, lost_turns, turns_by, far_by, once_along, saying, never_protocol, replied_turns, hands, given_is, is_asked, last_peer, last_alone}
 
@@ -141,10 +142,10 @@ module _ {L F : Type 0} (k : Ghosts L) (laws : Laws k) (target : L → TargetSta
         let asked = is_asked k laws target restarts steps b t.is i0 first handed arrived out far0 old mid t.place far i f bytes o in
         let peer : IsPeer k target l = last_peer k laws target restarts steps b t.is i0 first handed arrived out far0 old mid t.place far i f bytes o in
         let own : List ℕ = k.identifier l in
-        let stop =
-        stopped_at k.machine restarts steps f stops is_stuck alone.before l alone.behind far far' s.listeners (each_quiet k laws target own f asked alone.before alone.first)
-        (each_quiet k laws target own f asked alone.behind alone.later)
-        (subst (λ (ls : List L). HearSome k.machine restarts steps stops is_stuck f ls far s.listeners far') alone.split s.some) in
+        let first_quiet = each_quiet k laws target own f asked alone.before alone.first in
+        let later_quiet = each_quiet k laws target own f asked alone.behind alone.later in
+        let some = subst (λ (ls : List L). HearSome k.machine restarts steps stops is_stuck f ls far s.listeners far') alone.split s.some in
+        let stop = stopped_at k.machine restarts steps f stops is_stuck alone.before l alone.behind far far' s.listeners first_quiet later_quiet some in
         let step : StepsByTarget k target l f [] = peer.steps_on [] tt f asked [] (omega arith) in
         let uses : hands_over k.machine l f ≡ target_use (target_table (target l) f).does =
         ap (λ v. if v then k.machine.handed l f else Untouched) (hears_asked k laws target l f asked peer.tech) ∙ step.asks in
@@ -162,6 +163,10 @@ module _ {L F : Type 0} (k : Ghosts L) (laws : Laws k) (target : L → TargetSta
             listeners = s.listeners;
             before = x;
             fate = s.fate;
+            heard =
+                subst (λ (ls : List L). HeardUpTo k.machine f out ls s.listeners) (sym alone.split)
+                (heard_up_to k.machine restarts steps f stops is_stuck alone.before l alone.behind far far' s.listeners first_quiet later_quiet some out
+                (subst (λ (p : List ℕ). hands_over k.machine l f ≡ Hands p) h.0 stop.1));
             left = s.left;
             brings =
                 ap (λ (fs : List Signal). payloads first (frames_of (fs ++ f ∷ []))) o.along.arrives ∙ ap (λ c. c.payloads) h.2 ∙ ap (λ (ps : List (List ℕ)). ps ++ stop.0 ∷ []) delivered

@@ -27,6 +27,7 @@ use Rattle.dep_link.specs.Payloads.{payloads}
 use Rattle.dep_link.specs.Exchange.{InStep, IsCut, frames_of, pieces, frames_back}
 use Rattle.dep_link.specs.Answering.{answering_air}
 use Rattle.dep_link.specs.Peers.{IsPeer}
+use Rattle.dep_link.specs.Stopping.{HeardUpTo}
 
 -- Where an initiator stands: this frame was sent; this reply came; it ended by a fault; or something was heard that belongs to
 -- no exchange.
@@ -113,14 +114,15 @@ module _ {L : Type 0} (k : Ghosts L) (target : L → TargetState) where
   UnderWay steps old new peer i first handed arrived out far after P =
       (given : Option (List ℕ)) × (s : Standing) × (x : ExchangeTurns old new peer i first handed arrived out given s) × GivenBy steps far out given after × P s x.events
 
-  -- As the payload was handed over the far end stopped: behind such turns the request passed that brought it, and nothing came
-  -- back. With that request they are no more than of any swap in which no reply was given.
+  -- As the payload was handed over the far end stopped: behind such turns the request passed that brought it, which was heard
+  -- up to the peer, and nothing came back. With that request they are no more than of any swap in which no reply was given.
   pub record StoppedTurns (old new : Air L) (peer : L) (i : InitState) (first : ℕ) (handed : List (List ℕ)) (arrived : List Signal) (out : List ℕ) (j : InitState) : Type 0 where
     pub mid : Air L
     pub sent : Signal
     pub listeners : List L
     pub before : ExchangeTurns old mid peer i first handed arrived out None (Waits j sent)
     pub fate : first_fate mid.fates ≡ Pass
+    pub heard : HeardUpTo k.machine sent out mid.listeners listeners
     pub left : new ≡ after_event mid (Request sent Pass) (later_fates mid.fates) (record { lit = true; listeners = listeners })
     pub brings : payloads first (frames_of ((arrived ++ turns.arrived before.events) ++ sent ∷ [])) ≡ handed ++ out ∷ []
     pub within : suc (length before.events) ≤ 2 * pieces i.core.most out + 4 * bad_receptions before.events

@@ -8,6 +8,7 @@ pub mod Falling
 pub mod Sessions
 pub mod Answering
 pub mod Peers
+pub mod Stopping
 pub mod Asking
 pub mod DepLinks
 pub mod AnyPeer

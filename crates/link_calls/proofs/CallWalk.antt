@@ -22,7 +22,7 @@ use Rattle.snep_core.specs.declared.fault.SnepFault.{SnepFault}
 use Rattle.snep_core.specs.Talk.{EndState, Step, Goes, Ends, GivesUp, Told, Working, numbers_behind, payload, ready, replied}
 use Rattle.snep_core.specs.Calling.{IsCut, fault_of}
 use Rattle.link_calls.specs.CallDue.{CallStanding, Carries, BrokenBy, Strays, call_at, carried, call_noted, call_on, call_due_at, call_stand, call_due}
-use Rattle.link_calls.specs.CallTurns.{CallTurns, CallFront, CutBy, TalksFar, BreaksFar, sees, swaps}
+use Rattle.link_calls.specs.CallTurns.{CallTurns, CallFront, CutBy, TalksFar, BreaksBy, BreaksFar, HaltsSo, sees, swaps}
 
 -- where something was heard that belongs to no exchange, it stays so
 astray : (ns : List Note) → stand Astray ns ≡ Astray
@@ -151,14 +151,15 @@ module _ {L F : Type 0} (k : Ghosts L) (target : L → TargetState) (linked : L 
         )
 
     -- A call that went on so far, and is cut off in its next swap, with these numbers left.
-    module _ (from : Step) (w : Working) (a m b : C) (x y z : A) (numbers left : List ℕ)
+    module _ (halts : Choosing F → List ℕ → Choosing F → Type 0) (halting : (u : A) (payload : List ℕ) (v : A) → stops u payload v → halts (view u) payload (view v))
+        (from : Step) (w : Working) (a m b : C) (x y z : A) (numbers left : List ℕ)
         (base : Turns numbers from (see a).initiator (see a).air (see m).air (view x) (view y) (call_at left (Goes w) (see m).initiator))
         (there : Stands k target linked t (see m).air place) where
       abbrev Cut : SnepFault → Type 0
-      Cut e = CutBy k target linked t numbers from (see a).initiator (see a).air (see b).air place os (view x) (view z) e
+      Cut e = CutBy k target linked t halts numbers from (see a).initiator (see a).air (see b).air place os (view x) (view z) e
 
       abbrev Front : Type 0
-      Front = CallFront k target linked t numbers from (see a).initiator (see a).air (see b).air place os (view x) (view z)
+      Front = CallFront k target linked t halts numbers from (see a).initiator (see a).air (see b).air place os (view x) (view z)
 
       abbrev out : List ℕ
       out = payload (first_number left) w
@@ -192,8 +193,8 @@ module _ {L F : Type 0} (k : Ghosts L) (target : L → TargetState) (linked : L 
           go cause.Protocol e = absurd e
           go cause.Memory (f, e) = front_here (Carries w left (Waits (see b).initiator f)) (λ q. cc) (by (Waits (see b).initiator f) e (λ q. cc))
 
-      stopped : SwapFront k target linked t (see m) (see b) out place os (view y) → Front
-      stopped s = go (stand (asks (see m).initiator out) s.notes) refl s.due
+      stopped : SwapFront k target linked t (see m) (see b) out place os (view y) → stops y out z → Front
+      stopped s halt = go (stand (asks (see m).initiator out) s.notes) refl s.due
         where
           go : (q : Standing) → stand (asks (see m).initiator out) s.notes ≡ q → due_at q ≡ Asks s.sent → Front
           go (Waits j f) e due = record {
@@ -202,7 +203,7 @@ module _ {L F : Type 0} (k : Ghosts L) (target : L → TargetState) (linked : L 
             half = view y;
             turns = more s.mid (view y) (Carries w left (Waits j f)) (one_exchange w left (see m).initiator (see m).air s.mid (view y) (view y) out refl s.notes s.going (Waits j f) e (λ q. cc));
             under_way = λ q. cc;
-            left = inr (s.sent, s.listeners, due, s.fate, s.left);
+            left = inr (record { sent = s.sent; asked = due; passes = s.fate; payload = out; listeners = s.listeners; heard = s.heard; left = s.left; halted = halting y out z halt });
           }
           go (Rests j reply) e due = absurd cc
           go (Broken c) e due = absurd cc
@@ -221,9 +222,10 @@ module _ {L F : Type 0} (k : Ghosts L) (target : L → TargetState) (linked : L 
           ended [] (swap links fars kind (see m) (see b) (record { out = out; did = [] }) (subst X e one) y z (subst M e moved) tt place there os) c over
       failed did one moved false c (inr (memory, e)) over =
           let X : List FarStep → Type 0 = λ d. Swaps m out d b in
+          let M : List FarStep → Type 0 = λ d. FarMoved steps stops d y z in
           let d : List FarStep = Stopped out ∷ [] in
           let P : EndCause → Type 0 = λ q. Cut (fault_of q) in
-          subst P (sym memory) (stopped (stop links fars (see m) (see b) (record { out = out; did = d }) (subst X e one) out refl place there (view y) os))
+          subst P (sym memory) (stopped (stop links fars (see m) (see b) (record { out = out; did = d }) (subst X e one) out refl place there (view y) os) (subst M e moved).0)
 
       cut : (see m).over ≡ None → (e : SnepFault) (new : EndState) → IsCut (sees see) Swaps steps stops (first_number left) (ready w).llc m y e new b z → Cut e
       cut goes e new (inl (inl c)) = subst Cut (sym c.fault) (rested c.link_is c.far_is)
@@ -244,8 +246,11 @@ module _ {L F C A : Type 0} (k : Ghosts L) (target : L → TargetState) (linked 
   talks_far links fars kind numbers from to a b far after talk goes place there os =
       talked k target linked t place os see restarts steps stops view links fars kind swap stop numbers talk.did from to a b far after talk.told talk.swapped (talk.over ∙ goes) talk.far_moved there
 
-  pub breaks_far : BreaksFar k target linked t see restarts steps stops view
-  breaks_far links fars kind numbers from a b far after e new broke goes place there os =
+  pub breaks_by : (halts : Choosing F → List ℕ → Choosing F → Type 0) → ((u : A) (payload : List ℕ) (v : A) → stops u payload v → halts (view u) payload (view v)) → BreaksBy k target linked t see restarts steps stops view halts
+  breaks_by halts halting links fars kind numbers from a b far after e new broke goes place there os =
       let talk = broke.talks in
       let z = talked k target linked t place os see restarts steps stops view links fars kind swap stop numbers talk.did from (Goes broke.at) a broke.mid far broke.mid_far talk.told talk.swapped (talk.over ∙ goes) talk.far_moved there in
-      cut k target linked t place os see restarts steps stops view links fars kind swap stop from broke.at a broke.mid b far broke.mid_far after numbers (numbers_behind talk.did numbers) z.0 z.1 (talk.over ∙ goes) e new broke.cut
+      cut k target linked t place os see restarts steps stops view links fars kind swap stop halts halting from broke.at a broke.mid b far broke.mid_far after numbers (numbers_behind talk.did numbers) z.0 z.1 (talk.over ∙ goes) e new broke.cut
+
+  pub breaks_far : BreaksFar k target linked t see restarts steps stops view
+  breaks_far = breaks_by (HaltsSo k target linked t see restarts steps stops view) (λ u payload v halt. (u, v, refl, refl, halt))

@@ -1,5 +1,5 @@
 -- What ending a connection and releasing its link comes to.
-use Rattle.std.proofs.Common.{◌≡◌, ◌≤◌, ◌⊎◌, ℕ, List, length, Bool, true, Option, Some, None, Ok, Err, refl, sym, ◌∙◌, ap, subst, inl, inr}
+use Rattle.std.proofs.Common.{◌≡◌, ◌≤◌, ◌⊎◌, ℕ, List, [], ◌∷◌, length, Bool, true, false, if◌then◌else◌, Option, Some, None, Ok, Err, refl, sym, ◌∙◌, ap, subst, inl, inr}
 use Rattle.std.specs.List.{AllByRecursion}
 use Rattle.nfc_base.specs.Choosing.{Choosing}
 use Rattle.nfc_base.specs.Signal.{Signal}
@@ -9,8 +9,11 @@ use Rattle.nfc_base.specs.declared.carrier.EndCause.TheVariants as cause
 use Rattle.nfc_base.specs.declared.event.Heard.{Heard}
 use Rattle.nfc_base.specs.declared.event.Event.TheVariants.{Request}
 use Rattle.nfc_base.specs.declared.event.Fate.TheVariants.{Pass}
-use Rattle.air_core.specs.Conversation.{Asks, first_fate, later_fates}
-use Rattle.air_core.specs.Turn.{Air, TurnIs, after_event}
+use Rattle.air_core.specs.Conversation.{Next, Asks, first_fate, later_fates}
+use Rattle.air_core.specs.Quiet.{EachQuiet}
+use Rattle.air_core.specs.World.{Machine, hears}
+use Rattle.air_core.specs.Turn.{Air, HearSome, TurnIs, after_event}
+use Rattle.air_core.proofs.Quiet.{quiet_goes_on}
 use Rattle.air_core.specs.declared.listener.Listener.{Ghosts}
 use Rattle.air_core.proofs.PlainAside.{Laws}
 use Rattle.dep_link.specs.Target.{TargetState}
@@ -29,11 +32,11 @@ use Rattle.snep_core.specs.Server.{serving}
 use Rattle.snep_core.specs.Calling.{Talks, FailsBy, fault_of, gives_up}
 use Rattle.snep_core.specs.Talk.{EndState, OnSap, Step, Ends}
 use Rattle.link_calls.specs.CallDue.{CallStanding, Carries, Comes, BrokenBy, Strays, call_due_at}
-use Rattle.link_calls.specs.CallTurns.{sees, swaps}
+use Rattle.link_calls.specs.CallTurns.{HaltsAt, sees, swaps}
 use Rattle.link_calls.specs.Arriving.{all_answered}
 use Rattle.link_calls.specs.Calls.{IsOpen, IsCutOff}
 use Rattle.link_calls.specs.ClosingDue.{Releasing, closing_at, closing_due_at}
-use Rattle.link_calls.specs.Closing.{ClosingTurns, ClosingFails, SendsRls, IsReleased}
+use Rattle.link_calls.specs.Closing.{ClosingTurns, ClosingFails, HaltsAtRls, SendsRls, IsReleased}
 use Rattle.link_calls.specs.Staying.{setting_of}
 use Rattle.link_calls.proofs.Arriving.{release_brings}
 use Rattle.link_calls.proofs.Made.{peer_table, peer_kind, reaches, made, cut_off, within}
@@ -46,13 +49,28 @@ due_same (BrokenBy c) f e = absurd cc
 due_same Strays f e = absurd cc
 
 -- how a call was left off, so was the closing
-left_so : {L : Type 0} (k : Ghosts L) (new : Air L) (after : Choosing PeerState) (mid : Air L) (half : Choosing PeerState) (s : CallStanding)
-    → ((new ≡ mid) × (after ≡ half))
-    ⊎ ((sent : Signal) × (listeners : List L) × (call_due_at s ≡ Asks sent) × (first_fate mid.fates ≡ Pass) × (new ≡ after_event mid (Request sent Pass) (later_fates mid.fates) (record { lit = true; listeners = listeners })))
-    → ((new ≡ mid) × (after ≡ half))
-    ⊎ ((sent : Signal) × (listeners : List L) × (closing_due_at (closing_at s) ≡ Asks sent) × (first_fate mid.fates ≡ Pass) × (new ≡ after_event mid (Request sent Pass) (later_fates mid.fates) (record { lit = true; listeners = listeners })))
-left_so k new after mid half s (inl e) = inl e
-left_so k new after mid half s (inr (sent, listeners, due, fate, left)) = inr (sent, listeners, due_same s sent due, fate, left)
+module _ {L : Type 0} (k : Ghosts L) (target : L → TargetState) (linked : L → Bool) (new : Air L) (after : Choosing PeerState) (mid : Air L) (half : Choosing PeerState) where
+  abbrev HaltsBy : Next → Type 0
+  HaltsBy due = HaltsAt k target linked peer_ends (StopsCounted serving) due mid new half after
+
+  left_so : (s : CallStanding) → ((new ≡ mid) × (after ≡ half)) ⊎ HaltsBy (call_due_at s)
+      → ((new ≡ mid) × (after ≡ half)) ⊎ (HaltsBy (closing_due_at (closing_at s)) ⊎ HaltsAtRls k linked peer_ends (closing_at s) mid new)
+  left_so s (inl e) = inl e
+  left_so s (inr h) = inr (inl (record { sent = h.sent; asked = due_same s h.sent h.asked; passes = h.passes; payload = h.payload; listeners = h.listeners; heard = h.heard; left = h.left; halted = h.halted }))
+
+module _ {L A : Type 0} (m : Machine L) (restarts : A → List ℕ → A → Type 0) (steps : A → List ℕ → List ℕ → A → Type 0) (stops : A → List ℕ → A → Type 0) (is_stuck : A → Bool)
+    (quiet : (l : L) → m.handed l rls_frame ≡ Untouched) where
+  over_by : (v : Bool) (l : L) → (if v then m.handed l rls_frame else Untouched) ≡ Untouched
+  over_by true l = quiet l
+  over_by false l = refl
+
+  each_at_rls : (ls : List L) → EachQuiet m rls_frame ls
+  each_at_rls [] = tt
+  each_at_rls (l ∷ ls) = (over_by (hears m l rls_frame) l, each_at_rls ls)
+
+  -- no far end stops where nothing is handed over
+  none_stops : (ls : List L) (far : A) (ls' : List L) (far' : A) → HearSome m restarts steps stops is_stuck rls_frame ls far ls' far' → ⊥
+  none_stops ls far ls' far' some = quiet_goes_on m restarts steps stops is_stuck rls_frame ls far ls' far' (each_at_rls ls) some
 
 module _ {L C : Type 0} (k : Ghosts L) (target : L → TargetState) (see : C → DepSeen L) (laws : Laws k) (a b : C) (far half : Choosing PeerState) (old : Air L) (i : InitState) (is : see a ≡ first_seen old i)
     (open_ : IsOpen k target old i) (ready : (see b).over ≡ None → IsDepReady k target (see b)) (ns : List ℕ) (from : Step) where
@@ -88,7 +106,7 @@ module _ {L C : Type 0} (k : Ghosts L) (target : L → TargetState) (see : C →
           mid = z.mid;
           half = z.half;
           turns = of_call k linked peer_ends place os ns from i old far z.mid z.half target z.standing z.turns z.under_way;
-          left = left_so k (see b).air half z.mid z.half z.standing z.left;
+          left = left_so k target linked (see b).air half z.mid z.half z.standing z.left;
         };
     setting = λ quiet. c.setting;
   }
@@ -172,7 +190,13 @@ module _ {L C : Type 0} (k : Ghosts L) (target : L → TargetState) (see : C →
             mid = (see b).air;
             half = half;
             turns = z.0;
-            left = inr (rls_frame, stops.listeners, refl, stops.fate, stops.left);
+            left = inr (inr (record {
+              asked = refl;
+              passes = stops.fate;
+              listeners = stops.listeners;
+              left = stops.left;
+              hands = λ quiet. none_stops k.machine (RestartsCounted serving) (AnswersCounted serving) (StopsCounted serving) is_stuck quiet (see b).air.listeners half stops.listeners after stops.some;
+            }));
           };
       setting = set_still;
     }

@@ -34,7 +34,7 @@ use Rattle.link_calls.specs.CallTurns.{CallTurns, CutBy, sees, swaps}
 use Rattle.link_calls.specs.Calls.{IsOpen, IsCarried, IsMade, IsCutOff, CallFails, RequestFails}
 use Rattle.link_calls.specs.Staying.{setting_of}
 use Rattle.link_calls.proofs.Arriving.{AreWhole, arrives_so, counted_so, firsts, none_yet, ran, ran_then, told_whole}
-use Rattle.link_calls.proofs.CallWalk.{talks_far, breaks_far}
+use Rattle.link_calls.proofs.CallWalk.{talks_far, breaks_by}
 use Rattle.link_calls.proofs.Open.{in_step, swap_open}
 use Rattle.link_calls.proofs.Settings.{set_still}
 
@@ -155,14 +155,14 @@ module _ {L C : Type 0} (k : Ghosts L) (target : L → TargetState) (see : C →
 
     -- in the world, by whatever cause
     broken : (ns : List ℕ) (from : Step) (e : SnepFault) (new : EndState) → Breaking ns from e new → (linked : L → Bool) → IsLinked k.machine linked → (place : ℕ) → Stands k target linked peer_ends old place
-        → (os : List (Option PeerState)) → CutBy k target linked peer_ends ns from i old (see b).air place os far after e
+        → (os : List (Option PeerState)) → CutBy k target linked peer_ends (StopsCounted serving) ns from i old (see b).air place os far after e
     broken ns from e new broke linked links place there os =
         let A : DepSeen L → Type 0 = λ s. Stands k target linked peer_ends s.air place in
-        let P : DepSeen L → Type 0 = λ s. CutBy k target linked peer_ends ns from s.initiator s.air (see b).air place os far after e in
+        let P : DepSeen L → Type 0 = λ s. CutBy k target linked peer_ends (StopsCounted serving) ns from s.initiator s.air (see b).air place os far after e in
         subst P is
-        (breaks_far k target linked peer_ends see (RestartsCounted serving) (AnswersCounted serving) (StopsCounted serving) (λ c. c)
+        (breaks_by k target linked peer_ends see (RestartsCounted serving) (AnswersCounted serving) (StopsCounted serving) (λ c. c)
         (swaps_far k laws target linked peer_ends (RestartsCounted serving) (AnswersCounted serving) (StopsCounted serving) (λ c. c) (counted_fit serving))
-        (stops_far k laws target linked peer_ends (RestartsCounted serving) (AnswersCounted serving) (StopsCounted serving) (λ c. c))
+        (stops_far k laws target linked peer_ends (RestartsCounted serving) (AnswersCounted serving) (StopsCounted serving) (λ c. c)) (StopsCounted serving) (λ u payload v stop. stop)
         links peer_table peer_kind ns from a b far after e new broke was_open place (subst A (sym is) there) os)
 
     -- what its swaps left, where the last one failed by this cause
@@ -173,20 +173,20 @@ module _ {L C : Type 0} (k : Ghosts L) (target : L → TargetState) (see : C →
     by_cause ns from e new broke cause.FieldLost q never left set =
         let z = left (λ m. cc) in
         subst (Cut ns from) (sym q) (record {
-          turns = λ linked links place there os. subst (CutBy k target linked peer_ends ns from i old (see b).air place os far after) q (broken ns from e new broke linked links place there os);
+          turns = λ linked links place there os. subst (CutBy k target linked peer_ends (StopsCounted serving) ns from i old (see b).air place os far after) q (broken ns from e new broke linked links place there os);
           carried = z.0;
           noisy = z.1;
         })
     by_cause ns from e new broke cause.SixBad q never left set =
         let z = left (λ m. cc) in
         subst (Cut ns from) (sym q) (record {
-          turns = λ linked links place there os. subst (CutBy k target linked peer_ends ns from i old (see b).air place os far after) q (broken ns from e new broke linked links place there os);
+          turns = λ linked links place there os. subst (CutBy k target linked peer_ends (StopsCounted serving) ns from i old (see b).air place os far after) q (broken ns from e new broke linked links place there os);
           carried = z.0;
           noisy = z.1;
         })
     by_cause ns from e new broke cause.Memory q never left set =
         subst (Cut ns from) (sym q) (record {
-          front = λ linked links place there os. subst (CutBy k target linked peer_ends ns from i old (see b).air place os far after) q (broken ns from e new broke linked links place there os);
+          front = λ linked links place there os. subst (CutBy k target linked peer_ends (StopsCounted serving) ns from i old (see b).air place os far after) q (broken ns from e new broke linked links place there os);
           setting = set;
         })
     by_cause ns from e new broke cause.Protocol q never left set = absurd (never refl)

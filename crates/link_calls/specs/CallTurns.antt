@@ -8,11 +8,12 @@ use Rattle.nfc_base.specs.declared.event.Event.TheVariants.{Request}
 use Rattle.nfc_base.specs.declared.event.Fate.TheVariants.{Pass}
 use Rattle.nfc_base.specs.declared.carrier.EndCause.TheVariants as cause
 use Rattle.air_core.specs.Turn.{Air, moment, after_event}
-use Rattle.air_core.specs.Conversation.{Note, Asks, first_fate, later_fates}
+use Rattle.air_core.specs.Conversation.{Note, Next, Asks, first_fate, later_fates}
 use Rattle.air_core.specs.declared.listener.Listener.{Ghosts}
 use Rattle.dep_link.specs.Target.{TargetState}
 use Rattle.dep_link.specs.Initiator.{InitState}
 use Rattle.dep_link.specs.DepLinks.{DepSeen, dep_swaps, dep_view}
+use Rattle.dep_link.specs.Stopping.{HeardUpTo}
 use Rattle.far_air.specs.FarEnds.{FarTable}
 use Rattle.far_air.specs.FarLaws.{IsFarTable, IsLinked, IsOfTable}
 use Rattle.far_air.specs.FarTurns.{FarGoing}
@@ -39,26 +40,37 @@ module _ {L F : Type 0} (k : Ghosts L) (target : L → TargetState) (linked : L 
     pub going : FarGoing k.machine linked t (call_due numbers from i) (moment old) (moment new) notes place os far after
     pub stands : call_stand numbers from i notes ≡ s
 
-  -- Behind such requests nothing more happened; or the request passed that was due, and the far end stopped for want of
-  -- memory: nothing came back of it.
-  pub record CallFront (numbers : List ℕ) (from : Step) (i : InitState) (old new : Air L) (place : ℕ) (os : List (Option F)) (far after : Choosing F) : Type 0 where
-    pub standing : CallStanding
-    pub mid : Air L
-    pub half : Choosing F
-    pub turns : CallTurns numbers from i old mid place os far half standing
-    pub under_way : standing ≡ Strays → ⊥
-    pub left : ((new ≡ mid) × (after ≡ half))
-        ⊎ ((sent : Signal) × (listeners : List L) × (call_due_at standing ≡ Asks sent) × (first_fate mid.fates ≡ Pass)
-        × (new ≡ after_event mid (Request sent Pass) (later_fates mid.fates) (record { lit = true; listeners = listeners })))
+  -- A far end that stops as it takes a payload is left so.
+  module _ (halts : Choosing F → List ℕ → Choosing F → Type 0) where
+    -- The request passed that was due, and as it handed a payload over the far end stopped for want of memory: it was
+    -- heard up to the peer, and nothing came back of it.
+    pub record HaltsAt (due : Next) (mid new : Air L) (half after : Choosing F) : Type 0 where
+      pub sent : Signal
+      pub asked : due ≡ Asks sent
+      pub passes : first_fate mid.fates ≡ Pass
+      pub payload : List ℕ
+      pub listeners : List L
+      pub heard : HeardUpTo k.machine sent payload mid.listeners listeners
+      pub left : new ≡ after_event mid (Request sent Pass) (later_fates mid.fates) (record { lit = true; listeners = listeners })
+      pub halted : halts half payload after
 
-  -- how a call was cut off: by its link, or by want of memory
-  abbrev pub CutBy : List ℕ → Step → InitState → Air L → Air L → ℕ → List (Option F) → Choosing F → Choosing F → SnepFault → Type 0
-  CutBy numbers from i old new place os far after (LinkEnded cause.FieldLost) = CallTurns numbers from i old new place os far after (BrokenBy cause.FieldLost)
-  CutBy numbers from i old new place os far after (LinkEnded cause.SixBad) = CallTurns numbers from i old new place os far after (BrokenBy cause.SixBad)
-  CutBy numbers from i old new place os far after (LinkEnded cause.Protocol) = ⊥
-  CutBy numbers from i old new place os far after (LinkEnded cause.Memory) = ⊥
-  CutBy numbers from i old new place os far after Memory = CallFront numbers from i old new place os far after
-  CutBy numbers from i old new place os far after _ = ⊥
+    -- Behind such requests nothing more happened, or the far end stopped at one more.
+    pub record CallFront (numbers : List ℕ) (from : Step) (i : InitState) (old new : Air L) (place : ℕ) (os : List (Option F)) (far after : Choosing F) : Type 0 where
+      pub standing : CallStanding
+      pub mid : Air L
+      pub half : Choosing F
+      pub turns : CallTurns numbers from i old mid place os far half standing
+      pub under_way : standing ≡ Strays → ⊥
+      pub left : ((new ≡ mid) × (after ≡ half)) ⊎ HaltsAt (call_due_at standing) mid new half after
+
+    -- how a call was cut off: by its link, or by want of memory
+    abbrev pub CutBy : List ℕ → Step → InitState → Air L → Air L → ℕ → List (Option F) → Choosing F → Choosing F → SnepFault → Type 0
+    CutBy numbers from i old new place os far after (LinkEnded cause.FieldLost) = CallTurns numbers from i old new place os far after (BrokenBy cause.FieldLost)
+    CutBy numbers from i old new place os far after (LinkEnded cause.SixBad) = CallTurns numbers from i old new place os far after (BrokenBy cause.SixBad)
+    CutBy numbers from i old new place os far after (LinkEnded cause.Protocol) = ⊥
+    CutBy numbers from i old new place os far after (LinkEnded cause.Memory) = ⊥
+    CutBy numbers from i old new place os far after Memory = CallFront numbers from i old new place os far after
+    CutBy numbers from i old new place os far after _ = ⊥
 
   module _ {C A : Type 0} (see : C → DepSeen L) (restarts : A → List ℕ → A → Type 0) (steps : A → List ℕ → List ℕ → A → Type 0) (stops : A → List ℕ → A → Type 0) (view : A → Choosing F) where
     -- What a call did over a link to a peer, with what the far end did, is that: it goes on from the numbers that are
@@ -70,10 +82,17 @@ module _ {L F : Type 0} (k : Ghosts L) (target : L → TargetState) (linked : L 
         → CallTurns numbers from (see a).initiator (see a).air (see b).air place os (view far) (view after)
         (call_at (numbers_behind x.did numbers) to (see b).initiator) × Stands k target linked t (see b).air place
 
-    -- and so where it was cut off
-    abbrev pub BreaksFar : Type 0
-    BreaksFar = IsLinked k.machine linked → IsFarTable t → IsOfTable restarts steps t view
+    -- And so where it was cut off, also as the far end stopped, which left it so.
+    abbrev pub BreaksBy : (Choosing F → List ℕ → Choosing F → Type 0) → Type 0
+    BreaksBy halts = IsLinked k.machine linked → IsFarTable t → IsOfTable restarts steps t view
         → (numbers : List ℕ) (from : Step) (a b : C) (far after : A) (e : SnepFault) (new : EndState)
         → Breaks (sees see) (swaps k target see) steps stops numbers from a far e new b after → (see a).over ≡ None
         → (place : ℕ) → Stands k target linked t (see a).air place → (os : List (Option F))
-        → CutBy numbers from (see a).initiator (see a).air (see b).air place os (view far) (view after) e
+        → CutBy halts numbers from (see a).initiator (see a).air (see b).air place os (view far) (view after) e
+
+    -- A far end that shows itself so stopped as it took a payload.
+    abbrev pub HaltsSo : Choosing F → List ℕ → Choosing F → Type 0
+    HaltsSo half payload after = (a : A) × (b : A) × (view a ≡ half) × (view b ≡ after) × stops a payload b
+
+    abbrev pub BreaksFar : Type 0
+    BreaksFar = BreaksBy HaltsSo

@@ -16,7 +16,9 @@ use Rattle.peer_air.specs.SwapTurns.{Stands}
 use Rattle.snep_core.specs.declared.fault.SnepFault.{SnepFault}
 use Rattle.snep_core.specs.declared.fault.SnepFault.TheVariants.{BadPeer, LinkEnded, Memory}
 use Rattle.snep_core.specs.declared.job.Refusal.{Refusal}
+use Rattle.llcp_link.specs.Counting.{StopsCounted}
 use Rattle.snep_core.specs.Accord.{PeerState}
+use Rattle.snep_core.specs.Server.{serving}
 use Rattle.snep_core.specs.Calling.{gives_up, refused_by}
 use Rattle.snep_core.specs.declared.job.Job.{Job}
 use Rattle.snep_core.specs.declared.job.Job.TheVariants.{Over}
@@ -74,7 +76,7 @@ module _ {L : Type 0} (k : Ghosts L) (target : L → TargetState) where
     -- Memory was wanting: there is a front of it, and nothing that is set of the end changed.
     pub record IsCutShort : Type 0 where
       pub front : (linked : L → Bool) → IsLinked k.machine linked → (place : ℕ) → Stands k target linked peer_ends old place → (os : List (Option PeerState))
-          → CallFront k target linked peer_ends numbers from i old new place os far after
+          → CallFront k target linked peer_ends (StopsCounted serving) numbers from i old new place os far after
       pub setting : setting_of after.end ≡ setting_of far.end
 
     -- It was cut off, by its link or by want of memory.

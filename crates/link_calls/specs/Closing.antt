@@ -16,7 +16,7 @@ use Rattle.air_core.specs.declared.listener.Listener.{Ghosts}
 use Rattle.dep_link.specs.Target.{TargetState}
 use Rattle.dep_link.specs.Initiator.{InitState}
 use Rattle.dep_link.specs.Releasing.{rls_frame}
-use Rattle.llcp_link.specs.Counting.{AnswersCounted, RestartsCounted}
+use Rattle.llcp_link.specs.Counting.{AnswersCounted, RestartsCounted, StopsCounted}
 use Rattle.far_air.specs.FarEnds.{FarTable}
 use Rattle.far_air.specs.FarLaws.{IsLinked}
 use Rattle.far_air.specs.FarTurns.{FarGoing}
@@ -31,6 +31,7 @@ use Rattle.snep_core.specs.declared.job.Job.{Job}
 use Rattle.snep_core.specs.Talk.{EndState, Step}
 use Rattle.link_calls.specs.CallDue.{BrokenBy, Comes}
 use Rattle.link_calls.specs.Arriving.{Arrives}
+use Rattle.link_calls.specs.CallTurns.{HaltsAt}
 use Rattle.link_calls.specs.Calls.{IsCarried, IsMade}
 use Rattle.link_calls.specs.ClosingDue.{ClosingStanding, Calls, Released, closing_stand, closing_due, closing_due_at}
 use Rattle.link_calls.specs.Staying.{setting_of}
@@ -42,16 +43,24 @@ module _ {L F : Type 0} (k : Ghosts L) (linked : L → Bool) (t : FarTable F) wh
     pub going : FarGoing k.machine linked t (closing_due numbers from i) (moment old) (moment new) notes place os far after
     pub stands : closing_stand numbers from i notes ≡ s
 
-  -- Behind such requests nothing more happened; or the request passed that was due, and the far end stopped for want of
-  -- memory.
-  pub record ClosingFront (numbers : List ℕ) (from : Step) (i : InitState) (old new : Air L) (place : ℕ) (os : List (Option F)) (far after : Choosing F) : Type 0 where
+  -- RLS_REQ passed, and as a listener handed something over a far end stopped for want of memory.
+  pub record HaltsAtRls (standing : ClosingStanding) (mid new : Air L) : Type 0 where
+    pub asked : closing_due_at standing ≡ Asks rls_frame
+    pub passes : first_fate mid.fates ≡ Pass
+    pub listeners : List L
+    pub left : new ≡ after_event mid (Request rls_frame Pass) (later_fates mid.fates) (record { lit = true; listeners = listeners })
+    pub hands : ((l : L) → k.machine.handed l rls_frame ≡ Untouched) → ⊥
+
+  -- Behind such requests nothing more happened, or the far end stopped at one more: at one of the call, or, where a
+  -- listener hands something over at it, at RLS_REQ.
+  pub record ClosingFront (target : L → TargetState) (halts : Choosing F → List ℕ → Choosing F → Type 0)
+      (numbers : List ℕ) (from : Step) (i : InitState) (old new : Air L) (place : ℕ) (os : List (Option F)) (far after : Choosing F) : Type 0 where
     pub standing : ClosingStanding
     pub mid : Air L
     pub half : Choosing F
     pub turns : ClosingTurns numbers from i old mid place os far half standing
     pub left : ((new ≡ mid) × (after ≡ half))
-        ⊎ ((sent : Signal) × (listeners : List L) × (closing_due_at standing ≡ Asks sent) × (first_fate mid.fates ≡ Pass)
-        × (new ≡ after_event mid (Request sent Pass) (later_fates mid.fates) (record { lit = true; listeners = listeners })))
+        ⊎ (HaltsAt k target linked t halts (closing_due_at standing) mid new half after ⊎ HaltsAtRls standing mid new)
 
 module _ {L : Type 0} (k : Ghosts L) (target : L → TargetState) where
   -- a closing from a moment of the field, its initiator and its peer's end to others
@@ -91,7 +100,7 @@ module _ {L : Type 0} (k : Ghosts L) (target : L → TargetState) where
     -- Memory was wanting: there is a front of it, and nothing that is set of the end changed.
     pub record IsClosingShort : Type 0 where
       pub front : (linked : L → Bool) → IsLinked k.machine linked → (place : ℕ) → Stands k target linked peer_ends old place → (os : List (Option PeerState))
-          → ClosingFront k linked peer_ends numbers from i old new place os far after
+          → ClosingFront k linked peer_ends target (StopsCounted serving) numbers from i old new place os far after
       pub setting : ((l : L) → k.machine.handed l rls_frame ≡ Untouched) → setting_of after.end ≡ setting_of far.end
 
     -- It failed: the far end was given up, the link ended, or memory was wanting.

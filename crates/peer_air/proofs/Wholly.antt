@@ -260,6 +260,7 @@ stop_far k laws target linked t links fars a b out (Stopped p ∷ []) x payload 
       due = ap due_at s.before.stands;
       fate = s.fate;
       listeners = s.listeners;
+      heard = s.heard;
       left = s.left;
     }
 stop_far k laws target linked t links fars a b out (Stopped p ∷ d ∷ did) x payload e place stands far os = absurd cc

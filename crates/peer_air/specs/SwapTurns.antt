@@ -15,6 +15,7 @@ use Rattle.dep_link.specs.Target.{TargetState}
 use Rattle.dep_link.specs.Initiator.{InitState}
 use Rattle.dep_link.specs.Asking.{Standing, HasPeer, ExchangeTurns, asks, stand, dep_next}
 use Rattle.dep_link.specs.DepLinks.{DepSeen, Swap, Exchanged, StandsAt, dep_swaps}
+use Rattle.dep_link.specs.Stopping.{HeardUpTo}
 use Rattle.far_air.specs.FarEnds.{FarTable}
 use Rattle.far_air.specs.FarLaws.{IsFarTable, IsLinked, IsOfTable}
 use Rattle.far_air.specs.FarTurns.{FarGoing}
@@ -75,8 +76,8 @@ module _ {L F : Type 0} (k : Ghosts L) (target : L → TargetState) (linked : L 
     pub there : Stands b.air place
     pub going : FarGoing k.machine linked t (dep_next a.initiator s.out) (moment a.air) (moment b.air) notes place os far after
 
-  -- Behind the turns of a swap a request that was due passed, and its far end stopped for want of memory: nothing came
-  -- back.
+  -- Behind the turns of a swap a request that was due passed, and as its payload was handed over the far end stopped for
+  -- want of memory: it was heard up to the peer, and nothing came back.
   pub record SwapFront (a b : DepSeen L) (out : List ℕ) (place : ℕ) (os : List (Option F)) (far : Choosing F) : Type 0 where
     pub mid : Air L
     pub notes : List Note
@@ -85,6 +86,7 @@ module _ {L F : Type 0} (k : Ghosts L) (target : L → TargetState) (linked : L 
     pub due : dep_next a.initiator out notes ≡ Asks sent
     pub fate : first_fate mid.fates ≡ Pass
     pub listeners : List L
+    pub heard : HeardUpTo k.machine sent out mid.listeners listeners
     pub left : b.air ≡ after_event mid (Request sent Pass) (later_fates mid.fates) (record { lit = true; listeners = listeners })
 
   -- swaps one after another

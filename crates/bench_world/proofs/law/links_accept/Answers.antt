@@ -1,5 +1,9 @@
+use Rattle.bench_world.proofs.CutLinks.{cut_link_law}
 use Rattle.bench_world.proofs.LinkLaw.{link_law}
 use Rattle.bench_world.proofs.law.links_accept.Goals as goal
 
-pub returns : goal.returns
-returns c = link_law
+pub returns-clause-whole : goal.returns-clause-whole
+returns-clause-whole c = link_law
+
+pub returns-clause-cut : goal.returns-clause-cut
+returns-clause-cut c = cut_link_law

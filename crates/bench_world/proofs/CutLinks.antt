@@ -1,0 +1,254 @@
+-- The law of links behind a command that want of memory cut off.
+use Rattle.std.proofs.Common.{◌≡◌, ◌⊎◌, ℕ, List, [], ◌∷◌, ◌++◌, map, length, true, false, Option, Some, None, inl, inr, refl, sym, ◌∙◌, ap, subst}
+use Rattle.std.specs.List.{AllByRecursion}
+use Rattle.std.proofs.lemmas.List.{append-nil, length-map, map-append}
+use Rattle.nfc_base.specs.declared.event.Event.{Event}
+use Rattle.nfc_base.specs.declared.event.Fate.{Fate}
+use Rattle.air_core.specs.Conversation.{queue_after}
+use Rattle.snep_core.specs.Server.{Received as Accepted}
+use Rattle.bench_script.specs.declared.command.Command.{Command}
+use Rattle.bench_script.specs.declared.command.Command.TheVariants.{Skip, Fates, PlaceT2, PlaceT4, PlaceT5, PlacePeer, Lock, Busy, Offer, Remove, Dump, Inbox, Find, Read, Write, Link, Put, Get, Lookup, Unlink}
+use Rattle.bench_script.specs.DeviceIds.{bytes_of}
+use Rattle.bench_script.specs.Messages.{message_of}
+use Rattle.bench_devices.specs.declared.device.Device.{Device}
+use Rattle.bench_devices.specs.Beside.{TalkLeaves}
+use Rattle.bench_devices.specs.Device.{device_locked, device_busy}
+use Rattle.bench_devices.specs.Keeping.{Kept, AllStayDevices, IsSound, StaysDevice, kept}
+use Rattle.bench_world.specs.declared.entry.Answer.{Answer}
+use Rattle.bench_world.specs.declared.entry.Answer.TheVariants as answers
+use Rattle.bench_world.specs.declared.entry.Entry.{Entry}
+use Rattle.bench_world.specs.declared.entry.Loss.TheVariants as losses
+use Rattle.bench_world.specs.World.{FarEnd, WholeWorld, Stable, stable}
+use Rattle.bench_world.specs.Calls.{OfEnd, PutAddsAtMost, with_accepted}
+use Rattle.bench_world.specs.Journal.{LeadsTo}
+use Rattle.bench_world.specs.Legal.{State, Given, Joins, CutFront, CutStores, EachLegal, FrontOf, HaltLeaves, Halts, HaltsCall, begun, changed, end_of, first_state, state_after, world_after}
+use Rattle.bench_world.specs.LinkLaw.{CutLinkLaw, KeepsLinkLaw, cut_stretch}
+use Rattle.bench_world.specs.Links.{OpenLink, ended}
+use Rattle.bench_world.specs.Peers.{Peers, next_number}
+use Rattle.bench_world.specs.Stories as told
+use Rattle.bench_world.specs.Stories.{Story, stories_of}
+use Rattle.bench_world.proofs.AtNumbers.{AreHeld, held, held_none_more, more_held, same_held, with_held}
+use Rattle.bench_world.proofs.HeldOn.{nothing_sent}
+use Rattle.bench_world.proofs.LinkLaw.{all_keep, along, called, called_so, first_stand, nothing_changed, offered_here, peer_placed, places_behind, put_so, quietly, removed_here, reset, step, tag_placed}
+use Rattle.bench_world.proofs.PeersNumbered.{HavePlaces, busy_kind, locked_kind, places_changed, places_more, places_stay}
+use Rattle.bench_world.proofs.SameStories.{KeepsNumbers, ended_in, same_behind, same_from}
+use Rattle.bench_world.proofs.StoriesHere.{Stand, view_of}
+use Rattle.bench_world.proofs.StoriesStep.{as_many_held, as_many_with, base_held, many_numbers, no_link}
+use Rattle.bench_world.proofs.Tales.{stories_behind}
+use Rattle.bench_world.proofs.Unlinking.{same_numbers}
+
+-- A device of which all stays that does stays as any frame leaves it.
+kept_stays : (l m : Device) → kept m ≡ kept l → StaysDevice l m
+kept_stays l m e = record { fixed = ap (λ (k : Kept). k.fixed) e; long = ap (λ (k : Kept). length k.store) e; sound = λ s. subst IsSound (sym e) s }
+
+kept_all_stay : (ls ms : List Device) → map kept ms ≡ map kept ls → AllStayDevices ls ms
+kept_all_stay [] [] e = tt
+kept_all_stay [] (m ∷ ms) e = absurd cc
+kept_all_stay (l ∷ ls) [] e = absurd cc
+kept_all_stay (l ∷ ls) (m ∷ ms) e =
+    let one : kept m ≡ kept l = cc in
+    let rest : map kept ms ≡ map kept ls = cc in
+    (kept_stays l m one, kept_all_stay ls ms rest)
+
+-- what is said of an end without speaking of it
+of_any : {X : Type 0} (o : Option FarEnd) → OfEnd (λ end. X) o → X
+of_any None h = absurd h
+of_any (Some end) h = h
+
+-- A front of a step.
+module _ (w : WholeWorld) (q : List Fate) (p : Peers) (ys : List Story) (g : Given) where
+  abbrev from : Option OpenLink → State
+  from o = record { world = w; queue = q; peers = p; link = o }
+
+  abbrev so : Option OpenLink → Command → List Event → State → Type 0
+  so o c es t = Stand t (stories_behind (from o) (record { command = c; joins = g.joins; events = es; told = None }) t ys)
+
+  after_front : (o : Option OpenLink) (c : Command) (es : List Event) (t : State) → FrontOf (from o) g c es None t → so o c es (state_after (from o) g.joins c es None) → so o c es t
+  after_front o c es t front steps = subst (so o c es) (sym front.after) steps
+
+  front_by : (o : Option OpenLink) (c : Command) (es : List Event) (t : State) → Stand (from o) ys → FrontOf (from o) g c es None t → CutStores (from o) g.joins c es → so o c es t
+  front_by o Skip es t stand front stores =
+      quietly w q p ys o stand g None Skip es t front (nothing_sent (begun (from o) g.joins Skip) es front.turns front.each)
+      (nothing_changed w q p ys o stand g None Skip es refl refl refl refl refl stand.places)
+  front_by o (Fates fates) es t stand front stores =
+      quietly w q p ys o stand g None (Fates fates) es t front (nothing_sent (begun (from o) g.joins (Fates fates)) es front.turns front.each)
+      (nothing_changed w q p ys o stand g None (Fates fates) es refl refl refl refl refl stand.places)
+  front_by o (PlaceT2 id blocks head) es t stand front stores =
+      let c : Command = PlaceT2 id blocks head in
+      quietly w q p ys o stand g None c es t front (nothing_sent (begun (from o) g.joins c) es front.turns front.each)
+      (tag_placed w q p ys o stand g None c es refl refl refl refl (ap (λ ks. record { numbers = p.numbers ++ None ∷ []; placed = next_number p; links = p.links; held = ks }) (map-append held w.fars (None ∷ [])))
+      (places_more w.field.listeners _ p.numbers None w.fars None (many_numbers (from o) ys stand) (λ peer. absurd cc) stand.places))
+  front_by o (PlaceT4 id code container head) es t stand front stores =
+      let c : Command = PlaceT4 id code container head in
+      quietly w q p ys o stand g None c es t front (nothing_sent (begun (from o) g.joins c) es front.turns front.each)
+      (tag_placed w q p ys o stand g None c es refl refl refl refl (ap (λ ks. record { numbers = p.numbers ++ None ∷ []; placed = next_number p; links = p.links; held = ks }) (map-append held w.fars (None ∷ [])))
+      (places_more w.field.listeners _ p.numbers None w.fars None (many_numbers (from o) ys stand) (λ peer. absurd cc) stand.places))
+  front_by o (PlaceT5 id blocks size head) es t stand front stores =
+      let c : Command = PlaceT5 id blocks size head in
+      quietly w q p ys o stand g None c es t front (nothing_sent (begun (from o) g.joins c) es front.turns front.each)
+      (tag_placed w q p ys o stand g None c es refl refl refl refl (ap (λ ks. record { numbers = p.numbers ++ None ∷ []; placed = next_number p; links = p.links; held = ks }) (map-append held w.fars (None ∷ [])))
+      (places_more w.field.listeners _ p.numbers None w.fars None (many_numbers (from o) ys stand) (λ peer. absurd cc) stand.places))
+  front_by o (PlacePeer id lr miu window limit) es t stand front stores =
+      let c : Command = PlacePeer id lr miu window limit in
+      quietly w q p ys o stand g None c es t front (nothing_sent (begun (from o) g.joins c) es front.turns front.each) (peer_placed w q p ys o stand g None id lr miu window limit es)
+  front_by o (Lock id block) es t stand front stores =
+      let c : Command = Lock id block in
+      quietly w q p ys o stand g None c es t front (nothing_sent (begun (from o) g.joins c) es front.turns front.each)
+      (nothing_changed w q p ys o stand g None c es refl refl refl refl refl (places_changed (device_locked block) (locked_kind block) (bytes_of id) w.field.listeners p.numbers w.fars stand.places))
+  front_by o (Busy id count times) es t stand front stores =
+      let c : Command = Busy id count times in
+      quietly w q p ys o stand g None c es t front (nothing_sent (begun (from o) g.joins c) es front.turns front.each)
+      (nothing_changed w q p ys o stand g None c es refl refl refl refl refl (places_changed (device_busy count times) (busy_kind count times) (bytes_of id) w.field.listeners p.numbers w.fars stand.places))
+  front_by o (Offer id key value) es t stand front stores =
+      let c : Command = Offer id key value in
+      quietly w q p ys o stand g None c es t front (nothing_sent (begun (from o) g.joins c) es front.turns front.each) (offered_here w q p ys o stand g None id key value es)
+  front_by o (Remove id) es t stand front stores =
+      let c : Command = Remove id in
+      quietly w q p ys o stand g None c es t front (nothing_sent (begun (from o) g.joins c) es front.turns front.each) (removed_here w q p ys o stand g None id es)
+  front_by o (Dump id) es t stand front stores =
+      quietly w q p ys o stand g None (Dump id) es t front (nothing_sent (begun (from o) g.joins (Dump id)) es front.turns front.each)
+      (nothing_changed w q p ys o stand g None (Dump id) es refl refl refl refl refl stand.places)
+  front_by o (Inbox id) es t stand front stores =
+      quietly w q p ys o stand g None (Inbox id) es t front (nothing_sent (begun (from o) g.joins (Inbox id)) es front.turns front.each)
+      (nothing_changed w q p ys o stand g None (Inbox id) es refl refl refl refl refl stand.places)
+  front_by o Find es t stand front stores =
+      after_front o Find es t front (reset w q p ys o stand g None Find es refl refl refl refl refl (same_held (world_after (from o) g.joins Find es) w (ap (λ (z : Stable). z.ends) stores)))
+  front_by o (Read id) es t stand front stores =
+      after_front o (Read id) es t front (reset w q p ys o stand g None (Read id) es refl refl refl refl refl (same_held (world_after (from o) g.joins (Read id) es) w (ap (λ (z : Stable). z.ends) stores)))
+  front_by o (Write id m) es t stand front stores =
+      after_front o (Write id m) es t front (reset w q p ys o stand g None (Write id m) es refl refl refl refl refl (same_held (world_after (from o) g.joins (Write id m) es) w stores.ends))
+  front_by o (Link id miu window) es t stand front stores =
+      let c : Command = Link id miu window in
+      after_front o c es t front (reset w q p ys o stand g None c es refl refl refl refl refl (same_held (world_after (from o) g.joins c es) w (ap (λ (z : Stable). z.ends) stores)))
+  front_by None (Put m) es t stand front stores =
+      quietly w q p ys None stand g None (Put m) es t front (nothing_sent (begun (from None) g.joins (Put m)) es front.turns front.each)
+      (no_link (from None) (state_after (from None) g.joins (Put m) [] None) (cut_stretch (Put m) g.joins es) ys refl refl refl stand.places stand.stand)
+  front_by (Some l) (Put m) es t stand front stores =
+      let c : Command = Put m in
+      let now : WholeWorld = world_after (from (Some l)) g.joins c es in
+      let accepted : map held now.fars ≡ with_held stores.more l.peer p.numbers (map held w.fars) = more_held now w stores.more l.peer p.numbers stores.ends in
+      let both : AreHeld p.numbers (map held w.fars) × _ = base_held (view_of (from (Some l))) (Some l) ys stand.stand in
+      let many : length now.fars ≡ length w.fars =
+      sym (length-map now.fars held) ∙ ap length accepted ∙ as_many_with stores.more l.peer p.numbers (map held w.fars) both.0 ∙ length-map w.fars held in
+      after_front (Some l) c es t front
+      (put_so w q p ys l stand g (answers.LinkEnded losses.FieldLost) m es now (queue_after q es) None stores.more stores.adds
+      (places_behind w q p ys (Some l) stand g None c es p.numbers refl many refl) accepted (λ k e. absurd cc))
+  front_by None (Get most key) es t stand front stores =
+      quietly w q p ys None stand g None (Get most key) es t front (nothing_sent (begun (from None) g.joins (Get most key)) es front.turns front.each)
+      (no_link (from None) (state_after (from None) g.joins (Get most key) [] None) (cut_stretch (Get most key) g.joins es) ys refl refl refl stand.places stand.stand)
+  front_by (Some l) (Get most key) es t stand front stores =
+      after_front (Some l) (Get most key) es t front
+      (called w q p ys l stand g None (Get most key) es None refl refl refl refl
+      (same_held (world_after (from (Some l)) g.joins (Get most key) es) w (ap (λ (z : Stable). z.ends) stores)) refl (λ m e. absurd cc))
+  front_by None (Lookup name) es t stand front stores =
+      quietly w q p ys None stand g None (Lookup name) es t front (nothing_sent (begun (from None) g.joins (Lookup name)) es front.turns front.each)
+      (no_link (from None) (state_after (from None) g.joins (Lookup name) [] None) (cut_stretch (Lookup name) g.joins es) ys refl refl refl stand.places stand.stand)
+  front_by (Some l) (Lookup name) es t stand front stores =
+      after_front (Some l) (Lookup name) es t front
+      (called w q p ys l stand g None (Lookup name) es None refl refl refl refl
+      (same_held (world_after (from (Some l)) g.joins (Lookup name) es) w (ap (λ (z : Stable). z.ends) stores)) refl (λ m e. absurd cc))
+  front_by None Unlink es t stand front stores =
+      quietly w q p ys None stand g None Unlink es t front (nothing_sent (begun (from None) g.joins Unlink) es front.turns front.each)
+      (no_link (from None) (state_after (from None) g.joins Unlink [] None) (cut_stretch Unlink g.joins es) ys refl refl refl stand.places stand.stand)
+  front_by (Some l) Unlink es t stand front stores =
+      after_front (Some l) Unlink es t front
+      (called w q p ys l stand g None Unlink es None refl refl refl refl
+      (same_held (world_after (from (Some l)) g.joins Unlink es) w (ap (λ (z : Stable). z.ends) stores)) refl (λ m e. absurd cc))
+
+-- The peer's end stopped.
+module _ (w : WholeWorld) (q : List Fate) (p : Peers) (ys : List Story) (g : Given) (l : OpenLink) (stand : Stand (record { world = w; queue = q; peers = p; link = Some l }) ys) (es : List Event) (t : State) where
+  abbrev on : State
+  on = record { world = w; queue = q; peers = p; link = Some l }
+
+  abbrev left : Peers → Option OpenLink → State
+  left ps k = record { world = t.world; queue = t.queue; peers = ps; link = k }
+
+  abbrev halts_so : Command → State → Type 0
+  halts_so c u = Stand u (stories_behind on (record { command = c; joins = g.joins; events = es; told = None }) u ys)
+
+  both_held : AreHeld p.numbers (map held w.fars)
+  both_held = (base_held (view_of on) (Some l) ys stand.stand).0
+
+  left_is : (c : Command) → HaltLeaves on c l t → halts_so c (left (ended (Some l) t.world.fars p) None) → halts_so c t
+  left_is c h steps =
+      let is : left t.peers t.link ≡ left (ended (Some l) t.world.fars p) None = ap (λ ps. left ps t.link) h.peers ∙ ap (left (ended (Some l) t.world.fars p)) h.link in
+      subst (halts_so c) (sym is) steps
+
+  accepted_there : (c : Command) (h : HaltLeaves on c l t) → map held t.world.fars ≡ with_held h.more l.peer p.numbers (map held w.fars)
+  accepted_there c h = more_held t.world w h.more l.peer p.numbers h.ends
+
+  places_there : (c : Command) (h : HaltLeaves on c l t) → HavePlaces t.world.field.listeners p.numbers t.world.fars
+  places_there c h =
+      let many : length t.world.fars ≡ length w.fars =
+      sym (length-map t.world.fars held) ∙ ap length (accepted_there c h) ∙ as_many_with h.more l.peer p.numbers (map held w.fars) both_held ∙ length-map w.fars held in
+      places_stay w.field.listeners t.world.field.listeners p.numbers p.numbers w.fars t.world.fars (kept_all_stay w.field.listeners t.world.field.listeners h.talk.2.same) many refl stand.places
+
+  nothing_more : (c : Command) (h : HaltLeaves on c l t) → h.more ≡ [] → map held t.world.fars ≡ map held w.fars
+  nothing_more c h none =
+      accepted_there c h ∙ ap (λ more. with_held more l.peer p.numbers (map held w.fars)) none ∙ held_none_more l.peer p.numbers (map held w.fars) both_held
+
+  halts_by : (c : Command) (joins : Joins) (s : State) → Halts joins s c es t → HaltLeaves on c l t → halts_so c t
+  halts_by (Put m) joins s stops h =
+      left_is (Put m) h
+      (put_so w q p ys l stand g (answers.LinkEnded losses.FieldLost) m es t.world t.queue None h.more h.adds (places_there (Put m) h) (accepted_there (Put m) h) (λ k e. absurd cc))
+  halts_by (Get most key) joins s stops h =
+      let c : Command = Get most key in
+      left_is c h
+      (called_so w q p ys l stand g None c es t.world t.queue None refl refl refl (places_there c h) (nothing_more c h (of_any (end_of on l) h.adds)) (λ m e. absurd cc))
+  halts_by (Lookup name) joins s stops h =
+      let c : Command = Lookup name in
+      left_is c h
+      (called_so w q p ys l stand g None c es t.world t.queue None refl refl refl (places_there c h) (nothing_more c h (of_any (end_of on l) h.adds)) (λ m e. absurd cc))
+  halts_by Unlink joins s stops h =
+      left_is Unlink h
+      (called_so w q p ys l stand g None Unlink es t.world t.queue None refl refl refl (places_there Unlink h) (nothing_more Unlink h (of_any (end_of on l) h.adds)) (λ m e. absurd cc))
+  halts_by c joins s stops h = absurd stops
+
+-- in which call it stopped
+halts_call : (joins : Joins) (s : State) (c : Command) (cut : List Event) (t : State) → Halts joins s c cut t → HaltsCall joins s c cut t
+halts_call joins s (Put m) cut t h = h
+halts_call joins s (Get most key) cut t h = h
+halts_call joins s (Lookup name) cut t h = h
+halts_call joins s Unlink cut t h = h
+halts_call joins s c cut t h = absurd h
+
+module _ (s t : State) (joins : Joins) (c : Command) (cut : List Event) (ys : List Story) (stand : Stand s ys) where
+  abbrev pub CutStand : Type 0
+  CutStand = Stand t (stories_behind s (cut_stretch c joins cut) t ys)
+
+  cut_front : CutFront joins s c cut t → CutStand
+  cut_front (g, joined, front, stores) =
+      subst (λ j. Stand t (stories_behind s (cut_stretch c j cut) t ys)) joined (front_by s.world s.queue s.peers ys g s.link c cut t stand front stores)
+
+  cut_halts : Halts joins s c cut t → CutStand
+  cut_halts stops =
+      let h = halts_call joins s c cut t stops in
+      let S : Option OpenLink → State = λ o. record { world = s.world; queue = s.queue; peers = s.peers; link = o } in
+      let at : Stand (S (Some h.on)) ys = subst (λ o. Stand (S o) ys) h.open_ stand in
+      let leaves : HaltLeaves (S (Some h.on)) c h.on t = subst (λ o. HaltLeaves (S o) c h.on t) h.open_ h.leaves in
+      let steps = halts_by s.world s.queue s.peers ys h.given h.on at cut t c joins s stops leaves in
+      let back : Stand t (stories_behind s (cut_stretch c h.given.joins cut) t ys) = subst (λ o. Stand t (stories_behind (S o) (cut_stretch c h.given.joins cut) t ys)) (sym h.open_) steps in
+      subst (λ j. Stand t (stories_behind s (cut_stretch c j cut) t ys)) h.joined back
+
+  pub cut_stands : CutFront joins s c cut t ⊎ Halts joins s c cut t → CutStand
+  cut_stands (inl f) = cut_front f
+  cut_stands (inr h) = cut_halts h
+
+  pub cut_numbers : CutFront joins s c cut t ⊎ Halts joins s c cut t → KeepsNumbers s c t
+  cut_numbers (inl (g, joined, front, stores)) l open_ none =
+      ap (λ (z : State). z.peers.numbers) front.after ∙ ended_in s g.joins c cut None l open_ (sym (ap (λ (z : State). z.link) front.after) ∙ none)
+  cut_numbers (inr stops) l open_ none =
+      let h = halts_call joins s c cut t stops in
+      ap (λ (x : Peers). x.numbers) h.leaves.peers ∙ same_numbers (Some h.on) s.peers t.world.fars
+
+pub cut_link_law : CutLinkLaw
+cut_link_law lines numbers journal last leads joins c cut t off =
+    subst (λ ns. AllByRecursion KeepsLinkLaw (told.stories_behind last (cut_stretch c joins cut) t (stories_of ns journal))) leads.joins
+    (let ns : List Joins = map (λ (g : Given). g.joins) leads.given in
+    let stand = along first_state last leads.given journal [] first_stand leads.steps in
+    let ys : List Story = told.stories_from first_state [] ns journal in
+    let whole = same_from step first_state last leads.given journal [] [] first_stand (subst (λ es. EachLegal first_state leads.given es last) (sym (append-nil journal)) leads.steps) in
+    let after = cut_stands last t joins c cut _ stand off in
+    let same = same_behind last t (cut_stretch c joins cut) _ stand (cut_numbers last t joins c cut _ stand off) after in
+    let keep = (all_keep (view_of t) t.link _ after.stand).0 in
+    subst (λ zs. AllByRecursion KeepsLinkLaw (told.stories_behind last (cut_stretch c joins cut) t zs)) (sym whole) (subst (AllByRecursion KeepsLinkLaw) (sym same) keep))
