@@ -16,7 +16,7 @@ use Rattle.t5t_tag.specs.declared.answer.T5Answer.TheVariants.{Present}
 use Rattle.t5t_tag.specs.Mask.{asks_for}
 use Rattle.t5t_tag.specs.Spelling.{inventory_flags, inventory_code, answer_frame}
 use Rattle.t5t_tag.specs.Step.{T5Turn, tells, silent, sent, t5_after}
-use Rattle.t5t_tag.specs.Store.{T5State, IsT5State}
+use Rattle.t5t_tag.specs.Store.{T5State, IsT5Shape}
 use Rattle.t5t_tag.proofs.Inventories.{picked}
 use Rattle.bench_devices.specs.declared.device.Device.{Device}
 use Rattle.bench_devices.specs.declared.device.Device.TheVariants.{T2, T4, Peer, T5}
@@ -120,5 +120,5 @@ steady_at id (Peer d) v = absurd cc
 steady_at id (T5 p) v = steady_five (inventory_of id) p (stays_at_own id p) v
 
 -- A Type 5 tag in the light that isn't quiet answers the inventory of its own identifier: where nobody answers, none is it.
-pub answers_own : (t : T5State) → IsT5State t → t.quiet ≡ false → device_answer (T5 (record { tag = t; lit = true })) (inventory_of t.id) None ≡ Some (answer_frame (Present t.id))
+pub answers_own : (t : T5State) → IsT5Shape t → t.quiet ≡ false → device_answer (T5 (record { tag = t; lit = true })) (inventory_of t.id) None ≡ Some (answer_frame (Present t.id))
 answers_own t is calm = ap (λ (r : T5Turn). sent r.answer) (picked t is calm)

@@ -23,11 +23,11 @@ use Rattle.t2t_tag.specs.Spelling.{spelled_command, answer_frame}
 use Rattle.t2t_tag.specs.Step.{t2_reply, reply_frame, t2_after}
 use Rattle.t2t_tag.specs.Store.{T2Memory}
 use Rattle.t5t_tag.specs.declared.answer.T5Answer.{T5Answer}
-use Rattle.t5t_tag.specs.Store.{T5State, IsT5State}
+use Rattle.t5t_tag.specs.Store.{T5State, IsT5Shape}
 use Rattle.t5t_tag.specs.Spelling.{quiet_code}
 use Rattle.t5t_tag.specs.Step.{T5Turn, sent, obeyed, t5_turn, t5_answer, t5_after}
 use Rattle.t5t_tag.proofs.Turns.{hushes, on_obeyed}
-use Rattle.t5t_tag.proofs.Steps.{same_tag, stays_tag, addressed_turn}
+use Rattle.t5t_tag.proofs.Steps.{same_tag, stays_shape, addressed_turn}
 use Rattle.isodep_link.specs.Sizes.{limit}
 use Rattle.isodep_link.proofs.Heeding.{AreBytes}
 use Rattle.tag_reader.specs.declared.how.How.{How}
@@ -57,7 +57,7 @@ abbrev pub IsOn : How → Device → Type 0
 IsOn how (T2 d) = (how ≡ hows.T2) × (starred : Bool) × (d.front ≡ Active starred)
 IsOn how (T4 d) = ⊥
 IsOn how (Peer d) = ⊥
-IsOn how (T5 p) = (how ≡ hows.T5 p.tag.id) × (p.lit ≡ true) × IsT5State p.tag
+IsOn how (T5 p) = (how ≡ hows.T5 p.tag.id) × (p.lit ≡ true) × IsT5Shape p.tag
 
 -- it answers, and stays one
 pub record Replies (how : How) (m : Device) (f : Signal) : Type 0 where
@@ -85,19 +85,19 @@ obeyed_tells t code rest = on_obeyed t Tells (record {
   written = λ b bytes within long. (_, refl);
 }) code rest
 
-addressed_tells : (t : T5State) → IsT5State t → (code : ℕ) (rest : List ℕ) → (code == quiet_code) ≡ false → Tells (t5_turn t (addressed t.id code rest))
+addressed_tells : (t : T5State) → IsT5Shape t → (code : ℕ) (rest : List ℕ) → (code == quiet_code) ≡ false → Tells (t5_turn t (addressed t.id code rest))
 addressed_tells t is code rest other =
     let turn : t5_turn t (addressed t.id code rest) ≡ obeyed t code rest =
     addressed_turn t is code rest ∙ ap (λ v. if v && (length rest == 0) then hushes t else obeyed t code rest) other in
     subst Tells (sym turn) (obeyed_tells t code rest)
 
-five_replies : (how : How) (p : Powered) (f : Signal) → how ≡ hows.T5 p.tag.id → p.lit ≡ true → IsT5State p.tag → Tells (t5_turn p.tag f) → Replies how (T5 p) f
+five_replies : (how : How) (p : Powered) (f : Signal) → how ≡ hows.T5 p.tag.id → p.lit ≡ true → IsT5Shape p.tag → Tells (t5_turn p.tag f) → Replies how (T5 p) f
 five_replies how p f is lit sound tells = record {
   answer = _;
   says = ap (λ v. if v then t5_answer p.tag f else None) lit ∙ ap sent tells.1;
   stays =
       (let goes : devices.after (T5 p) f None ≡ T5 (record { tag = t5_after p.tag f; lit = true }) = ap (λ v. if v then T5 (record { tag = t5_after p.tag f; lit = true }) else T5 p) lit in
-      subst (IsOn how) (sym goes) (is ∙ ap hows.T5 (sym (same_tag p.tag f).id), refl, stays_tag p.tag sound f));
+      subst (IsOn how) (sym goes) (is ∙ ap hows.T5 (sym (same_tag p.tag f).id), refl, stays_shape p.tag sound f));
 }
 
 pub replies : (how : How) (m : Device) (f : Signal) → IsOn how m → IsHeeded how f → Replies how m f

@@ -78,7 +78,7 @@ tag_by v (T5 p) kind named step state is plain = record {
 
 -- each such device has a list of what a read asks of it
 pub some_asked : (d : Device) → IsSound (kept d) → IsPlain d → (commands : List Signal) × AsksOf d commands
-some_asked (T2 d) is plain = some_list hows.T2 (size_of (T2 d)) (device_store (T2 d)) (refl, is.2)
+some_asked (T2 d) is plain = some_list (size_of (T2 d)) (device_store (T2 d)) (refl, is.2)
 some_asked (T4 d) is plain = absurd plain.0
 some_asked (Peer d) is plain = absurd (no_tag plain.1)
 some_asked (T5 p) is plain = blocks_asked p.tag.id (size_of (T5 p)) (device_store (T5 p)) is.3

@@ -25,7 +25,7 @@ use Rattle.nfca_poll.specs.Inventory.{Inventory, Tries, Told, tries, inventory_o
 use Rattle.nfca_poll.proofs.Crowding.{drop-front}
 use Rattle.nfca_poll.proofs.Eaches.{said_none}
 use Rattle.t5t_tag.specs.declared.answer.T5Answer.TheVariants.{Present}
-use Rattle.t5t_tag.specs.Store.{IsT5State, darkened}
+use Rattle.t5t_tag.specs.Store.{IsT5Shape, darkened}
 use Rattle.t5t_tag.specs.Spelling.{answer_frame}
 use Rattle.t5t_tag.specs.Step.{T5Turn, sent}
 use Rattle.t5t_tag.proofs.Inventories.{unpicked}
@@ -218,7 +218,7 @@ module _ (id : List ℕ) where
   answers_in ls = filter_map says ls
 
   -- a tag in the light that isn't quiet
-  state_of : (p : Powered) → IsSound (kept (T5 p)) → IsT5State (darkened p.tag)
+  state_of : (p : Powered) → IsSound (kept (T5 p)) → IsT5Shape (darkened p.tag)
   state_of p s = record { id = s.1; bytes = s.2; store = s.3 }
 
   other_silent : (l : Device) → IsSound (kept l) → (id ≡ device_id l → ⊥) → says (relit l) ≡ None

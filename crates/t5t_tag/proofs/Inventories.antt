@@ -6,7 +6,7 @@ use Rattle.std.proofs.Math.Seq.{take-length}
 use Rattle.std.proofs.Math.Nat.{mod-eq_of_lt}
 use Rattle.nfc_base.specs.Signal.{whole_v}
 use Rattle.t5t_tag.specs.declared.answer.T5Answer.TheVariants.{Present}
-use Rattle.t5t_tag.specs.Store.{T5State, IsT5State, id_size}
+use Rattle.t5t_tag.specs.Store.{T5State, IsT5Shape, id_size}
 use Rattle.t5t_tag.specs.Mask.{low_first, most_bits, kept, mask_of}
 use Rattle.t5t_tag.specs.Spelling.{inventory_flags, inventory_code}
 use Rattle.t5t_tag.specs.Step.{silent, tells, t5_turn}
@@ -41,7 +41,7 @@ small_reversed id small i = by_place (nat_le (length id) i) refl
         omega (arith, turned, less)
 
 -- the mask of all bits is the identifier
-pub whole_mask : (t : T5State) → IsT5State t → mask_of t.id most_bits ≡ low_first t.id
+pub whole_mask : (t : T5State) → IsT5Shape t → mask_of t.id most_bits ≡ low_first t.id
 whole_mask t is =
     let low : List ℕ = low_first t.id in
     let long : length low ≡ id_size = length-reverse t.id ∙ is.id in
@@ -49,14 +49,14 @@ whole_mask t is =
     ap (λ x. take id_size x) all ∙ ap (λ n. take n low) (sym long) ∙ take-length low
 
 -- an inventory with a whole identifier: the tag that has it answers, where it isn't quiet
-pub picked : (t : T5State) → IsT5State t → t.quiet ≡ false → t5_turn t (whole_v (inventory_flags ∷ inventory_code ∷ most_bits ∷ low_first t.id)) ≡ tells t (Present t.id)
+pub picked : (t : T5State) → IsT5Shape t → t.quiet ≡ false → t5_turn t (whole_v (inventory_flags ∷ inventory_code ∷ most_bits ∷ low_first t.id)) ≡ tells t (Present t.id)
 picked t is loud =
     ap (λ v. if not v && pointwise nat_eq (low_first t.id) (mask_of t.id most_bits) then tells t (Present t.id) else silent t) loud
     ∙ ap (λ x. if pointwise nat_eq (low_first t.id) x then tells t (Present t.id) else silent t) (whole_mask t is)
     ∙ ap (λ v. if v then tells t (Present t.id) else silent t) (bytes_self (low_first t.id))
 
 -- every other tag is silent
-pub unpicked : (t : T5State) → IsT5State t → (id : List ℕ) → id ≢ t.id → t5_turn t (whole_v (inventory_flags ∷ inventory_code ∷ most_bits ∷ low_first id)) ≡ silent t
+pub unpicked : (t : T5State) → IsT5Shape t → (id : List ℕ) → id ≢ t.id → t5_turn t (whole_v (inventory_flags ∷ inventory_code ∷ most_bits ∷ low_first id)) ≡ silent t
 unpicked t is id other = by_mask t.quiet (pointwise nat_eq (low_first id) (mask_of t.id most_bits)) refl
   where
     same_id : pointwise nat_eq (low_first id) (mask_of t.id most_bits) ≡ true → id ≡ t.id

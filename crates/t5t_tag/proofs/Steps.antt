@@ -11,7 +11,7 @@ use Rattle.nfc_base.specs.Blocks.{with_block, block_of}
 use Rattle.t5t_tag.specs.declared.command.T5Command.TheVariants.{Read, Write, ReadMany, ReadWide, WriteWide}
 use Rattle.t5t_tag.specs.declared.answer.T5Answer.{T5Answer}
 use Rattle.t5t_tag.specs.declared.answer.T5Answer.TheVariants.{Present, Content, Error}
-use Rattle.t5t_tag.specs.Store.{T5State, IsT5State, id_size, block_count}
+use Rattle.t5t_tag.specs.Store.{T5State, IsT5Shape, IsT5State, id_size, block_count}
 use Rattle.t5t_tag.specs.Mask.{low_first}
 use Rattle.t5t_tag.specs.Spelling.{quiet_code, read_code, write_code, read_many_code, read_wide_code, write_wide_code, most_content, wide, head, command_frame, answer_frame, IsT5Answer, T5AnswerSpelling}
 use Rattle.t5t_tag.specs.Step.{T5Turn, silent, tells, refuses, not_supported, no_block, blocks_of, read_turn, read_many_turn, write_turn, wide_number, Writes, asked, asked_turn, obeyed, names, t5_turn, sent, t5_answer, t5_after}
@@ -19,9 +19,9 @@ use Rattle.t5t_tag.proofs.Bytes.{equal_bytes, bytes_self}
 use Rattle.t5t_tag.proofs.Stores.{length_block, length_blocks, length_with_block, still_store, size_of_block}
 use Rattle.t5t_tag.proofs.Turns.{hushes, by_test, on_turn}
 
--- A tag stays one that can be: its store is still one that a tag may have.
-pub stays_tag : (t : T5State) → IsT5State t → (f : Signal) → IsT5State (t5_after t f)
-stays_tag t is = on_turn t (λ r. IsT5State r.after) (record {
+-- A tag keeps its identifier, and its store is still one that a tag may have.
+pub stays_shape : (t : T5State) → IsT5Shape t → (f : Signal) → IsT5Shape (t5_after t f)
+stays_shape t is = on_turn t (λ r. IsT5Shape r.after) (record {
   commands = record {
     error = λ code. is;
     read = λ block within. is;
@@ -60,6 +60,10 @@ same_tag t = on_turn t (λ r. IsSameTag t r.after) (record {
   present = itself t;
 })
 
+-- So a tag stays one that can be.
+pub stays_tag : (t : T5State) → IsT5State t → (f : Signal) → IsT5State (t5_after t f)
+stays_tag t is f = record { shape = stays_shape t is.shape f; locks = ap length (same_tag t f).locked ∙ is.locks }
+
 -- a multiple of a multiple of four is one
 fours : (m n : ℕ) → m % 4 ≡ 0 → (m * n) % 4 ≡ 0
 fours m n h = sym (mul-mod_first m n 4) ∙ ap (λ k. (k * n) % 4) h ∙ ap (λ k. k % 4) (zero-mul n)
@@ -69,7 +73,7 @@ abbrev pub IsTold : Option T5Answer → Type 0
 IsTold None = Unit {0}
 IsTold (Some a) = IsT5Answer a
 
-pub told_in_range : (t : T5State) → IsT5State t → (f : Signal) → IsTold (t5_turn t f).answer
+pub told_in_range : (t : T5State) → IsT5Shape t → (f : Signal) → IsTold (t5_turn t f).answer
 told_in_range t is = on_turn t (λ r. IsTold r.answer) (record {
   commands = record {
     error = λ code. tt;
@@ -141,7 +145,7 @@ none_behind : (k : ℕ) → (8 + k == 8) ≡ (k == 0)
 none_behind k = grind arith
 
 -- a tag hears what is addressed to it, quiet or not
-pub addressed_turn : (t : T5State) → IsT5State t → (code : ℕ) (rest : List ℕ) → t5_turn t (whole_v (head (Some t.id) code ++ rest)) ≡ (if (code == quiet_code) && (length rest == 0) then hushes t else obeyed t code rest)
+pub addressed_turn : (t : T5State) → IsT5Shape t → (code : ℕ) (rest : List ℕ) → t5_turn t (whole_v (head (Some t.id) code ++ rest)) ≡ (if (code == quiet_code) && (length rest == 0) then hushes t else obeyed t code rest)
 addressed_turn t is code rest =
     let low : List ℕ = low_first t.id in
     let long : length low ≡ id_size = length-reverse t.id ∙ is.id in
@@ -153,34 +157,34 @@ addressed_turn t is code rest =
     ∙ ap (λ x. if (code == quiet_code) && (length rest == 0) then hushes t else obeyed t code x) (behind_of low rest long)
 
 -- READ SINGLE BLOCK and WRITE SINGLE BLOCK that are addressed to the tag
-pub read_turns : (t : T5State) → IsT5State t → (block : ℕ) → t5_turn t (command_frame (Read (Some t.id) block)) ≡ read_turn t block
+pub read_turns : (t : T5State) → IsT5Shape t → (block : ℕ) → t5_turn t (command_frame (Read (Some t.id) block)) ≡ read_turn t block
 read_turns t is block = addressed_turn t is read_code (block ∷ [])
 
 asked_write : (block : ℕ) (content : List ℕ) → asked write_code (block ∷ content) ≡ Writes block content
 asked_write block [] = refl
 asked_write block (byte ∷ content) = refl
 
-pub write_turns : (t : T5State) → IsT5State t → (block : ℕ) (content : List ℕ) → t5_turn t (command_frame (Write (Some t.id) block (record { items = content }))) ≡ write_turn t block content
+pub write_turns : (t : T5State) → IsT5Shape t → (block : ℕ) (content : List ℕ) → t5_turn t (command_frame (Write (Some t.id) block (record { items = content }))) ≡ write_turn t block content
 write_turns t is block content = addressed_turn t is write_code (block ∷ content) ∙ ap (asked_turn t) (asked_write block content)
 
 -- READ MULTIPLE BLOCKS, and both with a block number of two bytes
-pub read_many_turns : (t : T5State) → IsT5State t → (first more : ℕ) → t5_turn t (command_frame (ReadMany (Some t.id) first more)) ≡ read_many_turn t first more
+pub read_many_turns : (t : T5State) → IsT5Shape t → (first more : ℕ) → t5_turn t (command_frame (ReadMany (Some t.id) first more)) ≡ read_many_turn t first more
 read_many_turns t is first more = addressed_turn t is read_many_code (first ∷ more ∷ [])
 
 number_of_wide : (block : ℕ) → wide_number (block % 256) (block / 256) ≡ block
 number_of_wide block = omega arith
 
-pub read_wide_turns : (t : T5State) → IsT5State t → (block : ℕ) → t5_turn t (command_frame (ReadWide (Some t.id) block)) ≡ read_turn t block
+pub read_wide_turns : (t : T5State) → IsT5Shape t → (block : ℕ) → t5_turn t (command_frame (ReadWide (Some t.id) block)) ≡ read_turn t block
 read_wide_turns t is block = addressed_turn t is read_wide_code (wide block) ∙ ap (λ n. read_turn t n) (number_of_wide block)
 
-pub write_wide_turns : (t : T5State) → IsT5State t → (block : ℕ) (content : List ℕ) → t5_turn t (command_frame (WriteWide (Some t.id) block (record { items = content }))) ≡ write_turn t block content
+pub write_wide_turns : (t : T5State) → IsT5Shape t → (block : ℕ) (content : List ℕ) → t5_turn t (command_frame (WriteWide (Some t.id) block (record { items = content }))) ≡ write_turn t block content
 write_wide_turns t is block content = addressed_turn t is write_wide_code (wide block ++ content) ∙ ap (λ n. write_turn t n content) (number_of_wide block)
 
 is_less : (m n : ℕ) → n < m → nat_le m n ≡ false
 is_less m n h = grind arith
 
 -- a block that is there
-pub read_gives : (t : T5State) → IsT5State t → (block : ℕ) → block < block_count t
+pub read_gives : (t : T5State) → IsT5Shape t → (block : ℕ) → block < block_count t
     → t5_answer t (command_frame (Read (Some t.id) block)) ≡ Some (answer_frame (Content (record { items = block_of t.size t.store block })))
 read_gives t is block within =
     ap (λ (r : T5Turn). sent r.answer) (read_turns t is block)
@@ -201,7 +205,7 @@ read_many_leaves t first more =
     (λ h. untouched t)
     (λ h. by_test (λ r. IsUntouched t r.after) large (refuses t not_supported) told (λ k. untouched t) (λ k. untouched t))
 
-pub read_keeps : (t : T5State) → IsT5State t → (block : ℕ) → IsUntouched t (t5_after t (command_frame (Read (Some t.id) block)))
+pub read_keeps : (t : T5State) → IsT5Shape t → (block : ℕ) → IsUntouched t (t5_after t (command_frame (Read (Some t.id) block)))
 read_keeps t is block = subst (λ r. IsUntouched t r.after) (sym (read_turns t is block)) (read_leaves t block)
 
 -- A frame for another identifier is silent and changes nothing.

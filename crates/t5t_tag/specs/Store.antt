@@ -39,11 +39,16 @@ lock_count = 16384
 abbrev pub id_size : ℕ
 id_size = 8
 
--- the states that a tag can have
-pub record IsT5State (t : T5State) : Type 0 where
+-- a tag of an identifier and a store that a tag may have
+pub record IsT5Shape (t : T5State) : Type 0 where
   pub id : length t.id ≡ id_size
   pub bytes : (i : ℕ) → slice_index t.id i < 256
   pub store : IsT5Store t.size t.store
+
+-- the states that a tag can have
+pub record IsT5State (t : T5State) : Type 0 where
+  pub shape : IsT5Shape t
+  pub locks : length t.locked ≡ lock_count
 
 -- how many blocks it has
 abbrev pub block_count : T5State → ℕ

@@ -2,7 +2,7 @@
 
 ghost use Rattle.std.specs.Prelude.{◌≡◌, ◌<◌, ◌≤◌, ◌+◌, ◌*◌, ◌↔◌, ◌∷◌, length, not, nat_le, IfOk, IsOk, Some};
 ghost use Rattle.t5t_tag.specs.Spelling.{inventory_code};
-ghost use Rattle.t5t_tag.specs.Store.{IsT5Store, IsT5State, lock_count, block_count, fresh, darkened, locked_too, store_fault_number};
+ghost use Rattle.t5t_tag.specs.Store.{IsT5Store, IsT5State, block_count, fresh, darkened, locked_too, store_fault_number};
 ghost use Rattle.t5t_tag.specs.Step.{blocks_of, read_turn, read_many_turn, write_turn, obeyed, addressed, plain, inventory, bytes_turn, t5_answer, t5_after};
 ghost use Rattle.t5t_tag.specs.declared.answer.T5Answer.TheVariants.{Content};
 
@@ -62,8 +62,7 @@ pub struct T5Tag {
 }
 
 impl Model for T5Tag {
-    ghost use Rattle.std.specs.Prelude.{◌≡◌, length};
-    ghost use Rattle.t5t_tag.specs.Store.{T5State, IsT5State, lock_count};
+    ghost use Rattle.t5t_tag.specs.Store.{T5State, IsT5State};
 
     ghost Value = { T5State };
 
@@ -76,8 +75,7 @@ impl Model for T5Tag {
     } };
 
     ghost invariant = { λ t. IsT5State
-        (record { id = t.id; size = t.block; store = t.store.items; locked = t.locks; quiet = t.quiet })
-        × (length t.locks ≡ lock_count) };
+        (record { id = t.id; size = t.block; store = t.store.items; locked = t.locks; quiet = t.quiet }) };
 }
 
 impl T5Tag {
@@ -112,7 +110,6 @@ impl T5Tag {
     pub fn store(&self) -> &[u8]
         ensures store { result.now ≡ self.now.store }
         ensures shape { IsT5State self.now }
-        ensures locks { length self.now.locked ≡ lock_count }
     {
         self.store.as_slice()
     }

@@ -1,5 +1,5 @@
 -- A survey of an area: READs to its end, or blocks to its end or the tag's.
-use Rattle.std.proofs.Common.{◌≡◌, ℕ, suc, ◌+◌, ◌*◌, ◌<◌, ◌≤◌, inl, inr, Bool, true, false, List, ◌++◌, length, drop, sym, ◌∙◌, ap, subst, arith}
+use Rattle.std.proofs.Common.{◌≡◌, ℕ, suc, ◌+◌, ◌*◌, ◌<◌, ◌≤◌, inl, inr, List, ◌++◌, length, drop, sym, ◌∙◌, ap, subst, arith}
 use Rattle.std.specs.Prelude.{min, Ok}
 use Rattle.std.proofs.lemmas.List.{length-append, length-take}
 use Rattle.nfc_base.specs.TagLinks.{LinkView}
@@ -8,12 +8,12 @@ use Rattle.tlv_area.specs.declared.container.T5Container.TheVariants.{Ready}
 use Rattle.tlv_area.specs.Containers.{t5_front}
 use Rattle.tlv_area.specs.Layout.{IsArea}
 use Rattle.tlv_area.specs.Stores.{cut, t5_reach, t5_area}
-use Rattle.tag_reader.specs.declared.how.How.{How}
-use Rattle.tag_reader.specs.declared.how.How.TheVariants.{T2, T4, T5}
+use Rattle.tag_reader.specs.declared.how.How.TheVariants.{T2, T5}
 use Rattle.tag_reader.specs.declared.known.Known.{Known}
 use Rattle.tag_reader.specs.Blocks.{AreaGoesOn, progress_at}
-use Rattle.tag_reader.specs.Asked.{ToWrite, HasMore, IsLeft, IsSurveyed}
-use Rattle.tag_reader.specs.Steps.{IsBlockTag, IsBlockStore, IsInReach, AsksNext, Walks}
+use Rattle.tag_reader.specs.Asked.{ToWrite, IsLeft, IsSurveyed}
+use Rattle.tag_reader.specs.Kinds.{IsTag, IsStore}
+use Rattle.tag_reader.specs.Steps.{IsInReach, Learns, Walks}
 use Rattle.tag_reader.specs.BlockSteps.{Names, IsReading, HasRunOut}
 use Rattle.tag_reader.specs.Heard.{IsOf}
 use Rattle.tag_reader.specs.HeardSteps.{Under}
@@ -23,50 +23,23 @@ use Rattle.tag_reader.proofs.Knowing.{knows_more, walks_at, store_goes_on}
 use Rattle.tag_reader.proofs.BlockEndings.{ready_here, names_store}
 use Rattle.tag_reader.proofs.BlockTurns.{known_long}
 
--- how many bytes are known of an area that goes on
-pub all_brought : (how : How) (size : ℕ) (a b : LinkView) (known : List ℕ) (space : Space) (n : ℕ) → Walks ToWrite how size a b known space n → length known < space.end → length known ≡ size * (n + 1)
-all_brought how size a b known space n w short =
-    let store : List ℕ = a.state.store in
-    let long = ap length w.knows.bytes ∙ length-take (size * (n + 1)) (store ++ store) in
-    let twice = length-append store store in
-    elim w.fits.within [ inl within ↦ omega (arith, long, twice, short, within) | inr within ↦ omega (arith, long, twice, within) ]
+-- The next READ is due, where the area goes on behind what is known.
+pub record Left (size : ℕ) (a b : LinkView) (n : ℕ) : Type 0 where
+  pub due : IsLeft T2 size a.state.store (n + 1)
+  pub tag : IsTag T2 size b
+  pub reach : IsInReach b.state.store (n + 1)
 
--- so the next READ is due
-pub record Left (how : How) (size : ℕ) (a b : LinkView) (n : ℕ) : Type 0 where
-  pub due : IsLeft how size a.state.store (n + 1)
-  pub tag : IsBlockTag how size b
-  pub reach : IsInReach how size b.state.store (n + 1)
-
-left_of : (how : How) (size : ℕ) (store : List ℕ) (n : ℕ) → IsBlockStore how size store → HasMore how size store n → IsLeft how size store n
-left_of T2 size store n is more = more
-left_of T4 size store n is more = absurd is
-left_of (T5 id) size store n is more = absurd is
-
-pub left : (how : How) (size : ℕ) (a b : LinkView) (known : List ℕ) (space : Space) (n : ℕ) → IsBlockStore how size a.state.store → Walks ToWrite how size a b known space n → length known < space.end →
-    Left how size a b n
-left how size a b known space n is w short =
-    let long = all_brought how size a b known space n w short in
-    let due = left_of how size a.state.store (n + 1) is (record { space = space; area = w.area; more = omega (arith, long, short) }) in
-    record { due = due; tag = w.knows.tag; reach = subst (λ s. IsInReach how size s (n + 1)) (sym w.knows.stays.store) (left_reach how size a.state.store (n + 1) is due) }
+pub left : (size : ℕ) (a b : LinkView) (known : List ℕ) (space : Space) (n : ℕ) → IsStore T2 size a.state.store → Walks ToWrite size a b known space n → length known < space.end → Left size a b n
+left size a b known space n is w short =
+    let long = ap length w.knows.bytes ∙ length-take (size * (n + 1)) (a.state.store ++ a.state.store) in
+    let twice = length-append a.state.store a.state.store in
+    let due : IsLeft T2 size a.state.store (n + 1) = record { space = space; area = w.area; more = omega (arith, long, twice, short, w.within) } in
+    record { due = due; tag = w.knows.tag; reach = subst (λ s. IsInReach s (n + 1)) (sym w.knows.stays.store) (left_reach size a.state.store (n + 1) is due) }
 
 -- it brings more
-pub brings_more : (how : How) (size : ℕ) (a b c : LinkView) (known known' : List ℕ) (space : Space) (n : ℕ) (more : Bool) → IsBlockStore how size a.state.store → Walks ToWrite how size a b known space n →
-    Left how size a b n → AsksNext how size (n + 1) b c known known' (Ok more) → more ≡ true → Walks ToWrite how size a c known' space (n + 1)
-brings_more how size a b c known known' space n more is w l asks goes =
-    let here : AsksNext how size (n + 1) b c known known' (Ok true) = subst (λ m. AsksNext how size (n + 1) b c known known' (Ok m)) goes asks in
-    walks_at how size a c known' space (n + 1) is (knows_more ToWrite how size a b c known known' n w.knows (inr l.due) here.0 here.1 here.2) w.area
-    (subst (λ s. size * (n + 1) < length s) w.knows.stays.store (here.1).0)
-
--- no such tag ends before
-never_ends : (how : How) (size : ℕ) (store : List ℕ) (n : ℕ) → IsBlockStore how size store → IsInReach how size store n → length store ≡ size * n → ⊥
-never_ends T2 size store n is low end = (let same : size * n ≡ 16 * n = ap (λ s. s * n) is.0 in omega (arith, same, end, low))
-never_ends T4 size store n is low end = is
-never_ends (T5 id) size store n is low end = is
-
-pub no_end : (how : How) (size k : ℕ) (a b : LinkView) (known known' : List ℕ) (more : Bool) → IsBlockTag how size a → IsInReach how size a.state.store k → AsksNext how size k a b known known' (Ok more) → more ≡ false → ⊥
-no_end how size k a b known known' more is low asks goes =
-    let here : AsksNext how size k a b known known' (Ok false) = subst (λ m. AsksNext how size k a b known known' (Ok m)) goes asks in
-    never_ends how size a.state.store k is.store low (here.1).0
+pub brings_more : (size : ℕ) (a b c : LinkView) (known known' : List ℕ) (space : Space) (n : ℕ) → IsStore T2 size a.state.store → Walks ToWrite size a b known space n →
+    Left size a b n → Learns size (n + 1) b c known known' → Walks ToWrite size a c known' space (n + 1)
+brings_more size a b c known known' space n is w l learns = walks_at size a c known' space (n + 1) is (knows_more ToWrite size a b c known known' n w.knows (inr l.due) learns) w.area
 
 -- The blocks that are asked for next, where the area goes on behind those that are known.
 pub area_due : (id : List ℕ) (size n : ℕ) (a b : LinkView) (known : Known) (space : Space) → IsReading ToWrite id size a b known (suc n) → Names known space → length known.bytes.items < space.end →

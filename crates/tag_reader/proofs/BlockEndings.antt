@@ -30,7 +30,7 @@ use Rattle.tag_reader.specs.Asked.{Aim, ToRead, ToWrite, IsNextFor, IsDueFor, Is
 use Rattle.tag_reader.specs.Calls.{HasAskedFor, HasAskedAllFor}
 use Rattle.tag_reader.specs.Reading.{IsReadFault, is_told}
 use Rattle.tag_reader.specs.Heard.{Brings, IsBroughtBy, AreaSays, IsNone, IsFaultBy, joined, first_size}
-use Rattle.tag_reader.specs.HeardSteps.{Under, Gains, Sees}
+use Rattle.tag_reader.specs.HeardSteps.{Under, Sees}
 use Rattle.tag_reader.specs.Steps.{Asks, Reads, IsMapFound, IsCutFault, of_container}
 use Rattle.tag_reader.specs.BlockSteps.{CanAsk, Grows, IsKnown, GainsBlocks, EndsBlocks, Names, IsReading, HasRunOut}
 use Rattle.tag_reader.proofs.Bringing.{went_of}
@@ -127,9 +127,8 @@ module _ (known : Known) (space : Space) (names : Names known space) where
       subst (λ r. NeedsBlocks size known.bytes.items r) (sym ready_here) (subst (λ s. form.NeedsMore s known.bytes.items) (names.reach ∙ ap (λ n. t5_reach n names.area) same) more)
 
 -- more is known
-pub gains_of : (id : List ℕ) (a b : LinkView) (ps : List (List ℕ)) (known new : Known) → IsKnown ps known → GainsBlocks id a b ps new → (g : Gains (T5 id) a b ps known.bytes.items new.bytes.items) × IsKnown (ps ++ g.piece ∷ []) new
-gains_of id a b ps known new is gains =
-    (record { piece = gains.piece; under = gains.under; grown = gains.known'.bytes ∙ joined_more ps gains.piece ∙ ap (λ xs. xs ++ gains.piece) (sym is.bytes) }, gains.known')
+pub grown_by : (ps : List (List ℕ)) (piece : List ℕ) (known new : Known) → IsKnown ps known → IsKnown (ps ++ piece ∷ []) new → new.bytes.items ≡ known.bytes.items ++ piece
+grown_by ps piece known new is grown = grown.bytes ∙ joined_more ps piece ∙ ap (λ xs. xs ++ piece) (sym is.bytes)
 
 sized_some : (ps : List (List ℕ)) → 4 ≤ first_size ps → 0 < length ps
 sized_some [] least = absurd (omega (arith, least))

@@ -8,7 +8,7 @@ use Rattle.std.proofs.Math.Nat.{mul-div_cancel_left, mul-div-le, zero-div, div-z
 use Rattle.nfc_base.specs.Signal.{Signal}
 use Rattle.nfc_base.specs.Blocks.{block_of}
 use Rattle.nfc_base.specs.TagLinks.{TagState, TagStep, LinkView, MayAsk, Type5}
-use Rattle.t5t_tag.specs.Store.{T5State, IsT5State, IsT5Store, block_count, blocks_in}
+use Rattle.t5t_tag.specs.Store.{T5State, IsT5Shape, IsT5Store, block_count, blocks_in}
 use Rattle.t5t_tag.specs.Step.{refuses, tells, not_supported, no_block, blocks_of, read_turn, read_many_turn, sent, t5_answer, t5_after}
 use Rattle.t5t_tag.specs.Spelling as t5
 use Rattle.t5t_tag.specs.declared.answer.T5Answer.{T5Answer}
@@ -61,7 +61,7 @@ record Turns (t : T5State) (a : Ask) (f : Signal) : Type 0 where
   answer : t5_answer t f ≡ Some (t5.answer_frame (ask_answer t.size t.store a))
   store : (t5_after t f).store ≡ t.store
 
-turns : (t : T5State) (a : Ask) → IsT5State t → IsSmall t.size a → Turns t a (ask_frame t.id a)
+turns : (t : T5State) (a : Ask) → IsT5Shape t → IsSmall t.size a → Turns t a (ask_frame t.id a)
 turns t (One block) is small = elim (cases_Bool (nat_lt block 256)) [
   | inl short ↦ rw short (record { answer = ap (λ r. sent r.answer) (read_turns t is block) ∙ one_told t block; store = ap (λ r. r.after.store) (read_turns t is block) ∙ (read_leaves t block).store })
   | inr wide ↦ rw wide (record { answer = ap (λ r. sent r.answer) (read_wide_turns t is block) ∙ one_told t block; store = ap (λ r. r.after.store) (read_wide_turns t is block) ∙ (read_leaves t block).store })
@@ -88,7 +88,7 @@ pub keeps_blocks : (id : List ℕ) (size : ℕ) (v : LinkView) (a : Ask) → IsT
     Keeps v (ask_frame id a) (t5.answer_frame (ask_answer size v.state.store a)) v.state
 keeps_blocks id size v a is small =
     let t : T5State = t5_memory id size is.steps.0 is.steps.1 v.state in
-    let tag : IsT5State t = record { id = is.named.1; bytes = is.named.2; store = is.store } in
+    let tag : IsT5Shape t = record { id = is.named.1; bytes = is.named.2; store = is.store } in
     let turn = turns t a tag small in
     record {
       step = is.steps.2 v.state (ask_frame id a) is.store (may_ask id a)

@@ -1,5 +1,5 @@
 -- The bytes that READs give, in their order.
-use Rattle.std.proofs.Common.{◌≡◌, ℕ, ◌+◌, ◌-◌, ◌*◌, ◌<◌, ◌≤◌, ◌⊎◌, inl, inr, List, ◌++◌, length, take, drop, refl, sym, ◌∙◌, ap, lit≤, arith}
+use Rattle.std.proofs.Common.{◌≡◌, ℕ, ◌+◌, ◌-◌, ◌*◌, ◌<◌, ◌≤◌, inl, inr, List, ◌++◌, length, take, drop, refl, sym, ◌∙◌, ap, lit≤, arith}
 use Rattle.std.specs.Prelude.{◌%◌, min}
 use Rattle.std.proofs.lemmas.Bool.{cases_lt}
 use Rattle.std.proofs.lemmas.List.{take-take, take-append-le, take_all, length-take-le, length-drop, drop-append-le, drop-drop}
@@ -59,19 +59,18 @@ four_rolling store k is low =
     (rolled_part store (4 * k) is (omega arith) ∙ ap (λ p. take 4 (drop p xs)) start)
     (at 1 4 (lit≤ tt) refl) (at 2 8 (lit≤ tt) refl) (at 3 12 (lit≤ tt) refl)
 
--- what is known up to an address: a front of the store, where the address or all that was read lies in the store
-pub front_is : (store : List ℕ) (end n : ℕ) → (end ≤ length store) ⊎ (n ≤ length store) → take end (take n (rolling store)) ≡ take (min end n) store
+-- what is known up to an address of the store: a front of it
+pub front_is : (store : List ℕ) (end n : ℕ) → end ≤ length store → take end (take n (rolling store)) ≡ take (min end n) store
 front_is store end n within = elim (cases_lt n end) [
   | inl less ↦
-      (let low : n ≤ length store = elim within [ inl h ↦ omega arith | inr h ↦ h ] in
+      (let low : n ≤ length store = omega arith in
       let least : min end n ≡ n = omega arith in
       let part : take n (store ++ store) ≡ take n store = take-append-le n store store low in
       let short : length (take n store) ≤ end = omega (arith, length-take-le n store low) in
       ap (λ xs. take end xs) part ∙ take_all end (take n store) short ∙ sym (ap (λ m. take m store) least))
   | inr more ↦
-      (let low : end ≤ length store = elim within [ inl h ↦ h | inr h ↦ omega arith ] in
-      let least : min end n ≡ end = omega arith in
-      take-take end n (store ++ store) more ∙ take-append-le end store store low ∙ sym (ap (λ m. take m store) least))
+      (let least : min end n ≡ end = omega arith in
+      take-take end n (store ++ store) more ∙ take-append-le end store store within ∙ sym (ap (λ m. take m store) least))
 ]
 
 -- so many more bytes

@@ -1,9 +1,8 @@
 -- How a reading ends.
 use Rattle.std.proofs.Common.{◌≡◌, ℕ, suc, ◌+◌, ◌*◌, ◌<◌, ◌≤◌, inl, inr, ◌⊎◌, true, false, List, [], ◌∷◌, ◌++◌, length, take, drop, refl, sym, ◌∙◌, ap, subst, append-nil, arith}
 use Rattle.std.specs.Prelude.{min, slice_index, Some, None, Ok, Err}
-use Rattle.std.proofs.lemmas.List.{length-append, length-take-le, take_all, length-take, get_or_append_left}
-use Rattle.std.proofs.Math.Seq.{take-append_seam}
-use Rattle.nfc_base.specs.TagLinks.{LinkView, AskCause, after_all}
+use Rattle.std.proofs.lemmas.List.{length-append, length-take-le, length-take, get_or_append_left}
+use Rattle.nfc_base.specs.TagLinks.{LinkView, AskCause}
 use Rattle.nfc_base.specs.declared.tag_link.AskFault.{AskFault}
 use Rattle.nfc_base.specs.declared.tag_link.AskFault.TheVariants as ask
 use Rattle.nfc_base.proofs.Leading.{cause_on}
@@ -15,48 +14,39 @@ use Rattle.tlv_area.specs.declared.walk.Walk.{Walk}
 use Rattle.tlv_area.specs.declared.walk.Walk.TheVariants as walk
 use Rattle.tlv_area.specs.Layout.{bytes_at}
 use Rattle.tlv_area.specs.Form as form
-use Rattle.tlv_area.specs.Containers.{t2_container}
-use Rattle.tlv_area.specs.Stores.{four_bytes, IsFormBy}
+use Rattle.tlv_area.specs.Stores.{IsFormBy}
 use Rattle.tlv_area.specs.Map.{IsWalk, IsSettled, TellsForm, IsPlacedIn, message_cells, message_place, map_cells}
 use Rattle.tlv_area.proofs.Cuts.{settled_form}
 use Rattle.tlv_area.proofs.OneNext.{needs_more}
 use Rattle.tag_reader.specs.declared.how.How.{How}
-use Rattle.tag_reader.specs.declared.how.How.TheVariants.{T2, T4, T5}
+use Rattle.tag_reader.specs.declared.how.How.TheVariants.{T2}
 use Rattle.tag_reader.specs.declared.fault.ReadFault.{ReadFault}
 use Rattle.tag_reader.specs.declared.fault.ReadFault.TheVariants as fault
 use Rattle.tag_reader.specs.Kinds.{IsStoreForm, area_of, command, first}
 use Rattle.tag_reader.specs.Asked.{Aim, ToRead, IsDueFor, IsDue, NeedsMore}
 use Rattle.tag_reader.specs.Calls.{Stays, HasAskedFor, HasAskedAllFor, GoesOn, ByLink}
 use Rattle.tag_reader.specs.Reading.{IsReadFault, is_told, IsToldOrMemory, IsCalm}
-use Rattle.tag_reader.specs.Steps.{IsBlockStore, Answers, Fails, Asks, Knows, Walks, IsLinkFault, IsInReach, IsMapFound, Concludes, Reads, IsCutFault, of_link, of_container}
-use Rattle.tag_reader.proofs.Areas.{next_needs, needs_next, next_area, some_size, needs_short, due_reach}
-use Rattle.tag_reader.proofs.Knowing.{first_more, last_more, due_more_for, after_more, answered_more, stays_on, goes_on_on, walk_front, store_goes_on, read_goes_on}
+use Rattle.tag_reader.specs.Steps.{Fails, Asks, Knows, Walks, IsLinkFault, IsMapFound, Concludes, Reads, IsCutFault, of_link, of_container}
+use Rattle.tag_reader.proofs.Areas.{next_area}
+use Rattle.tag_reader.proofs.Knowing.{last_more, due_more_for, answered_more, stays_on, walk_front, store_goes_on, read_goes_on}
 
--- what a settled walk over a store tells of it
-abbrev pub TellsStore : How → ℕ → List ℕ → Walk → Type 0
-TellsStore how size store (walk.Held m) = IsStoreForm how size store (form.Message (bytes_at store (message_cells m)))
-TellsStore how size store walk.NoMessageTlv = IsStoreForm how size store form.NoMessageTlv
-TellsStore how size store walk.BadTlv = IsStoreForm how size store form.BadTlv
-TellsStore how size store walk.More = ⊥
+-- what a settled walk over a Type 2 tag's store tells of it
+abbrev pub TellsStore : ℕ → List ℕ → Walk → Type 0
+TellsStore size store (walk.Held m) = IsStoreForm T2 size store (form.Message (bytes_at store (message_cells m)))
+TellsStore size store walk.NoMessageTlv = IsStoreForm T2 size store form.NoMessageTlv
+TellsStore size store walk.BadTlv = IsStoreForm T2 size store form.BadTlv
+TellsStore size store walk.More = ⊥
 
 -- the form of an area is that of the store whose container names it
-named_two : (store : List ℕ) (space : Space) (w : Walk) → t2_container (four_bytes store 12) ≡ Ok space → TellsForm space store w → TellsStore T2 16 store w
-named_two store space (walk.Held m) has is = subst (λ r. IsFormBy r store (form.Message (bytes_at store (message_cells m)))) (sym has) is
-named_two store space walk.NoMessageTlv has is = subst (λ r. IsFormBy r store form.NoMessageTlv) (sym has) is
-named_two store space walk.BadTlv has is = subst (λ r. IsFormBy r store form.BadTlv) (sym has) is
-named_two store space walk.More has is = is
-
-pub tells_store : (how : How) (size : ℕ) (store : List ℕ) (space : Space) (w : Walk) → IsBlockStore how size store → area_of how size store ≡ Ok space → IsSettled w →
-    IsWalk space store w → TellsStore how size store w
-tells_store T2 size store space w is has settled walks = named_two store space w has (settled_form space store w settled walks)
-tells_store T4 size store space w is has settled walks = absurd is
-tells_store (T5 id) size store space w is has settled walks = absurd is
+named_form : (size : ℕ) (store : List ℕ) (space : Space) (w : Walk) → area_of T2 size store ≡ Ok space → TellsForm space store w → TellsStore size store w
+named_form size store space (walk.Held m) has is = subst (λ r. IsFormBy r store (form.Message (bytes_at store (message_cells m)))) (sym has) is
+named_form size store space walk.NoMessageTlv has is = subst (λ r. IsFormBy r store form.NoMessageTlv) (sym has) is
+named_form size store space walk.BadTlv has is = subst (λ r. IsFormBy r store form.BadTlv) (sym has) is
+named_form size store space walk.More has is = is
 
 -- a container's fault is the store's
-pub container_form : (how : How) (size : ℕ) (store : List ℕ) (f : ContainerFault) → IsBlockStore how size store → area_of how size store ≡ Err f → IsStoreForm how size store (form.Faulty f)
-container_form T2 size store f is has = subst (λ r. IsFormBy r store (form.Faulty f)) (sym has) refl
-container_form T4 size store f is has = absurd is
-container_form (T5 id) size store f is has = absurd is
+container_form : (size : ℕ) (store : List ℕ) (f : ContainerFault) → area_of T2 size store ≡ Err f → IsStoreForm T2 size store (form.Faulty f)
+container_form size store f has = subst (λ r. IsFormBy r store (form.Faulty f)) (sym has) refl
 
 pub container_fault : (how : How) (size : ℕ) (store : List ℕ) (a b : LinkView) (f : ContainerFault) → IsStoreForm how size store (form.Faulty f) → IsReadFault how size store a b (of_container f)
 container_fault how size store a b container.NotNdef is = is
@@ -73,61 +63,60 @@ container_told container.Sectors = refl
 container_told container.BadSize = refl
 
 -- what was asked, where all of it was answered
-pub knows_asked : {aim : Aim} (how : How) (size : ℕ) (a b : LinkView) (known : List ℕ) (n : ℕ) → Knows aim how size a b known n → HasAskedFor aim how size a.state.store a b
-knows_asked how size a b known n k = record { count = n + 1; each = k.each; answered = k.answered; last = inl (k.last ∙ sym (last_more how size a.state.store a n), k.goes_on.over ∙ sym k.before) }
+pub knows_asked : {aim : Aim} (size : ℕ) (a b : LinkView) (known : List ℕ) (n : ℕ) → Knows aim size a b known n → HasAskedFor aim T2 size a.state.store a b
+knows_asked size a b known n k = record { count = n + 1; each = k.each; answered = k.answered; last = inl (k.last ∙ sym (last_more T2 size a.state.store a n), k.goes_on.over ∙ sym k.before) }
 
-pub knows_all : {aim : Aim} (how : How) (size : ℕ) (a b : LinkView) (known : List ℕ) (n : ℕ) → Knows aim how size a b known n → (IsDueFor aim how size a.state.store (n + 1) → ⊥) →
-    HasAskedAllFor aim how size a.state.store a b
-knows_all how size a b known n k ends = record {
-  commands = first how size a.state.store (n + 1);
+pub knows_all : {aim : Aim} (size : ℕ) (a b : LinkView) (known : List ℕ) (n : ℕ) → Knows aim size a b known n → (IsDueFor aim T2 size a.state.store (n + 1) → ⊥) →
+    HasAskedAllFor aim T2 size a.state.store a b
+knows_all size a b known n k ends = record {
+  commands = first T2 size a.state.store (n + 1);
   all = record { count = n + 1; list = refl; each = k.each; no_more = ends };
   answered = k.answered;
   state = k.after;
 }
 
 -- the container has a fault
-pub ends_container : (aim : Aim) (how : How) (size : ℕ) (a b : LinkView) (known : List ℕ) (f : ContainerFault) → IsBlockStore how size a.state.store → Knows aim how size a b known 0 → area_of how size a.state.store ≡ Err f →
-    Reads aim how size a b known (Err (of_container f))
-ends_container aim how size a b known f is k has = record {
+pub ends_container : (aim : Aim) (size : ℕ) (a b : LinkView) (known : List ℕ) (f : ContainerFault) → Knows aim size a b known 0 → area_of T2 size a.state.store ≡ Err f →
+    Reads aim T2 size a b known (Err (of_container f))
+ends_container aim size a b known f k has = record {
   stays = k.stays;
-  asked = knows_asked how size a b known 0 k;
-  whole = λ told. knows_all how size a b known 0 k none;
+  asked = knows_asked size a b known 0 k;
+  whole = λ told. knows_all size a b known 0 k none;
   goes_on = λ told. k.goes_on;
-  tells = container_fault how size a.state.store a b f (container_form how size a.state.store f is has);
+  tells = container_fault T2 size a.state.store a b f (container_form size a.state.store f has);
   calm = λ begun lit quiet. inl (container_told f);
 }
   where
-    none : IsDueFor aim how size a.state.store 1 → ⊥
+    none : IsDueFor aim T2 size a.state.store 1 → ⊥
     none (inl e) = omega arith
-    none (inr next) = (let area = next_area aim how size a.state.store 1 is next in let clash : Ok area.0 ≡ Err f = sym area.1 ∙ has in cc)
+    none (inr next) = (let area = next_area aim size a.state.store 1 next in let clash : Ok area.0 ≡ Err f = sym area.1 ∙ has in cc)
 
-module _ (how : How) (size : ℕ) (a b : LinkView) (known front : List ℕ) (space : Space) (n : ℕ) (w : Walk)
-    (is : IsBlockStore how size a.state.store) (walks : Walks ToRead how size a b known space n) (e : front ≡ take space.end known)
+module _ (size : ℕ) (a b : LinkView) (known front : List ℕ) (space : Space) (n : ℕ) (w : Walk)
+    (walks : Walks ToRead size a b known space n) (e : front ≡ take space.end known)
     (settled : IsSettled w) (there : (more : List ℕ) → IsWalk space (front ++ more) w) where
   at_store : IsWalk space a.state.store w
-  at_store = subst (λ xs. IsWalk space xs w) (sym (store_goes_on a.state.store front (min space.end (size * (n + 1))) (walk_front how size a b known front space n walks e)))
+  at_store = subst (λ xs. IsWalk space xs w) (sym (store_goes_on a.state.store front (min space.end (size * (n + 1))) (walk_front size a b known front space n walks e)))
       (there (drop (min space.end (size * (n + 1))) a.state.store))
 
   at_read : IsWalk space (take (size * (n + 1)) a.state.store) w
-  at_read = subst (λ xs. IsWalk space xs w) (sym (read_goes_on a.state.store front space.end (size * (n + 1)) (walk_front how size a b known front space n walks e)))
+  at_read = subst (λ xs. IsWalk space xs w) (sym (read_goes_on a.state.store front space.end (size * (n + 1)) (walk_front size a b known front space n walks e)))
       (there (drop (min space.end (size * (n + 1))) (take (size * (n + 1)) a.state.store)))
 
-  no_more : IsDue how size a.state.store (n + 1) → ⊥
+  no_more : IsDue T2 size a.state.store (n + 1) → ⊥
   no_more (inl zero') = omega arith
-  no_more (inr next) =
-      let m = next_needs how size a.state.store (n + 1) is next in
+  no_more (inr m) =
       let same : m.space ≡ space = let both : Ok m.space ≡ Ok space = sym m.area ∙ walks.area in cc in
       let more = subst (λ s. form.NeedsMore s (take (size * (n + 1)) a.state.store)) same m.more in
-      subst IsSettled (needs_more space (take (size * (n + 1)) a.state.store) w walks.fits.order at_read more) settled
+      subst IsSettled (needs_more space (take (size * (n + 1)) a.state.store) w walks.order at_read more) settled
 
-  pub settles : TellsStore how size a.state.store w
-  settles = tells_store how size a.state.store space w is walks.area settled at_store
+  pub settles : TellsStore size a.state.store w
+  settles = named_form size a.state.store space w walks.area (settled_form space a.state.store w settled at_store)
 
   pub settled_walk : IsWalk space a.state.store w
   settled_walk = at_store
 
-  pub settled_all : HasAskedAllFor ToRead how size a.state.store a b
-  settled_all = knows_all how size a b known n walks.knows no_more
+  pub settled_all : HasAskedAllFor ToRead T2 size a.state.store a b
+  settled_all = knows_all size a b known n walks.knows no_more
 
 -- bytes that lie in a front
 pub bytes_front : (front more cells : List ℕ) → ((i : ℕ) → i < length cells → slice_index cells i < length front) → bytes_at (front ++ more) cells ≡ bytes_at front cells
@@ -141,17 +130,17 @@ pub cells_below : (front : List ℕ) (m : AreaMap) → IsPlacedIn front m → (i
 cells_below front m places i low = places.below i (omega (arith, length-take m.length (drop (message_place m) (map_cells m))))
 
 -- a message is found
-pub map_found : (how : How) (size : ℕ) (a b : LinkView) (known front : List ℕ) (space : Space) (n : ℕ) (m : AreaMap) → IsBlockStore how size a.state.store →
-    Walks ToRead how size a b known space n → front ≡ take space.end known → ((more : List ℕ) → IsWalk space (front ++ more) (walk.Held m)) → IsPlacedIn front m →
-    IsMapFound how size a.state.store known m
-map_found how size a b known front space n m is walks e there places =
+pub map_found : (size : ℕ) (a b : LinkView) (known front : List ℕ) (space : Space) (n : ℕ) (m : AreaMap) →
+    Walks ToRead size a b known space n → front ≡ take space.end known → ((more : List ℕ) → IsWalk space (front ++ more) (walk.Held m)) → IsPlacedIn front m →
+    IsMapFound T2 size a.state.store known m
+map_found size a b known front space n m walks e there places =
     let store : List ℕ = a.state.store in
     let cells : List ℕ = message_cells m in
-    let walked = settled_walk how size a b known front space n (walk.Held m) is walks e tt there in
-    let form' = settles how size a b known front space n (walk.Held m) is walks e tt there in
+    let walked = settled_walk size a b known front space n (walk.Held m) walks e tt there in
+    let form' = settles size a b known front space n (walk.Held m) walks e tt there in
     let below = cells_below front m places in
     let whole : store ≡ front ++ drop (min space.end (size * (n + 1))) store =
-    store_goes_on store front (min space.end (size * (n + 1))) (walk_front how size a b known front space n walks e) in
+    store_goes_on store front (min space.end (size * (n + 1))) (walk_front size a b known front space n walks e) in
     let read : known ≡ front ++ drop space.end known = store_goes_on known front space.end e in
     let bytes : bytes_at store cells ≡ bytes_at known cells =
     ap (λ xs. bytes_at xs cells) whole ∙ bytes_front front (drop (min space.end (size * (n + 1))) store) cells below
@@ -161,7 +150,7 @@ map_found how size a b known front space n m is walks e there places =
       area = walks.area ∙ ap (λ s. Ok s) (sym walked.0);
       found = (refl, walked.1, walked.2, walked.3, walked.4);
       placed = record { placed = places.placed; below = λ i low. omega (arith, places.below i low, longer) };
-      held = subst (λ bs. IsStoreForm how size store (form.Message bs)) bytes form';
+      held = subst (λ bs. IsStoreForm T2 size store (form.Message bs)) bytes form';
     }
 
 -- a fault of the link
@@ -215,15 +204,15 @@ ends_first aim how size a b known e f = record {
   calm = λ begun lit quiet. inr (f.calm begun lit quiet);
 }
 
--- READs of blocks that are answered are commands that are
-pub knows_asks : {aim : Aim} (how : How) (size : ℕ) (a b : LinkView) (known : List ℕ) (n : ℕ) → Knows aim how size a b known n → Asks aim how size a b (n + 1)
-knows_asks how size a b known n k = record {
+-- READs that are answered are commands that are
+knows_asks : {aim : Aim} (size : ℕ) (a b : LinkView) (known : List ℕ) (n : ℕ) → Knows aim size a b known n → Asks aim T2 size a b (n + 1)
+knows_asks size a b known n k = record {
   stays = k.stays;
   before = k.before;
   goes_on = k.goes_on;
   each = k.each;
   answered = k.answered;
-  last = k.last ∙ sym (last_more how size a.state.store a n);
+  last = k.last ∙ sym (last_more T2 size a.state.store a n);
   after = k.after;
 }
 
@@ -255,19 +244,19 @@ ends_asks aim how size a b c known n e k due f =
       calm = λ begun lit quiet. inr (f.calm k.goes_on.over k.goes_on.lit (omega (arith, quiet, k.stays.rises.noise, f.stays.rises.noise)));
     }
 
-pub ends_later : (aim : Aim) (how : How) (size : ℕ) (a b c : LinkView) (known known' : List ℕ) (n : ℕ) (e : ReadFault) → Knows aim how size a b known n →
-    IsDueFor aim how size a.state.store (n + 1) → Fails (command how size b.state.store (n + 1)) b c e → Reads aim how size a c known' (Err e)
-ends_later aim how size a b c known known' n e k due f =
-    ends_asks aim how size a b c known' (n + 1) e (knows_asks how size a b known n k) due (subst (λ s. Fails (command how size s (n + 1)) b c e) k.stays.store f)
+pub ends_later : (aim : Aim) (size : ℕ) (a b c : LinkView) (known known' : List ℕ) (n : ℕ) (e : ReadFault) → Knows aim size a b known n →
+    IsDueFor aim T2 size a.state.store (n + 1) → Fails (command T2 size b.state.store (n + 1)) b c e → Reads aim T2 size a c known' (Err e)
+ends_later aim size a b c known known' n e k due f =
+    ends_asks aim T2 size a b c known' (n + 1) e (knows_asks size a b known n k) due (subst (λ s. Fails (command T2 size s (n + 1)) b c e) k.stays.store f)
 
 -- the walk over what is known needs more
-pub due_next : (how : How) (size : ℕ) (a b : LinkView) (known front : List ℕ) (space : Space) (n : ℕ) → Walks ToRead how size a b known space n → front ≡ take space.end known →
-    length front < space.end → form.NeedsMore space front → NeedsMore how size a.state.store (n + 1)
-due_next how size a b known front space n walks e short more =
+pub due_next : (size : ℕ) (a b : LinkView) (known front : List ℕ) (space : Space) (n : ℕ) → Walks ToRead size a b known space n → front ≡ take space.end known →
+    length front < space.end → form.NeedsMore space front → NeedsMore size a.state.store (n + 1)
+due_next size a b known front space n walks e short more =
     let store : List ℕ = a.state.store in
     let m : ℕ = size * (n + 1) in
-    let same : front ≡ take (min space.end m) store = walk_front how size a b known front space n walks e in
-    let within : min space.end m ≤ length store = elim walks.fits.within [ inl h ↦ omega arith | inr h ↦ omega arith ] in
+    let same : front ≡ take (min space.end m) store = walk_front size a b known front space n walks e in
+    let within : min space.end m ≤ length store = omega (arith, walks.within) in
     let size' : length front ≡ min space.end m = ap length same ∙ length-take-le (min space.end m) store within in
     let least : min space.end m ≡ m = omega arith in
     record {
@@ -277,84 +266,9 @@ due_next how size a b known front space n walks e short more =
       more = subst (λ xs. form.NeedsMore space xs) (same ∙ ap (λ p. take p store) least) more;
     }
 
--- all of the store is known
-known_store : (how : How) (size : ℕ) (a b : LinkView) (known : List ℕ) (n : ℕ) → Knows ToRead how size a b known n → length a.state.store ≡ size * (n + 1) → known ≡ a.state.store
-known_store how size a b known n k end =
-    let store : List ℕ = a.state.store in
-    k.bytes ∙ ap (λ p. take p (store ++ store)) (sym end) ∙ take-append_seam store store
-
--- what stands where the tag ends before its area
-pub record Ends (space : Space) (store known : List ℕ) : Type 0 where
-  pub same : known ≡ store
-  pub begins : space.start ≤ length known
-  pub more : form.NeedsMore space known
-  pub short : length known < space.end
-
-pub ends_at : (how : How) (size : ℕ) (a b : LinkView) (known : List ℕ) (space : Space) (n : ℕ) → IsBlockStore how size a.state.store → Walks ToRead how size a b known space n →
-    NeedsMore how size a.state.store (n + 1) → length a.state.store ≡ size * (n + 1) → Ends space a.state.store known
-ends_at how size a b known space n is walks m end =
-    let store : List ℕ = a.state.store in
-    let same = known_store how size a b known n walks.knows end in
-    let all : take (size * (n + 1)) store ≡ known = take_all (size * (n + 1)) store (omega arith) ∙ sym same in
-    let area : m.space ≡ space = let both : Ok m.space ≡ Ok space = sym m.area ∙ walks.area in cc in
-    let low = needs_short how size store (n + 1) is m in
-    let sizes' : length known ≡ length store = ap length same in
-    record {
-      same = same;
-      begins = omega (arith, walks.fits.begins);
-      more = subst (λ xs. form.NeedsMore space xs) all (subst (λ s. form.NeedsMore s (take (size * (n + 1)) store)) area m.more);
-      short = omega (arith, ap (λ s. s.end) area);
-    }
-
-cut_told : (how : How) (size : ℕ) (a b : LinkView) (known : List ℕ) (space : Space) (e : ReadFault) (n : ℕ) → IsBlockStore how size a.state.store →
-    IsInReach how size a.state.store n → length a.state.store ≡ size * n → area_of how size a.state.store ≡ Ok space → Ends space a.state.store known →
-    IsCutFault space known e → IsReadFault how size a.state.store a b e
-cut_told T2 size a b known space e n is low end has ends cut' = (let same : size * n ≡ 16 * n = ap (λ s. s * n) is.0 in absurd (omega arith))
-cut_told T4 size a b known space e n is low end has ends cut' = absurd is
-cut_told (T5 id) size a b known space e n is low end has ends cut' = absurd is
-
 pub cut_is_told : (space : Space) (known : List ℕ) (e : ReadFault) → IsCutFault space known e → is_told e ≡ true
 cut_is_told space known e (inl none) = ap is_told none.0
 cut_is_told space known e (inr bad) = ap is_told bad.0
-
--- the tag ends before its area
-pub ends_cut : (how : How) (size : ℕ) (a b c : LinkView) (known : List ℕ) (space : Space) (n : ℕ) (e : ReadFault) → IsBlockStore how size a.state.store →
-    Walks ToRead how size a b known space n → NeedsMore how size a.state.store (n + 1) → Answers (command how size b.state.store (n + 1)) b c → length a.state.store ≡ size * (n + 1) →
-    IsCutFault space known e → Reads ToRead how size a c known (Err e)
-ends_cut how size a b c known space n e is walks m answers end cut' =
-    let k = walks.knows in
-    let ends = ends_at how size a b known space n is walks m end in
-    let due = inr (needs_next how size a.state.store (n + 1) is m) in
-    let each = due_more_for ToRead how size a.state.store (n + 1) k.each due in
-    let same : b.state.store ≡ a.state.store = k.stays.store in
-    let answered = answered_more how size a.state.store a.answered b.answered c.answered (n + 1) k.answered
-    (answers.answered ∙ ap (λ s. b.answered ++ command how size s (n + 1) ∷ []) same) in
-    record {
-      stays = stays_on a b c k.stays answers.stays;
-      asked = record {
-        count = n + 1 + 1;
-        each = each;
-        answered = answered;
-        last = inl (answers.last ∙ ap (λ s. Some (command how size s (n + 1))) same ∙ sym (last_more how size a.state.store a (n + 1)), answers.goes_on.over ∙ sym k.before);
-      };
-      whole = λ told. record {
-        commands = first how size a.state.store (n + 1 + 1);
-        all = record { count = n + 1 + 1; list = refl; each = each; no_more = none };
-        answered = answered;
-        state = after_more a b c (first how size a.state.store (n + 1)) (command how size b.state.store (n + 1)) k.stays.leads.step k.after answers.after
-            ∙ ap (λ s. after_all a.step a.state (first how size a.state.store (n + 1) ++ command how size s (n + 1) ∷ [])) same
-            ∙ ap (λ xs. after_all a.step a.state xs) (sym (first_more how size a.state.store (n + 1)));
-      };
-      goes_on = λ told. goes_on_on a b c k.goes_on answers.goes_on;
-      tells = cut_told how size a c known space e (n + 1) is (due_reach how size a.state.store (n + 1) is due) end walks.area ends cut';
-      calm = λ begun lit quiet. inl (cut_is_told space known e cut');
-    }
-  where
-    none : IsDue how size a.state.store (n + 1 + 1) → ⊥
-    none (inl zero') = omega arith
-    none (inr next) = (let more = next_needs how size a.state.store (n + 1 + 1) is next in let some = some_size how size a.state.store is in
-        let next : size * (n + 1 + 1) ≡ size * (n + 1) + size = omega arith in
-        omega (arith, more.within))
 
 -- where no count rose, the link didn't end by one
 pub counts_calm : (how : How) (size : ℕ) (store : List ℕ) (a b : LinkView) (e : ReadFault) → a.over ≡ None → a.dark ≡ false → b.counts ≡ a.counts → IsReadFault how size store a b e →

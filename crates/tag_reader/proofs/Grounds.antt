@@ -20,11 +20,10 @@ use Rattle.tag_reader.specs.declared.fault.ReadFault.TheVariants as fault
 use Rattle.tag_reader.specs.declared.ground.Ground.{Ground}
 use Rattle.tag_reader.specs.declared.ground.Ground.TheVariants.{Area, File}
 use Rattle.tag_reader.specs.declared.known.Known.{Known}
-use Rattle.tag_reader.specs.Kinds.{IsStoreForm}
+use Rattle.tag_reader.specs.Kinds.{IsStoreForm, IsTag}
 use Rattle.tag_reader.specs.Asked.{ToWrite, IsSurveyed}
 use Rattle.tag_reader.specs.Calls.{Stays, HasSurveyed, HasSurveyedAll, GoesOn}
 use Rattle.tag_reader.specs.Survey.{block_size, written_area, IsKnownArea, surveyed}
-use Rattle.tag_reader.specs.Steps.{IsBlockTag}
 use Rattle.tag_reader.specs.FileSteps.{IsMeasured}
 use Rattle.tag_reader.specs.SurveySteps.{IsSettledOver, GroundIn, IsAllRead, IsAllKnown, IsSurveyMade}
 use Rattle.tag_reader.proofs.Areas.{t2_area}
@@ -128,9 +127,9 @@ whole_block size count a low =
     omega (arith, next, within)
 
 -- the area of a Type 2 tag is known
-pub area_grounded : (how : How) (size : ℕ) (a b : LinkView) (known known' : List ℕ) (space : Space) → IsBlockTag how size a → IsAllRead how size a b known space → known' ≡ take space.end known →
-    Grounded how size a b space 4 known'
-area_grounded T2 size a b known known' space tag is cut' =
+pub area_grounded : (size : ℕ) (a b : LinkView) (known known' : List ℕ) (space : Space) → IsTag T2 size a → IsAllRead size a b known space → known' ≡ take space.end known →
+    Grounded T2 size a b space 4 known'
+area_grounded size a b known known' space tag is cut' =
     let store : List ℕ = a.state.store in
     let k = is.walks.knows in
     let read : ℕ = size * (is.n + 1) in
@@ -138,11 +137,11 @@ area_grounded T2 size a b known known' space tag is cut' =
     let most = ap length k.bytes ∙ length-take read (store ++ store) in
     let least : min space.end read ≡ space.end = omega (arith, is.whole, most) in
     let long : length known' ≡ space.end = ap length cut' ∙ length-take-le space.end known is.whole in
-    let bytes : known' ≡ take space.end store = walk_front T2 size a b known known' space is.n is.walks cut' ∙ ap (λ m. take m store) least in
+    let bytes : known' ≡ take space.end store = walk_front size a b known known' space is.n is.walks cut' ∙ ap (λ m. take m store) least in
     record {
       stays = k.stays;
-      asked = knows_asked T2 size a b known is.n k;
-      whole = knows_all T2 size a b known is.n k none;
+      asked = knows_asked size a b known is.n k;
+      whole = knows_all size a b known is.n k none;
       goes_on = k.goes_on;
       state = k.state;
       area = is.walks.area;
@@ -160,8 +159,6 @@ area_grounded T2 size a b known known' space tag is cut' =
         let same : due.space ≡ space = cc in
         let most = ap length is.walks.knows.bytes ∙ length-take (size * (is.n + 1)) (a.state.store ++ a.state.store) in
         omega (arith, due.more, ap (λ s. s.end) same, is.whole, most)
-area_grounded T4 size a b known known' space tag is cut' = absurd tag.store
-area_grounded (T5 id) size a b known known' space tag is cut' = absurd tag.store
 
 -- the area of a Type 5 tag is known, as far as the tag goes
 pub blocks_grounded : (id : List ℕ) (size block : ℕ) (a b : LinkView) (known : Known) (end : Space) → IsAllKnown id size a b known end → end.end ≤ length known.bytes.items → block ≡ known.size →

@@ -1,20 +1,20 @@
 -- A reading under way.
-use Rattle.std.proofs.Common.{◌≡◌, ℕ, suc, ◌+◌, ◌*◌, ◌<◌, ◌≤◌, inl, inr, ◌⊎◌, true, List, [], ◌∷◌, ◌++◌, length, take, drop, sym, ◌∙◌, ap, subst, append_assoc, arith}
+use Rattle.std.proofs.Common.{◌≡◌, ℕ, suc, ◌+◌, ◌*◌, inl, inr, List, [], ◌∷◌, ◌++◌, take, drop, sym, ◌∙◌, ap, subst, append_assoc, arith}
 use Rattle.std.specs.Prelude.{min, Some, Ok}
 use Rattle.std.proofs.lemmas.Bool.{cases_lt}
 use Rattle.std.proofs.lemmas.List.{take-append-drop, take-take}
 use Rattle.nfc_base.specs.Signal.{Signal}
-use Rattle.nfc_base.specs.TagLinks.{LinkView, TagState, MayAsk, after_all}
+use Rattle.nfc_base.specs.TagLinks.{LinkView, MayAsk, Type2, after_all}
 use Rattle.nfc_base.proofs.Leading.{after_append, all_map, leads_on, all_on, rises_on}
 use Rattle.tlv_area.specs.declared.space.Space.{Space}
 use Rattle.tag_reader.specs.declared.how.How.{How}
-use Rattle.tag_reader.specs.declared.how.How.TheVariants.{T2, T4, T5}
-use Rattle.tag_reader.specs.Kinds.{IsNamed, Steps, area_of, command, first}
+use Rattle.tag_reader.specs.declared.how.How.TheVariants.{T2}
+use Rattle.tag_reader.specs.Kinds.{IsTag, IsStore, area_of, command, first}
 use Rattle.tag_reader.specs.Asked.{Aim, ToRead, IsDueFor, AreDueFor, IsDue, AreDue}
 use Rattle.tag_reader.specs.Calls.{Stays, GoesOn, last_of}
-use Rattle.tag_reader.specs.Steps.{IsBlockTag, IsBlockStore, rolling, Answers, Learns, Knows, Walks}
+use Rattle.tag_reader.specs.Steps.{rolling, Learns, Knows, Walks}
 use Rattle.tag_reader.proofs.Bytes.{front_is, more_known}
-use Rattle.tag_reader.proofs.Areas.{t2_area, named}
+use Rattle.tag_reader.proofs.Areas.{named}
 
 -- one more
 pub first_more : (how : How) (size : ℕ) (store : List ℕ) (n : ℕ) → first how size store (n + 1) ≡ first how size store n ++ command how size store n ∷ []
@@ -58,81 +58,64 @@ pub goes_on_on : (a b c : LinkView) → GoesOn a b → GoesOn b c → GoesOn a c
 goes_on_on a b c p q = record { over = q.over; lit = q.lit; counts = q.counts ∙ p.counts }
 
 -- the tag stays one of its kind
-pub tag_stays : (how : How) (size : ℕ) (a b : LinkView) → IsBlockTag how size a → Stays a b → IsBlockTag how size b
-tag_stays how size a b is s = record {
+pub tag_stays : (size : ℕ) (a b : LinkView) → IsTag T2 size a → Stays a b → IsTag T2 size b
+tag_stays size a b is s = record {
   kind = s.leads.kind ∙ is.kind;
-  named = subst (λ i. IsNamed how i) (sym s.leads.identifier) is.named;
-  store = subst (λ t. IsBlockStore how size t) (sym s.store) is.store;
-  steps = by_kind how is.steps;
+  named = tt;
+  store = subst (λ t. IsStore T2 size t) (sym s.store) is.store;
+  steps = (is.steps.0, λ t c store may. ap (λ st. st t c) s.leads.step ∙ is.steps.1 t c store (subst (λ i. MayAsk Type2 i c) s.leads.identifier may));
 }
-  where
-    by_kind : (h : How) → Steps h size a → Steps h size b
-    by_kind T2 steps = (steps.0, λ t c store may. ap (λ st. st t c) s.leads.step ∙ steps.1 t c store (subst (λ i. MayAsk Rattle.nfc_base.specs.TagLinks.Type2 i c) s.leads.identifier may))
-    by_kind T4 steps = (steps.0, steps.1, λ t c store may. ap (λ st. st t c) s.leads.step ∙ steps.2 t c store (subst (λ i. MayAsk Rattle.nfc_base.specs.TagLinks.Type4 i c) s.leads.identifier may))
-    by_kind (T5 id) steps = (steps.0, steps.1, λ t c store may. ap (λ st. st t c) s.leads.step ∙ steps.2 t c store may)
 
-pub knows_first : (aim : Aim) (how : How) (size : ℕ) (a b : LinkView) (known : List ℕ) → IsBlockTag how size a → Answers (command how size a.state.store 0) a b → Learns size a.state.store 0 [] known true →
-    b.state ≡ a.state → Knows aim how size a b known 0
-knows_first aim how size a b known is answers learns state =
+pub knows_first : (aim : Aim) (size : ℕ) (a b : LinkView) (known : List ℕ) → IsTag T2 size a → Learns size 0 a b [] known → Knows aim size a b known 0
+knows_first aim size a b known is learns =
     let none : size * 0 ≡ 0 = omega arith in
     let rest : List ℕ = take size (drop (size * 0) (rolling a.state.store)) in
     record {
-      stays = answers.stays;
-      before = answers.before;
-      goes_on = answers.goes_on;
+      stays = learns.answers.stays;
+      before = learns.answers.before;
+      goes_on = learns.answers.goes_on;
       each = λ k low. inl (omega arith);
-      answered = answers.answered;
-      last = answers.last;
-      after = answers.after;
-      state = state;
-      bytes = learns.1 ∙ sym (ap (λ n. take n (rolling a.state.store) ++ rest) none) ∙ more_known a.state.store size 0;
-      tag = tag_stays how size a b is answers.stays;
+      answered = learns.answers.answered;
+      last = learns.answers.last;
+      after = learns.answers.after;
+      state = learns.state;
+      bytes = learns.grown ∙ sym (ap (λ n. take n (rolling a.state.store) ++ rest) none) ∙ more_known a.state.store size 0;
+      tag = tag_stays size a b is learns.answers.stays;
     }
 
-pub knows_more : (aim : Aim) (how : How) (size : ℕ) (a b c : LinkView) (known known' : List ℕ) (n : ℕ) → Knows aim how size a b known n → IsDueFor aim how size a.state.store (n + 1) →
-    Answers (command how size b.state.store (n + 1)) b c → Learns size b.state.store (n + 1) known known' true → c.state ≡ b.state → Knows aim how size a c known' (n + 1)
-knows_more aim how size a b c known known' n k due answers learns state =
-    let stays = stays_on a b c k.stays answers.stays in
+pub knows_more : (aim : Aim) (size : ℕ) (a b c : LinkView) (known known' : List ℕ) (n : ℕ) → Knows aim size a b known n → IsDueFor aim T2 size a.state.store (n + 1) →
+    Learns size (n + 1) b c known known' → Knows aim size a c known' (n + 1)
+knows_more aim size a b c known known' n k due learns =
+    let stays = stays_on a b c k.stays learns.answers.stays in
     let store : b.state.store ≡ a.state.store = k.stays.store in
     record {
       stays = stays;
       before = k.before;
-      goes_on = goes_on_on a b c k.goes_on answers.goes_on;
-      each = due_more_for aim how size a.state.store (n + 1) k.each due;
-      answered = answered_more how size a.state.store a.answered b.answered c.answered (n + 1) k.answered
-          (answers.answered ∙ ap (λ s. b.answered ++ command how size s (n + 1) ∷ []) store);
-      last = answers.last ∙ ap (λ s. Some (command how size s (n + 1))) store;
-      after = after_more a b c (first how size a.state.store (n + 1)) (command how size b.state.store (n + 1)) k.stays.leads.step k.after answers.after
-          ∙ ap (λ s. after_all a.step a.state (first how size a.state.store (n + 1) ++ command how size s (n + 1) ∷ [])) store
-          ∙ ap (λ xs. after_all a.step a.state xs) (sym (first_more how size a.state.store (n + 1)));
-      state = state ∙ k.state;
-      bytes = learns.1 ∙ ap (λ s. known ++ take size (drop (size * (n + 1)) (rolling s))) store
+      goes_on = goes_on_on a b c k.goes_on learns.answers.goes_on;
+      each = due_more_for aim T2 size a.state.store (n + 1) k.each due;
+      answered = answered_more T2 size a.state.store a.answered b.answered c.answered (n + 1) k.answered
+          (learns.answers.answered ∙ ap (λ s. b.answered ++ command T2 size s (n + 1) ∷ []) store);
+      last = learns.answers.last ∙ ap (λ s. Some (command T2 size s (n + 1))) store;
+      after = after_more a b c (first T2 size a.state.store (n + 1)) (command T2 size b.state.store (n + 1)) k.stays.leads.step k.after learns.answers.after
+          ∙ ap (λ s. after_all a.step a.state (first T2 size a.state.store (n + 1) ++ command T2 size s (n + 1) ∷ [])) store
+          ∙ ap (λ xs. after_all a.step a.state xs) (sym (first_more T2 size a.state.store (n + 1)));
+      state = learns.state ∙ k.state;
+      bytes = learns.grown ∙ ap (λ s. known ++ take size (drop (size * (n + 1)) (rolling s))) store
           ∙ ap (λ xs. xs ++ take size (drop (size * (n + 1)) (rolling a.state.store))) k.bytes ∙ more_known a.state.store size (n + 1);
-      tag = tag_stays how size b c k.tag answers.stays;
+      tag = tag_stays size b c k.tag learns.answers.stays;
     }
 
--- the area ends in the store, or all that is known is of the store
-walk_within : (how : How) (size : ℕ) (store : List ℕ) (space : Space) (n : ℕ) → IsBlockStore how size store → area_of how size store ≡ Ok space →
-    size * n < length store → (space.end ≤ length store) ⊎ (size * (n + 1) ≤ length store)
-walk_within T2 size store space n is has low = inl (t2_area store space is.1 has).within
-walk_within T4 size store space n is has low = absurd is
-walk_within (T5 id) size store space n is has low = absurd is
-
-pub walks_at : {aim : Aim} (how : How) (size : ℕ) (a b : LinkView) (known : List ℕ) (space : Space) (n : ℕ) → IsBlockStore how size a.state.store → Knows aim how size a b known n →
-    area_of how size a.state.store ≡ Ok space → size * n < length a.state.store → Walks aim how size a b known space n
-walks_at how size a b known space n is k has low =
-    let area = named how size a.state.store space is has in
-    record {
-      knows = k;
-      area = has;
-      fits = record { order = area.area.order; begins = area.begins; ends = area.ends; within = walk_within how size a.state.store space n is has low };
-    }
+pub walks_at : {aim : Aim} (size : ℕ) (a b : LinkView) (known : List ℕ) (space : Space) (n : ℕ) → IsStore T2 size a.state.store → Knows aim size a b known n →
+    area_of T2 size a.state.store ≡ Ok space → Walks aim size a b known space n
+walks_at size a b known space n is k has =
+    let area = named size a.state.store space is has in
+    record { knows = k; area = has; order = area.area.order; within = area.within }
 
 -- the walk goes over a front of the store
-pub walk_front : {aim : Aim} (how : How) (size : ℕ) (a b : LinkView) (known front : List ℕ) (space : Space) (n : ℕ) → Walks aim how size a b known space n →
+pub walk_front : {aim : Aim} (size : ℕ) (a b : LinkView) (known front : List ℕ) (space : Space) (n : ℕ) → Walks aim size a b known space n →
     front ≡ take space.end known → front ≡ take (min space.end (size * (n + 1))) a.state.store
-walk_front how size a b known front space n w e =
-    e ∙ ap (λ xs. take space.end xs) w.knows.bytes ∙ front_is a.state.store space.end (size * (n + 1)) w.fits.within
+walk_front size a b known front space n w e =
+    e ∙ ap (λ xs. take space.end xs) w.knows.bytes ∙ front_is a.state.store space.end (size * (n + 1)) w.within
 
 -- what the store has behind it, and what all that was read has
 pub store_goes_on : (store front : List ℕ) (p : ℕ) → front ≡ take p store → store ≡ front ++ drop p store

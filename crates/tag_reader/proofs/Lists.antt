@@ -2,16 +2,14 @@
 use Rattle.std.proofs.Common.{◌≡◌, ℕ, zero, suc, ◌+◌, ◌-◌, ◌*◌, ◌<◌, ◌≤◌, inl, inr, List, [], ◌∷◌, ◌++◌, length, take, refl, sym, ◌∙◌, ap, append_assoc, append-nil, arith}
 use Rattle.std.specs.Prelude.{Ok, Err}
 use Rattle.std.proofs.lemmas.Bool.{cases_lt}
-use Rattle.std.proofs.lemmas.List.{length-take-le}
 use Rattle.nfc_base.specs.Signal.{Signal}
 use Rattle.tlv_area.specs.declared.container.ContainerFault.{ContainerFault}
 use Rattle.tlv_area.specs.declared.space.Space.{Space}
 use Rattle.tlv_area.specs.Form as form
 use Rattle.tag_reader.specs.declared.how.How.{How}
+use Rattle.tag_reader.specs.declared.how.How.TheVariants.{T2}
 use Rattle.tag_reader.specs.Kinds.{area_of, command, first}
 use Rattle.tag_reader.specs.Asked.{Aim, ToRead, AreDueFor, IsAskedFor, IsDue, AreDue, IsAsked}
-use Rattle.tag_reader.specs.Steps.{IsBlockStore}
-use Rattle.tag_reader.proofs.Areas.{next_needs, needs_next, first_within, front_area}
 
 pub one_list_for : (aim : Aim) (how : How) (size : ℕ) (store : List ℕ) (xs ys : List Signal) → IsAskedFor aim how size store xs → IsAskedFor aim how size store ys → xs ≡ ys
 one_list_for aim how size store xs ys one other = elim (cases_lt one.count other.count) [
@@ -55,32 +53,27 @@ asked_all how size store n each no_more = (first how size store n, record { coun
 pub one_due : (how : How) (size : ℕ) (store : List ℕ) → AreDue how size store 1
 one_due how size store k low = inl (omega arith)
 
-pub front_named : (how : How) (size : ℕ) (store bytes : List ℕ) → IsBlockStore how size store → bytes ≡ take size store → area_of how (length bytes) bytes ≡ area_of how size store
-front_named how size store bytes is same =
-    ap (λ xs. area_of how (length xs) xs) same ∙ ap (λ n. area_of how n (take size store)) (length-take-le size store (first_within how size store is)) ∙ front_area how size store is
-
-pub fault_ends : (how : How) (size : ℕ) (store : List ℕ) (n : ℕ) (f : ContainerFault) → IsBlockStore how size store → 0 < n → area_of how size store ≡ Err f → IsDue how size store n → ⊥
-fault_ends how size store n f is some has (inl e) = omega arith
-fault_ends how size store n f is some has (inr next) = let m = next_needs how size store n is next in let clash : Ok m.space ≡ Err f = sym m.area ∙ has in cc
+pub fault_ends : (size : ℕ) (store : List ℕ) (n : ℕ) (f : ContainerFault) → 0 < n → area_of T2 size store ≡ Err f → IsDue T2 size store n → ⊥
+fault_ends size store n f some has (inl e) = omega arith
+fault_ends size store n f some has (inr m) = let clash : Ok m.space ≡ Err f = sym m.area ∙ has in cc
 
 -- the walk over what n READs give
-pub walk_due : (how : How) (size : ℕ) (store bytes : List ℕ) (space : Space) (n : ℕ) → IsBlockStore how size store → area_of how size store ≡ Ok space → size * n ≤ length store → bytes ≡ take (size * n) store →
-    form.NeedsMore space bytes → IsDue how size store n
-walk_due how size store bytes space n is has within same more = inr (needs_next how size store n is (record {
+pub walk_due : (size : ℕ) (store bytes : List ℕ) (space : Space) (n : ℕ) → area_of T2 size store ≡ Ok space → size * n ≤ length store → bytes ≡ take (size * n) store →
+    form.NeedsMore space bytes → IsDue T2 size store n
+walk_due size store bytes space n has within same more = inr (record {
   space = space;
   area = has;
   within = within;
   more = rw (sym same) more;
-}))
+})
 
-pub walk_ends : (how : How) (size : ℕ) (store bytes : List ℕ) (space : Space) (n : ℕ) → IsBlockStore how size store → 0 < n → area_of how size store ≡ Ok space → bytes ≡ take (size * n) store →
-    (form.NeedsMore space bytes → ⊥) → IsDue how size store n → ⊥
-walk_ends how size store bytes space n is some has same ends (inl e) = omega arith
-walk_ends how size store bytes space n is some has same ends (inr next) =
-    let m = next_needs how size store n is next in
+pub walk_ends : (size : ℕ) (store bytes : List ℕ) (space : Space) (n : ℕ) → 0 < n → area_of T2 size store ≡ Ok space → bytes ≡ take (size * n) store →
+    (form.NeedsMore space bytes → ⊥) → IsDue T2 size store n → ⊥
+walk_ends size store bytes space n some has same ends (inl e) = omega arith
+walk_ends size store bytes space n some has same ends (inr m) =
     let area : m.space ≡ space = let both : Ok m.space ≡ Ok space = sym m.area ∙ has in cc in
     ends (rw (same, sym area) m.more)
 
-pub tag_ends : (how : How) (size : ℕ) (store : List ℕ) (n : ℕ) → IsBlockStore how size store → 0 < n → length store < size * n → IsDue how size store n → ⊥
-tag_ends how size store n is some short (inl e) = omega arith
-tag_ends how size store n is some short (inr next) = let m = next_needs how size store n is next in let within = m.within in omega arith
+pub tag_ends : (size : ℕ) (store : List ℕ) (n : ℕ) → 0 < n → length store < size * n → IsDue T2 size store n → ⊥
+tag_ends size store n some short (inl e) = omega arith
+tag_ends size store n some short (inr m) = let within = m.within in omega arith

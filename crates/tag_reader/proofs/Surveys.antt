@@ -1,5 +1,5 @@
 -- What a survey hears, whatever the tag does.
-use Rattle.std.proofs.Common.{◌≡◌, ℕ, suc, ◌+◌, ◌-◌, ◌*◌, ◌/◌, ◌<◌, ◌≤◌, inl, inr, List, [], ◌∷◌, ◌++◌, length, take, drop, Bool, true, false, append-nil, refl, sym, ◌∙◌, ap, subst, arith}
+use Rattle.std.proofs.Common.{◌≡◌, ℕ, suc, ◌+◌, ◌-◌, ◌*◌, ◌/◌, ◌<◌, ◌≤◌, inl, inr, List, [], ◌∷◌, ◌++◌, length, drop, Bool, true, false, append-nil, refl, sym, ◌∙◌, ap, subst, arith}
 use Rattle.std.specs.Prelude.{min, Option, Some, None, Result, Ok, Err}
 use Rattle.std.proofs.lemmas.List.{length-append, length-take}
 use Rattle.std.proofs.Math.Nat.{mul-le-mul_right, mul-add}
@@ -27,9 +27,8 @@ use Rattle.tag_reader.specs.declared.known.Known.{Known}
 use Rattle.tag_reader.specs.Blocks.{ask_count}
 use Rattle.tag_reader.specs.Kinds.{area_of}
 use Rattle.tag_reader.specs.Survey.{block_size}
-use Rattle.tag_reader.specs.Steps.{IsOfBlocks}
 use Rattle.tag_reader.specs.Heard.{IsBlocks, Brings, HasContainer, IsBroughtBy, IsNone, joined, first_size, ask_behind, next_command}
-use Rattle.tag_reader.specs.HeardSteps.{Under, GainsOr, RunsOut, Looks, Measured}
+use Rattle.tag_reader.specs.HeardSteps.{Under, Looks, Measured}
 use Rattle.tag_reader.specs.BlockSteps.{IsKnown, EndsBlocks, Names, LooksBlocks}
 use Rattle.tag_reader.specs.SurveyHeard.{surveyed_by, IsHeard, IsLeftBy, area_heard, known_heard, IsAreaHeard, IsSurveyedBy, IsGroundToldBy}
 use Rattle.tag_reader.specs.SurveySteps.{HearsAll, IsSettledOver, GroundIn}
@@ -47,35 +46,21 @@ pieces_of : (how : How) (a b : LinkView) (ps : List (List ℕ)) (ended : Bool) �
 pieces_of how a b ps false h = h.0.pieces
 pieces_of how a b ps true h = h.1.pieces
 
--- a Type 2 tag ends by no answer
-pub never_out : (how : How) (a b : LinkView) (ps : List (List ℕ)) (known known' : List ℕ) (more : Bool) → IsOfBlocks how → GainsOr how a b ps known known' (Ok more) → more ≡ false → ⊥
-never_out how a b ps known known' more blocks is goes = by_kind how blocks (subst (λ m. GainsOr how a b ps known known' (Ok m)) goes is)
-  where
-    by_kind : (h : How) → IsOfBlocks h → RunsOut h a b ps known known' → ⊥
-    by_kind T2 blocks out = (let clash : 16 ≡ 0 = out.ends.1 in omega (arith, clash))
-    by_kind T4 blocks out = blocks
-    by_kind (T5 id) blocks out = blocks
-
 -- READs brought all of an area
-container_here : (how : How) (bytes : List ℕ) → IsOfBlocks how → HasContainer how bytes
-container_here T2 bytes blocks = tt
-container_here T4 bytes blocks = absurd blocks
-container_here (T5 id) bytes blocks = absurd blocks
-
-pub looks_all : (how : How) (a b : LinkView) (known : List ℕ) (space : Space) (n : ℕ) → IsOfBlocks how → Looks how a b known space n → (size : ℕ) × HearsAll how a b size known space
-looks_all how a b known space n blocks l =
+pub looks_all : (a b : LinkView) (known : List ℕ) (space : Space) (n : ℕ) → Looks a b known space n → (size : ℕ) × HearsAll T2 a b size known space
+looks_all a b known space n l =
     let some : 0 < length l.ps = omega (arith, l.count) in (
       first_size l.ps,
       record {
         ps = l.ps;
         ended = false;
-        heard = (l.under.brought, (went_of how a b l.ps l.under some).over);
-        left = left_under how a b l.ps l.under;
+        heard = (l.under.brought, (went_of T2 a b l.ps l.under some).over);
+        left = left_under T2 a b l.ps l.under;
         some = some;
         first = refl;
         known' = l.known';
-        container = container_here how known blocks;
-        area = ap (λ xs. area_of how (first_size l.ps) xs) (sym l.known') ∙ l.area;
+        container = tt;
+        area = ap (λ xs. area_of T2 (first_size l.ps) xs) (sym l.known') ∙ l.area;
       },
     )
 
@@ -133,8 +118,8 @@ pub record FourBlocks (space : Space) : Type 0 where
   pub fours : space.end ≡ 4 * count
   pub low : space.end ≤ 1024
 
-pub four_blocks : (how : How) (a b : LinkView) (size : ℕ) (known : List ℕ) (space : Space) → IsOfBlocks how → IsArea space → HearsAll how a b size known space → FourBlocks space
-four_blocks T2 a b size known space blocks area h = by_end h.ended h.heard h.area
+pub four_blocks : (a b : LinkView) (size : ℕ) (known : List ℕ) (space : Space) → IsArea space → HearsAll T2 a b size known space → FourBlocks space
+four_blocks a b size known space area h = by_end h.ended h.heard h.area
   where
     named : (bytes : List ℕ) → t2_container bytes ≡ Ok space → FourBlocks space
     named bytes has =
@@ -147,8 +132,6 @@ four_blocks T2 a b size known space blocks area h = by_end h.ended h.heard h.are
     by_end : (ended : Bool) → IsHeard T2 a b h.ps ended → area_heard T2 h.ps ended ≡ Ok space → FourBlocks space
     by_end false heard has = named (four_bytes (joined h.ps) 12) has
     by_end true heard has = absurd heard.2
-four_blocks T4 a b size known space blocks area h = absurd blocks
-four_blocks (T5 id) a b size known space blocks area h = absurd blocks
 
 pub t2_blocks : (space : Space) (known : List ℕ) → FourBlocks space → space.end ≤ length known → HasBlocks 4 space known
 t2_blocks space known f whole a low high = let inside = whole_block 4 f.count a (omega (arith, high, f.fours)) in omega (arith, inside, whole, f.fours)
@@ -290,17 +273,6 @@ two_low a b ps false known block m heard area is =
     let small = area.small (sym (ap (λ s. s.control) same)) in
     omega (arith, start, small, ap length is.bytes, length-take m.space.end (joined ps))
 two_low a b ps true known block m heard area is = absurd heard.2
-
--- what a READ of a Type 2 tag leaves of the bytes that are known
-pub cut_known : (how : How) (known slice : List ℕ) (end : ℕ) → IsOfBlocks how → slice ≡ take end known → slice ≡ known_heard how end known
-cut_known T2 known slice end blocks is = is
-cut_known T4 known slice end blocks is = absurd blocks
-cut_known (T5 id) known slice end blocks is = absurd blocks
-
-pub four_sized : (how : How) (size : ℕ) → IsOfBlocks how → 4 ≡ block_size how size
-four_sized T2 size blocks = refl
-four_sized T4 size blocks = absurd blocks
-four_sized (T5 id) size blocks = absurd blocks
 
 -- the length of a file is read
 pub file_told : (a b : LinkView) (map' : FileMap) (n : ℕ) → Measured a b map' n → IsSurveyedBy T4 a b (File map' n)

@@ -11,16 +11,16 @@ use Rattle.tag_reader.specs.Files.{IsFileDue}
 use Rattle.tag_reader.specs.Kinds.{area_of, first}
 
 -- With the answers to the first n READs of a Type 2 tag the walk over the area needs a byte past them.
-pub record NeedsMore (how : How) (size : ℕ) (store : List ℕ) (n : ℕ) : Type 0 where
+pub record NeedsMore (size : ℕ) (store : List ℕ) (n : ℕ) : Type 0 where
   pub space : Space
-  pub area : area_of how size store ≡ Ok space
+  pub area : area_of T2 size store ≡ Ok space
   pub within : size * n ≤ length store
   pub more : form.NeedsMore space (take (size * n) store)
 
 -- The area goes on behind the answers to the first n READs of a Type 2 tag.
-pub record HasMore (how : How) (size : ℕ) (store : List ℕ) (n : ℕ) : Type 0 where
+pub record HasMore (size : ℕ) (store : List ℕ) (n : ℕ) : Type 0 where
   pub space : Space
-  pub area : area_of how size store ≡ Ok space
+  pub area : area_of T2 size store ≡ Ok space
   pub more : size * n < space.end
 
 -- A tag is read for its message, or for all that a writer needs to know.
@@ -30,14 +30,14 @@ pub data Aim : Type 0 where
 
 -- A command is asked behind those before it, where a message is read: what they bring doesn't tell it yet.
 abbrev pub IsNext : How → ℕ → List ℕ → ℕ → Type 0
-IsNext T2 size store n = NeedsMore T2 size store n
+IsNext T2 size store n = NeedsMore size store n
 IsNext T4 size store n = IsFileDue store n
 IsNext (T5 id) size store n = IsBlockDue size store n
 
 -- The same where a writer asks. An area is read to its end or the tag's, whatever its TLVs are; of a file the container and the
 -- length of the message, and no byte of it.
 abbrev pub IsLeft : How → ℕ → List ℕ → ℕ → Type 0
-IsLeft T2 size store n = HasMore T2 size store n
+IsLeft T2 size store n = HasMore size store n
 IsLeft T4 size store n = IsFileDue store n × (n < 5)
 IsLeft (T5 id) size store n = IsBlockLeft size store n
 

@@ -1,8 +1,7 @@
 -- What the parts of a reading say, whatever the tag does. No public contract speaks of these.
-use Rattle.std.specs.Prelude.{◌≡◌, ℕ, ◌+◌, ◌-◌, ◌*◌, ◌<◌, ◌≤◌, ◌⊎◌, min, List, [], ◌∷◌, ◌++◌, length, Bool, true, false, ◌==◌, nat_le, if◌then◌else◌, None, Result, Ok, Err}
+use Rattle.std.specs.Prelude.{◌≡◌, ℕ, ◌+◌, ◌-◌, ◌*◌, ◌<◌, ◌≤◌, ◌⊎◌, min, List, [], ◌∷◌, ◌++◌, length, false, None, Result, Ok, Err}
 use Rattle.nfc_base.specs.Signal.{Signal}
 use Rattle.nfc_base.specs.TagLinks.{LinkView, Rises}
-use Rattle.t5t_tag.specs.Step.{no_block}
 use Rattle.tlv_area.specs.declared.container.FileMap.{FileMap}
 use Rattle.tlv_area.specs.declared.space.Space.{Space}
 use Rattle.tlv_area.specs.declared.space.AreaMap.{AreaMap}
@@ -12,35 +11,22 @@ use Rattle.tlv_area.specs.Form.{IsForm, Message}
 use Rattle.tlv_area.specs.declared.walk.Walk.TheVariants as walk
 use Rattle.tlv_area.specs.Map.{IsWalk, IsPlacedIn, message_cells}
 use Rattle.tag_reader.specs.declared.how.How.{How}
-use Rattle.tag_reader.specs.declared.how.How.TheVariants.{T2, T4, T5}
+use Rattle.tag_reader.specs.declared.how.How.TheVariants.{T2, T4}
 use Rattle.tag_reader.specs.declared.fault.ReadFault.{ReadFault}
 use Rattle.tag_reader.specs.declared.fault.ReadFault.TheVariants as fault
-use Rattle.tag_reader.specs.declared.told.Told.{Told}
-use Rattle.tag_reader.specs.declared.told.Told.TheVariants.{Bytes, Ended}
 use Rattle.tag_reader.specs.Kinds.{area_of}
-use Rattle.tag_reader.specs.Heard.{HasContent, Refuses, IsBrought, IsStopped, IsFaultBy, IsMessage, HasContainer, HasHead, HasFile, tag_after, joined, first_size}
+use Rattle.tag_reader.specs.Heard.{HasContent, Refuses, IsBrought, IsFaultBy, IsMessage, HasContainer, HasHead, HasFile, tag_after, joined, first_size}
 
 -- an answer of no form that a command is answered by
 pub record HasNoForm (how : How) (r : Signal) : Type 0 where
   pub no_content : (p : List ℕ) → ¬ HasContent how r p
   pub no_refusal : (code : ℕ) → ¬ Refuses how r code
 
--- the code isn't the one by which a Type 5 tag tells that it has ended
-abbrev pub IsNoEnd : How → ℕ → Type 0
-IsNoEnd T2 code = Unit {0}
-IsNoEnd T4 code = Unit {0}
-IsNoEnd (T5 id) code = ⊥
-
--- what one answer tells
+-- what one answer tells of a Type 2 or a Type 4 tag
 abbrev pub TellsFault : How → Signal → ReadFault → Type 0
-TellsFault how r (fault.Refused code) = Refuses how r code × IsNoEnd how code
+TellsFault how r (fault.Refused code) = Refuses how r code
 TellsFault how r fault.Protocol = HasNoForm how r
 TellsFault how r _ = ⊥
-
-abbrev pub TellsOf : How → Signal → Result Told ReadFault → Type 0
-TellsOf how r (Ok (Bytes bytes)) = HasContent how r bytes.items
-TellsOf how r (Ok Ended) = Refuses how r no_block
-TellsOf how r (Err e) = TellsFault how r e
 
 -- Since one view of a link it went on to another.
 pub record Went (a b : LinkView) : Type 0 where
@@ -62,36 +48,21 @@ abbrev pub OrFault : {A : Type 0} → (A → Type 0) → How → LinkView → Li
 OrFault P how a b (Ok x) = P x
 OrFault P how a b (Err e) = IsFaultBy how a b e
 
--- whether a piece is as long as each before it, or the first with room for a container
-abbrev pub is_next : ℕ → ℕ → ℕ → Bool
-is_next index known size = if index == 0 then nat_le 4 size else size * index == known
-
--- one READ more: it brings a piece, the tag has ended, or the reading has
-pub record Gains (how : How) (a b : LinkView) (ps : List (List ℕ)) (known known' : List ℕ) : Type 0 where
+-- one READ more of a Type 2 tag: it brings four blocks
+pub record Gains (a b : LinkView) (ps : List (List ℕ)) (known known' : List ℕ) : Type 0 where
   pub piece : List ℕ
-  pub under : Under how a b (ps ++ piece ∷ [])
+  pub size : length piece ≡ 16
+  pub under : Under T2 a b (ps ++ piece ∷ [])
   pub grown : known' ≡ known ++ piece
 
-pub record RunsOut (how : How) (a b : LinkView) (ps : List (List ℕ)) (known known' : List ℕ) : Type 0 where
-  pub r : Signal
-  pub stopped : IsStopped how a b ps r
-  pub ends : Refuses how r no_block
-  pub same : known' ≡ known
-
-abbrev pub GainsOr : How → LinkView → LinkView → List (List ℕ) → List ℕ → List ℕ → Result Bool ReadFault → Type 0
-GainsOr how a b ps known known' (Ok true) = Gains how a b ps known known'
-GainsOr how a b ps known known' (Ok false) = RunsOut how a b ps known known'
-GainsOr how a b ps known known' (Err e) = IsFaultBy how a b e
-
--- The walk over what is known is due.
-pub record Looks (how : How) (a b : LinkView) (known : List ℕ) (space : Space) (index : ℕ) : Type 0 where
+-- The walk over what READs brought is due.
+pub record Looks (a b : LinkView) (known : List ℕ) (space : Space) (index : ℕ) : Type 0 where
   pub ps : List (List ℕ)
-  pub under : Under how a b ps
+  pub under : Under T2 a b ps
   pub known' : known ≡ joined ps
   pub count : length ps ≡ index + 1
-  pub whole : length known ≡ first_size ps * length ps
-  pub area : area_of how (first_size ps) known ≡ Ok space
-  pub least : 4 ≤ first_size ps
+  pub whole : length known ≡ 16 * (index + 1)
+  pub area : area_of T2 (first_size ps) known ≡ Ok space
 
 -- a map is found
 pub record Sees (how : How) (a b : LinkView) (known : List ℕ) (map' : AreaMap) : Type 0 where

@@ -1,7 +1,7 @@
 -- The kinds of tags that a reader knows (NFC Forum Type 2, Type 4 and Type 5 Tag): which stores they have, which area a store
 -- names and what it holds, and which commands ask for its bytes in their order. Files.antt says it of a Type 4 tag.
 use Rattle.std.specs.Prelude.{◌≡◌, ℕ, zero, suc, ◌*◌, List, [], ◌∷◌, ◌++◌, length, Bool, Result, Err, ◌<◌, ◌≤◌, slice_index}
-use Rattle.nfc_base.specs.Signal.{Signal, whole_a}
+use Rattle.nfc_base.specs.Signal.{Signal}
 use Rattle.nfc_base.specs.TagLinks.{TagKind, Type2, Type4, Type5, TagState, TagStep, LinkView, MayAsk}
 use Rattle.t2t_tag.specs.Store.{IsT2Store, T2Memory}
 use Rattle.t2t_tag.specs.Step.{four_blocks, t2_answer, t2_after}
@@ -53,11 +53,9 @@ abbrev pub first : How → ℕ → List ℕ → ℕ → List Signal
 first how size store zero = []
 first how size store (suc n) = first how size store n ++ command how size store n ∷ []
 
--- what a tag answers to the k-th READ of four blocks, which a Type 2 tag alone has
-abbrev pub reply : How → ℕ → List ℕ → ℕ → Signal
-reply T2 size store k = t2.answer_frame (t2_says.Content (four_blocks store (4 * k)))
-reply T4 size store k = whole_a []
-reply (T5 id) size store k = whole_a []
+-- what a Type 2 tag answers to the k-th READ
+abbrev pub reply : List ℕ → ℕ → Signal
+reply store k = t2.answer_frame (t2_says.Content (four_blocks store (4 * k)))
 
 -- The tag behind a link, of which the link's state shows the store.
 abbrev pub t2_memory : List Bool → TagState → T2Memory

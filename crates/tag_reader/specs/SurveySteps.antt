@@ -7,7 +7,7 @@ use Rattle.tlv_area.specs.declared.walk.Walk.TheVariants as walk
 use Rattle.tlv_area.specs.Stores.{cut, t5_area}
 use Rattle.tlv_area.specs.Map.{IsWalk, TellsForm, HasPlaces}
 use Rattle.tag_reader.specs.declared.how.How.{How}
-use Rattle.tag_reader.specs.declared.how.How.TheVariants.{T5}
+use Rattle.tag_reader.specs.declared.how.How.TheVariants.{T2, T5}
 use Rattle.tag_reader.specs.declared.fault.ReadFault.{ReadFault}
 use Rattle.tag_reader.specs.declared.fault.ReadFault.TheVariants as fault
 use Rattle.tag_reader.specs.declared.ground.Ground.{Ground}
@@ -18,7 +18,7 @@ use Rattle.tag_reader.specs.Asked.{ToWrite, IsSurveyed}
 use Rattle.tag_reader.specs.Survey.{IsSurvey}
 use Rattle.tag_reader.specs.Heard.{joined, first_size, HasContainer}
 use Rattle.tag_reader.specs.SurveyHeard.{surveyed_by, IsHeard, IsLeftBy, area_heard}
-use Rattle.tag_reader.specs.Steps.{IsBlockTag, Asks, Walks, Reads, Concludes, OfBlockTag}
+use Rattle.tag_reader.specs.Steps.{Asks, Walks, Reads, Concludes}
 
 -- what a walk tells over an area that is known to its end, whatever stands behind it
 pub record IsSettledOver (space : Space) (known : List ℕ) (result : Walk) : Type 0 where
@@ -33,15 +33,15 @@ GroundIn space block known (Err fault.NoMessageTlv) = IsSettledOver space known 
 GroundIn space block known (Err fault.BadTlv) = IsSettledOver space known walk.BadTlv
 GroundIn space block known (Err _) = ⊥
 
--- READs brought all of an area
-pub record IsAllRead (how : How) (size : ℕ) (a b : LinkView) (known : List ℕ) (space : Space) : Type 0 where
+-- READs of a Type 2 tag brought all of an area
+pub record IsAllRead (size : ℕ) (a b : LinkView) (known : List ℕ) (space : Space) : Type 0 where
   pub n : ℕ
-  pub walks : Walks ToWrite how size a b known space n
+  pub walks : Walks ToWrite size a b known space n
   pub whole : space.end ≤ length known
 
-abbrev pub ReadsAll : How → LinkView → LinkView → List ℕ → Result Space ReadFault → Type 0
-ReadsAll how a b known (Ok space) = (size : ℕ) → IsBlockTag how size a → IsAllRead how size a b known space
-ReadsAll how a b known (Err e) = (size : ℕ) → IsBlockTag how size a → Reads ToWrite how size a b known (Err e)
+abbrev pub ReadsAll : LinkView → LinkView → List ℕ → Result Space ReadFault → Type 0
+ReadsAll a b known (Ok space) = OfTag T2 a (λ size. IsAllRead size a b known space)
+ReadsAll a b known (Err e) = OfTag T2 a (λ size. Reads ToWrite T2 size a b known (Err e))
 
 -- blocks are known to the end of an area, or to the tag's: this is the area as far as the tag goes
 pub record IsAllKnown (id : List ℕ) (size : ℕ) (a b : LinkView) (known : Known) (end : Space) : Type 0 where
@@ -79,6 +79,3 @@ IsSurveyMade how size a b result = Concludes ToWrite (IsSurvey how size a b) how
 
 abbrev pub SurveysTag : How → LinkView → LinkView → Result Ground ReadFault → Type 0
 SurveysTag how a b result = OfTag how a (λ size. IsSurveyMade how size a b result)
-
-abbrev pub SurveysBlocks : How → LinkView → LinkView → Result Ground ReadFault → Type 0
-SurveysBlocks how a b result = OfBlockTag how a (λ size. IsSurveyMade how size a b result)

@@ -7,58 +7,43 @@ ghost use Rattle.tag_reader.specs.Asked.{ToWrite};
 ghost use Rattle.tag_reader.specs.declared.how.How.TheVariants as hows;
 ghost use Rattle.tag_reader.specs.Heard.{IsOf};
 ghost use Rattle.tag_reader.specs.HeardSteps.{OrFault};
-ghost use Rattle.tag_reader.specs.Steps.{IsOfBlocks};
 ghost use Rattle.tag_reader.specs.BlockSteps.{Names, LooksBlocks, IsReading};
 ghost use Rattle.tag_reader.specs.SurveySteps.{HearsAll, ReadsAll, KnowsAll};
 
 use crate::asking::ask_next;
 use crate::blocks::ask_blocks;
 use crate::fault::ReadFault;
-use crate::finding::{of_container, space_of};
-use crate::how::How;
+use crate::finding::open_area;
 use crate::known::Known;
 use nfc_base::TagLink;
 use std::alloc::Global;
-use t5t_tag::NO_BLOCK;
 use tlv_area::Space;
 
 /// Asks a Type 2 tag for the bytes from the first one to the end of its area, and tells the area.
 pub fn read_all<T: TagLink>(
     alloc: Global,
     link: &mut T,
-    how: How,
     known: &mut Vec<u8>,
 ) -> Result<Space, ReadFault>
     requires ready { T.ready link.old }
-    requires of { IsOf how (T.seen link.old) }
-    requires kind { IsOfBlocks how }
+    requires of { IsOf hows.T2 (T.seen link.old) }
     requires begun { known.old.items ≡ [] }
     ensures area { IfOk result IsArea }
     ensures whole { IfOk result (λ space. space.end ≤ length known.new.items) }
     // whatever the tag does
     ensures hears { OrFault (λ space. (size : ℕ)
-        × HearsAll how (T.seen link.old) (T.seen link.new) size known.new.items space)
-        how (T.seen link.old) (T.seen link.new) result }
-    ensures reads { ReadsAll how (T.seen link.old) (T.seen link.new) known.new.items result }
+        × HearsAll hows.T2 (T.seen link.old) (T.seen link.new) size known.new.items space)
+        hows.T2 (T.seen link.old) (T.seen link.new) result }
+    ensures reads { ReadsAll (T.seen link.old) (T.seen link.new) known.new.items result }
     ensures ready { T.ready link.new }
     ensures same { T.lenders link.new ≡ T.lenders link.old }
     ensures moves { T.moves link.old link.new }
 {
-    let begins = ask_next(alloc, link, how, 0, known)?;
-    if !begins {
-        return Err(ReadFault::Refused(NO_BLOCK as u16));
-    }
-    let space = match space_of(how, known.as_slice()) {
-        Ok(space) => space,
-        Err(fault) => return Err(of_container(fault)),
-    };
+    let space = open_area(alloc, link, known)?;
     let mut index: u8 = 0;
     'area: while known.len() < space.end as usize {
         index += 1;
-        let goes_on = ask_next(alloc, link, how, index, known)?;
-        if !goes_on {
-            return Err(ReadFault::Refused(NO_BLOCK as u16));
-        }
+        ask_next(alloc, link, index, known)?;
     }
     Ok(space)
 }

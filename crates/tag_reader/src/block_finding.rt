@@ -1,7 +1,8 @@
 //! Where the message of a Type 5 tag lies, by as few commands as its container allows.
 
-ghost use Rattle.std.specs.Prelude.{◌≡◌, ◌≤◌, Bool, [], length, false, IfOk};
+ghost use Rattle.std.specs.Prelude.{◌≡◌, ◌<◌, ◌≤◌, Bool, [], length, false, IfOk};
 ghost use Rattle.tlv_area.specs.Containers.{T5Area, t5_is_open};
+ghost use Rattle.tlv_area.specs.Form.{NeedsMore};
 ghost use Rattle.tlv_area.specs.Layout.{IsArea};
 ghost use Rattle.tlv_area.specs.Stores.{t5_reach};
 ghost use Rattle.tag_reader.specs.declared.how.How.TheVariants as hows;
@@ -9,14 +10,15 @@ ghost use Rattle.tag_reader.specs.Asked.{Aim};
 ghost use Rattle.tag_reader.specs.Heard.{IsOf};
 ghost use Rattle.tag_reader.specs.HeardSteps.{OrFault, SeesMap};
 ghost use Rattle.tag_reader.specs.BlockSteps.{Names, LooksBlocks, Opens, FindsMap};
+ghost use Rattle.tag_reader.specs.Steps.{IsCutFault};
 
 use crate::blocks::ask_blocks;
 use crate::fault::ReadFault;
-use crate::finding::{cut_fault, front, of_container};
+use crate::finding::{front, of_container};
 use crate::known::Known;
 use nfc_base::TagLink;
 use std::alloc::Global;
-use tlv_area::{AreaMap, Space, T5Container, Walk, Walker, container_t5};
+use tlv_area::{AreaMap, Space, T5Container, Walk, Walker, container_t5, find_message};
 
 /// How many blocks numbers of one byte can name, and of two.
 const NAMED_BY_ONE: u32 = 256;
@@ -78,6 +80,26 @@ pub fn open_area<T: TagLink>(
         ) => Ok(reach(space, wide, known.size)),
         Ok(T5Container::More) => unreachable!(),
         Err(fault) => Err(of_container(fault)),
+    }
+}
+
+/// What is wrong with an area that the tag ends before, where the walk needs a byte behind the tag's end.
+fn cut_fault(space: Space, known: &[u8]) -> ReadFault
+    requires area { IsArea space }
+    requires begins { space.start ≤ length known.now }
+    requires more { NeedsMore space known.now }
+    requires short { length known.now < space.end }
+    ensures { IsCutFault space known.now result }
+{
+    let cut = Space {
+        end: known.len() as u32,
+        ..space
+    };
+    match find_message(&cut, known) {
+        Walk::NoMessageTlv => ReadFault::NoMessageTlv,
+        Walk::BadTlv => ReadFault::BadTlv,
+        Walk::Held { map: _ } => unreachable!(),
+        Walk::More => unreachable!(),
     }
 }
 

@@ -2,20 +2,19 @@
 
 ghost use Rattle.std.specs.Prelude.{◌≡◌, ℕ, ◌<◌, ◌≤◌, length, take, [], IfOk, IfErr, Ok, Err};
 ghost use Rattle.tlv_area.specs.declared.container.ContainerFault.{ContainerFault};
-ghost use Rattle.tlv_area.specs.Form.{NeedsMore};
 ghost use Rattle.tlv_area.specs.Layout.{IsArea};
+ghost use Rattle.tag_reader.specs.declared.how.How.TheVariants as hows;
+ghost use Rattle.tag_reader.specs.Asked.{Aim};
 ghost use Rattle.tag_reader.specs.Kinds.{area_of};
 ghost use Rattle.tag_reader.specs.Heard.{IsOf};
-ghost use Rattle.tag_reader.specs.HeardSteps.{SeesMap};
-ghost use Rattle.tag_reader.specs.Steps.{of_container, IsOfBlocks, HoldsContainer, IsCutFault, ReadsMap};
+ghost use Rattle.tag_reader.specs.HeardSteps.{OrFault, Looks, SeesMap};
+ghost use Rattle.tag_reader.specs.Steps.{of_container, OpensArea, ReadsMap};
 
 use crate::asking::ask_next;
 use crate::fault::ReadFault;
-use crate::how::How;
 use nfc_base::TagLink;
 use std::alloc::Global;
-use t5t_tag::NO_BLOCK;
-use tlv_area::{AreaMap, ContainerFault, Space, Walk, Walker, container_t2, find_message};
+use tlv_area::{AreaMap, ContainerFault, Space, Walk, Walker, container_t2};
 
 pub fn of_container(fault: ContainerFault) -> ReadFault
     ensures { result ≡ of_container fault }
@@ -30,16 +29,12 @@ pub fn of_container(fault: ContainerFault) -> ReadFault
 }
 
 /// The area that the container in the answer to the first READ names.
-pub fn space_of(how: How, first: &[u8]) -> Result<Space, ContainerFault>
-    requires { HoldsContainer how first.now }
-    ensures exact { result ≡ area_of how (length first.now) first.now }
+pub fn space_of(first: &[u8]) -> Result<Space, ContainerFault>
+    requires { length first.now ≡ 16 }
+    ensures exact { result ≡ area_of hows.T2 16 first.now }
     ensures area { IfOk result IsArea }
 {
-    match how {
-        How::T2 => container_t2(&[first[12], first[13], first[14], first[15]]),
-        How::T4 => unreachable!(),
-        How::T5(_) => unreachable!(),
-    }
+    container_t2(&[first[12], first[13], first[14], first[15]])
 }
 
 /// The known bytes up to an address.
@@ -53,61 +48,54 @@ pub fn front(known: &[u8], end: u32) -> &[u8]
     }
 }
 
-/// What is wrong with an area that the tag ends before, where the walk needs a byte behind the tag's end.
-pub fn cut_fault(space: Space, known: &[u8]) -> ReadFault
-    requires area { IsArea space }
-    requires begins { space.start ≤ length known.now }
-    requires more { NeedsMore space known.now }
-    requires short { length known.now < space.end }
-    ensures { IsCutFault space known.now result }
-{
-    let cut = Space {
-        end: known.len() as u32,
-        ..space
-    };
-    match find_message(&cut, known) {
-        Walk::NoMessageTlv => ReadFault::NoMessageTlv,
-        Walk::BadTlv => ReadFault::BadTlv,
-        Walk::Held { map: _ } => unreachable!(),
-        Walk::More => unreachable!(),
-    }
-}
-
-/// Asks for bytes until they tell where the message lies. What it learns is known then.
-pub fn find_map<T: TagLink>(
+/// Asks a Type 2 tag for its first four blocks, and tells the area that the container in them names.
+pub fn open_area<T: TagLink>(
     alloc: Global,
     link: &mut T,
-    how: How,
     known: &mut Vec<u8>,
-) -> Result<AreaMap, ReadFault>
+) -> Result<Space, ReadFault>
     requires ready { T.ready link.old }
-    requires of { IsOf how (T.seen link.old) }
-    requires kind { IsOfBlocks how }
+    requires of { IsOf hows.T2 (T.seen link.old) }
     requires begun { known.old.items ≡ [] }
+    ensures area { IfOk result IsArea }
     // whatever the tag does
-    ensures sees { SeesMap how (T.seen link.old) (T.seen link.new) known.new.items result }
-    ensures reads { ReadsMap how (T.seen link.old) (T.seen link.new) known.new.items result }
+    ensures sees { OrFault (λ space. Looks (T.seen link.old) (T.seen link.new) known.new.items space 0) hows.T2
+        (T.seen link.old) (T.seen link.new) result }
+    ensures opens { (aim : Aim) → OpensArea aim (T.seen link.old) (T.seen link.new) known.new.items result }
     ensures ready { T.ready link.new }
     ensures same { T.lenders link.new ≡ T.lenders link.old }
     ensures moves { T.moves link.old link.new }
 {
-    let begins = ask_next(alloc, link, how, 0, known)?;
-    if !begins {
-        return Err(ReadFault::Refused(NO_BLOCK as u16));
+    ask_next(alloc, link, 0, known)?;
+    match space_of(known.as_slice()) {
+        Err(fault) => Err(of_container(fault)),
+        Ok(space) => Ok(space),
     }
-    let space = match space_of(how, known.as_slice()) {
-        Ok(space) => space,
-        Err(fault) => return Err(of_container(fault)),
-    };
+}
+
+/// Asks a Type 2 tag for bytes until they tell where the message lies. What it learns is known then.
+pub fn find_map<T: TagLink>(
+    alloc: Global,
+    link: &mut T,
+    known: &mut Vec<u8>,
+) -> Result<AreaMap, ReadFault>
+    requires ready { T.ready link.old }
+    requires of { IsOf hows.T2 (T.seen link.old) }
+    requires begun { known.old.items ≡ [] }
+    // whatever the tag does
+    ensures sees { SeesMap hows.T2 (T.seen link.old) (T.seen link.new) known.new.items result }
+    ensures reads { ReadsMap (T.seen link.old) (T.seen link.new) known.new.items result }
+    ensures ready { T.ready link.new }
+    ensures same { T.lenders link.new ≡ T.lenders link.old }
+    ensures moves { T.moves link.old link.new }
+{
+    let space = open_area(alloc, link, known)?;
     // the walk goes on where it stopped: what was asked before isn't gone over again
     let mut walker = Walker::new(&space);
     let mut index: u8 = 0;
     'walk: while walker.needs_more(front(known.as_slice(), space.end)) {
         index += 1;
-        let goes_on = ask_next(alloc, link, how, index, known)?;
-        if !goes_on {
-            return Err(cut_fault(space, known.as_slice()));
-        }
+        ask_next(alloc, link, index, known)?;
     }
     match walker.find_message(front(known.as_slice(), space.end)) {
         Walk::Held { map } => Ok(map),

@@ -3,26 +3,30 @@
 
 ghost use Rattle.std.specs.Prelude.{◌≡◌, ℕ, ◌<◌, ◌≤◌, List, length};
 ghost use Rattle.nfc_base.specs.Signal.{Signal};
+ghost use Rattle.t2t_tag.specs.Store.{IsT2Store};
+ghost use Rattle.tag_reader.specs.declared.how.How.TheVariants as hows;
 ghost use Rattle.tag_reader.specs.Kinds.{IsStore, first};
 ghost use Rattle.tag_reader.specs.Asked.{IsAsked, AreDue, IsDue, IsFront};
-ghost use Rattle.tag_reader.specs.Steps.{IsBlockStore};
 
 use crate::finding::space_of;
 use crate::how::How;
 use tlv_area::{Walk, find_message};
 
-/// How many READs of so many bytes are asked of a tag of blocks with this store.
-fn count_blocks(how: How, size: usize, store: &[u8]) -> usize
-    requires { IsBlockStore how size store.now }
-    ensures each { AreDue how size store.now result }
-    ensures no_more { IsDue how size store.now result → ⊥ }
+/// How many bytes a READ of a Type 2 tag brings.
+const READ_SIZE: usize = 16;
+
+/// How many READs are asked of a Type 2 tag with this store.
+fn count_reads(store: &[u8]) -> usize
+    requires { IsT2Store store.now }
+    ensures each { AreDue hows.T2 16 store.now result }
+    ensures no_more { IsDue hows.T2 16 store.now result → ⊥ }
 {
-    let Ok(space) = space_of(how, &store[..size]) else {
+    let Ok(space) = space_of(&store[..READ_SIZE]) else {
         return 1;
     };
     let mut count = 1;
-    while size * count <= store.len() {
-        match find_message(&space, &store[..size * count]) {
+    while READ_SIZE * count <= store.len() {
+        match find_message(&space, &store[..READ_SIZE * count]) {
             Walk::More => count += 1,
             _ => return count,
         }
@@ -40,7 +44,7 @@ pub fn one_asked(how: How, size: usize, store: &[u8])
 {
     match how {
         How::T2 => {
-            count_blocks(how, size, store);
+            count_reads(store);
         }
         How::T4 => {}
         How::T5(_) => {}

@@ -8,7 +8,7 @@ ghost use Rattle.tag_reader.specs.Asked.{ToRead};
 ghost use Rattle.tag_reader.specs.Reading.{KeepsStore, AsksInOrder, AsksAll, LeavesLink, TellsMessage, TellsCause, TellsInCalm};
 ghost use Rattle.tag_reader.specs.Counts.{AsksFew};
 ghost use Rattle.tag_reader.specs.Heard.{IsOf, IsToldBy, TellsExactly, TellsRefusals, TellsSaid, TellsCutOff};
-ghost use Rattle.tag_reader.specs.Steps.{IsOfBlocks, ReadsTag, ReadsBlocks, of_link};
+ghost use Rattle.tag_reader.specs.Steps.{ReadsTag, of_link};
 
 use crate::block_finding::find_in_blocks;
 use crate::fault::ReadFault;
@@ -67,26 +67,25 @@ fn read_kind<T: TagLink>(alloc: Global, link: &mut T, how: How) -> Result<Found,
     ensures moves { T.moves link.old link.new }
 {
     match how {
-        How::T2 => read_area(alloc, link, how),
+        How::T2 => read_area(alloc, link),
         How::T4 => read_file(alloc, link),
         How::T5(id) => read_blocks(alloc, link, id),
     }
 }
 
 /// Reads the message of a Type 2 tag.
-fn read_area<T: TagLink>(alloc: Global, link: &mut T, how: How) -> Result<Found, ReadFault>
+fn read_area<T: TagLink>(alloc: Global, link: &mut T) -> Result<Found, ReadFault>
     requires ready { T.ready link.old }
-    requires of { IsOf how (T.seen link.old) }
-    requires kind { IsOfBlocks how }
+    requires of { IsOf hows.T2 (T.seen link.old) }
     // whatever the tag does
-    ensures told { IsToldBy how (T.seen link.old) (T.seen link.new) result }
-    ensures reads { ReadsBlocks how (T.seen link.old) (T.seen link.new) result }
+    ensures told { IsToldBy hows.T2 (T.seen link.old) (T.seen link.new) result }
+    ensures reads { ReadsTag hows.T2 (T.seen link.old) (T.seen link.new) result }
     ensures ready { T.ready link.new }
     ensures same { T.lenders link.new ≡ T.lenders link.old }
     ensures moves { T.moves link.old link.new }
 {
     let mut known = Vec::new(alloc);
-    let map = find_map(alloc, link, how, &mut known)?;
+    let map = find_map(alloc, link, &mut known)?;
     match copy_message(alloc, &map, known.as_slice()) {
         Err(_) => Err(ReadFault::Memory),
         Ok(message) => Ok(found_in(map, message)),

@@ -8,10 +8,9 @@ ghost use Rattle.tag_reader.specs.Asked.{ToWrite};
 ghost use Rattle.tag_reader.specs.Counts.{AsksFew};
 ghost use Rattle.tag_reader.specs.Heard.{IsOf};
 ghost use Rattle.tag_reader.specs.Reading.{KeepsStore, AsksInOrder, AsksAll, LeavesLink, TellsCause, TellsInCalm};
-ghost use Rattle.tag_reader.specs.Steps.{IsOfBlocks};
 ghost use Rattle.tag_reader.specs.Survey.{IsPlacedGround, TellsGround};
 ghost use Rattle.tag_reader.specs.SurveyHeard.{IsGroundToldBy};
-ghost use Rattle.tag_reader.specs.SurveySteps.{GroundIn, SurveysTag, SurveysBlocks};
+ghost use Rattle.tag_reader.specs.SurveySteps.{GroundIn, SurveysTag};
 
 use crate::area::{read_all, read_to_end};
 use crate::block_finding::open_area;
@@ -70,7 +69,7 @@ fn survey_kind<T: TagLink>(alloc: Global, link: &mut T, how: How) -> Result<Grou
     ensures moves { T.moves link.old link.new }
 {
     match how {
-        How::T2 => survey_area(alloc, link, how),
+        How::T2 => survey_area(alloc, link),
         How::T4 => survey_file(alloc, link),
         How::T5(id) => survey_blocks(alloc, link, id),
     }
@@ -99,20 +98,19 @@ fn ground_in(space: Space, block: u32, known: Vec<u8>) -> Result<Ground, ReadFau
 }
 
 /// Surveys a Type 2 tag. A READ brings four blocks, so the last may bring some from behind the area.
-fn survey_area<T: TagLink>(alloc: Global, link: &mut T, how: How) -> Result<Ground, ReadFault>
+fn survey_area<T: TagLink>(alloc: Global, link: &mut T) -> Result<Ground, ReadFault>
     requires ready { T.ready link.old }
-    requires of { IsOf how (T.seen link.old) }
-    requires kind { IsOfBlocks how }
+    requires of { IsOf hows.T2 (T.seen link.old) }
     ensures places { IfOk result IsPlacedGround }
     // whatever the tag does
-    ensures told { IsGroundToldBy how (T.seen link.old) (T.seen link.new) result }
-    ensures surveys { SurveysBlocks how (T.seen link.old) (T.seen link.new) result }
+    ensures told { IsGroundToldBy hows.T2 (T.seen link.old) (T.seen link.new) result }
+    ensures surveys { SurveysTag hows.T2 (T.seen link.old) (T.seen link.new) result }
     ensures ready { T.ready link.new }
     ensures same { T.lenders link.new ≡ T.lenders link.old }
     ensures moves { T.moves link.old link.new }
 {
     let mut known = Vec::new(alloc);
-    let space = read_all(alloc, link, how, &mut known)?;
+    let space = read_all(alloc, link, &mut known)?;
     known.truncate(space.end as usize);
     ground_in(space, T2_BLOCK, known)
 }

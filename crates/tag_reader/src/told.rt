@@ -1,4 +1,4 @@
-//! What the answers to READs tell.
+//! What the answers of tags tell.
 
 ghost use Rattle.std.specs.Prelude.{◌≡◌, ℕ, ◌+◌, ◌*◌, ◌%◌, ◌≤◌, List, [], ◌∷◌, ◌++◌, length, true, ◌↔◌, Ok, Err, IfOk, IfErr};
 ghost use Rattle.nfc_base.specs.Signal.{Signal, whole_a};
@@ -9,15 +9,12 @@ ghost use Rattle.t5t_tag.specs.Spelling as t5;
 ghost use Rattle.t5t_tag.specs.declared.answer.T5Answer.{T5Answer};
 ghost use Rattle.tag_reader.specs.declared.fault.ReadFault.{ReadFault};
 ghost use Rattle.tag_reader.specs.declared.how.How.TheVariants as hows;
-ghost use Rattle.tag_reader.specs.Kinds.{reply};
 ghost use Rattle.tag_reader.specs.Heard.{HasContent, IsRefusal, IsBlocks};
 ghost use Rattle.tag_reader.specs.BlockSteps.{TellsBlocks};
-ghost use Rattle.tag_reader.specs.HeardSteps.{TellsOf, TellsFault};
-ghost use Rattle.tag_reader.specs.Steps.{IsBlockStore, IsOfBlocks, IsInReach, TellsNext};
+ghost use Rattle.tag_reader.specs.HeardSteps.{TellsFault};
 
 use crate::ask::Ask;
 use crate::fault::ReadFault;
-use crate::how::How;
 use arrayvec::ArrayVec;
 use nfc_base::{Frame, Tech};
 use t2t_tag::T2Answer;
@@ -29,32 +26,17 @@ const DONE: [u8; 2] = [0x90, 0x00];
 /// How many bytes a block has at least, so that a container of four bytes lies in the first.
 const CONTAINER_SIZE: usize = 4;
 
-/// What the answer to a READ tells: some bytes of the store, or that the tag ends before them.
-#[derive(Drop)]
-pub enum Told {
-    Bytes(ArrayVec<u8, 256>),
-    Ended,
-}
-
-/// The content of four blocks of a Type 2 tag.
-fn four_blocks(content: &[u8; 16]) -> ArrayVec<u8, 256>
-    ensures { result.items ≡ content.now }
-{
-    let mut bytes = ArrayVec::new();
-    bytes.try_extend_from_slice(content).unwrap();
-    bytes
-}
-
-/// What the answer of a Type 2 tag tells: content, that the command is refused, or no more than that no such tag sends it.
-fn tell_t2(answer: &Frame) -> Result<Told, ReadFault>
-    ensures tells { TellsOf hows.T2 answer.now result }
+/// What the answer of a Type 2 tag tells: the four blocks that a READ asks for. It may refuse too, and no such tag answers
+/// anything else.
+pub fn tell_t2(answer: &Frame) -> Result<[u8; 16], ReadFault>
+    ensures tells { IfOk result (λ content. HasContent hows.T2 answer.now content) }
+    ensures fault { IfErr result (TellsFault hows.T2 answer.now) }
     ensures refused { answer.now ≡ t2.answer_frame T2Answer.Refused → result ≡ Err (ReadFault.Refused 0) }
     ensures content { (content : List ℕ) → length content ≡ 16 →
-        answer.now ≡ t2.answer_frame (T2Answer.Content content) →
-        result ≡ Ok (Told.Bytes (record { items = content })) }
+        answer.now ≡ t2.answer_frame (T2Answer.Content content) → result ≡ Ok content }
 {
     match T2Answer::read_from(answer) {
-        Some(T2Answer::Content(content)) => Ok(Told::Bytes(four_blocks(&content))),
+        Some(T2Answer::Content(content)) => Ok(content),
         Some(T2Answer::Refused) => Err(ReadFault::Refused(0)),
         Some(T2Answer::Done) => Err(ReadFault::Protocol),
         None => Err(ReadFault::Protocol),
@@ -144,18 +126,4 @@ pub fn tell_t4(answer: &Frame) -> Result<ArrayVec<u8, 256>, ReadFault>
         return Err(ReadFault::Protocol);
     }
     Ok(bytes)
-}
-
-/// What an answer tells.
-pub fn tell(how: How, answer: &Frame) -> Result<Told, ReadFault>
-    requires { IsOfBlocks how }
-    ensures tells { TellsOf how answer.now result }
-    ensures store { (size k : ℕ) (store : List ℕ) → IsBlockStore how size store → IsInReach how size store k →
-        answer.now ≡ reply how size store k → TellsNext size store k result }
-{
-    match how {
-        How::T2 => tell_t2(answer),
-        How::T4 => unreachable!(),
-        How::T5(_) => unreachable!(),
-    }
 }

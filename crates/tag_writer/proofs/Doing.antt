@@ -10,7 +10,7 @@ use Rattle.t2t_tag.specs.declared.command.T2Command.TheVariants.{Write}
 use Rattle.t2t_tag.specs.declared.answer.T2Answer.TheVariants.{Done, Refused}
 use Rattle.t2t_tag.specs.Step.{is_writable, reply_frame, held_after}
 use Rattle.t2t_tag.proofs.Spellings.{reads_back}
-use Rattle.t5t_tag.specs.Store.{IsT5State, T5State, block_count, is_locked}
+use Rattle.t5t_tag.specs.Store.{IsT5Shape, T5State, block_count, is_locked}
 use Rattle.t5t_tag.specs.Spelling as t5
 use Rattle.t5t_tag.specs.declared.command.T5Command.TheVariants as t5_command
 use Rattle.t5t_tag.specs.Step as t5_step
@@ -81,7 +81,7 @@ t5_by id size locked quiet s block content c long turns =
     subst (λ r. Does (T5 id) s (record { at = size * block; bytes = content; command = c }) (record { answer = sent r.answer; after = record s { store = r.after.store } }))
     (sym turns) (t5_told id size locked quiet s block content c long)
 
-pub t5_does : (id : List ℕ) (size : ℕ) (locked : List Bool) (quiet : Bool) (s : TagState) (step : Step) → IsT5State (t5_memory id size locked quiet s) → length step.content.items ≡ size →
+pub t5_does : (id : List ℕ) (size : ℕ) (locked : List Bool) (quiet : Bool) (s : TagState) (step : Step) → IsT5Shape (t5_memory id size locked quiet s) → length step.content.items ≡ size →
     Does (T5 id) s (block_put (T5 id) size step) (t5_step id size locked quiet s (block_command (T5 id) step))
 t5_does id size locked quiet s step is long =
     let t : T5State = t5_memory id size locked quiet s in

@@ -13,7 +13,7 @@ use Rattle.t2t_tag.specs.Step.{is_writable, reply_frame}
 use Rattle.t2t_tag.specs.Store as t2
 use Rattle.t2t_tag.proofs.Spellings.{reads_back}
 use Rattle.t4t_tag.specs.Store.{IsT4Store}
-use Rattle.t5t_tag.specs.Store.{IsT5State, T5State, block_count, is_locked}
+use Rattle.t5t_tag.specs.Store.{IsT5Shape, T5State, block_count, is_locked}
 use Rattle.t5t_tag.specs.Spelling as t5
 use Rattle.t5t_tag.specs.declared.command.T5Command.TheVariants as t5_command
 use Rattle.t5t_tag.specs.Step as t5_step
@@ -81,7 +81,7 @@ below_count size block n some within =
     let product : (block + 1) * size ≡ block * size + size = omega arith in
     omega (arith, le-div (block + 1) n size some (omega (arith, turned, product, within)))
 
-t5_told : (id : List ℕ) (size : ℕ) (locked : List Bool) (quiet : Bool) (s : TagState) (step : Step) → IsT5State (t5_memory id size locked quiet s) → length step.content.items ≡ size →
+t5_told : (id : List ℕ) (size : ℕ) (locked : List Bool) (quiet : Bool) (s : TagState) (step : Step) → IsT5Shape (t5_memory id size locked quiet s) → length step.content.items ≡ size →
     size * step.block + size ≤ length s.store → refusal_in (T5 id) (t5_step id size locked quiet s (block_command (T5 id) step)).answer ≡ refusal_if (T5 id) (get_or locked step.block false)
 t5_told id size locked quiet s step is long within =
     let t : T5State = t5_memory id size locked quiet s in
@@ -135,7 +135,7 @@ one_told (T5 id) size locked base step s p steps near like is =
     let c : Signal = block_command (T5 id) is.step in
     let quiet : Bool = steps.1 in
     let same : step s c ≡ t5_step id size locked quiet s c = steps.2 s c like.store' (t5_may id is.step) in
-    let state : IsT5State (t5_memory id size locked quiet s) = record { id = steps.0.1; bytes = steps.0.2; store = like.store' } in
+    let state : IsT5Shape (t5_memory id size locked quiet s) = record { id = steps.0.1; bytes = steps.0.2; store = like.store' } in
     let sized = size_of_block size like.store'.sized in
     let block : size * is.step.block / size ≡ is.step.block = mul-div_cancel_left is.step.block (omega (arith, sized.2)) in
     subst (λ q. Told (T5 id) size locked step s q) (sym is.put) (record {

@@ -11,7 +11,7 @@ use Rattle.tag_reader.specs.Steps.{Reads, IsCutFault}
 use Rattle.tag_reader.specs.BlockSteps.{LooksBlocks, SeesBlocks, NextBlocks, GainsBlocks, EndsBlocks, HasRunOut}
 use Rattle.tag_reader.proofs.Looking.{known_short}
 use Rattle.tag_reader.proofs.Walking.{finds_in, needs_in, short_in, come_further}
-use Rattle.tag_reader.proofs.BlockEndings.{gains_of, names_more, names_begins, any_known, blocks_none, blocks_bad, blocks_held, blocks_due, blocks_cut, lacks_here, sees_here, read_form, cut_here}
+use Rattle.tag_reader.proofs.BlockEndings.{grown_by, names_more, names_begins, any_known, blocks_none, blocks_bad, blocks_held, blocks_due, blocks_cut, lacks_here, sees_here, read_form, cut_here}
 use Rattle.tag_reader.proofs.block_finding.find_in_blocks.Goals as goal
 
 pub find_message-requires : goal.find_message-requires
@@ -111,7 +111,7 @@ walk-preserved g c =
     let e : c.front.result.now ≡ take space.end c.walk.known.bytes.items = c.front.ensures ∙ ap (λ k. take space.end k) c.as_slice.ensures.value in
     let gains : GainsBlocks c.args.id a new looks.ps c.ask_blocks.new.known =
     subst (λ m. SeesBlocks c.args.id a new looks.ps c.walk.known c.ask_blocks.new.known (Ok m)) c.if-not-goes_on.false (c.in_ok-goes_on.ensures.sees a looks.ps looks.under looks.known') in
-    let grown = gains_of c.args.id a new looks.ps c.walk.known c.ask_blocks.new.known looks.known' gains in
+    let grown = grown_by looks.ps gains.piece c.walk.known c.ask_blocks.new.known looks.known' gains.known' in
     record {
       looks = record { ps = looks.ps ++ gains.piece ∷ []; under = gains.under; known' = gains.known' };
       names = names_more c.args.id a new looks.ps c.walk.known c.ask_blocks.new.known space looks.known' c.walk.invariant.names gains;
@@ -122,7 +122,7 @@ walk-preserved g c =
           (needs_in c.walk.walker space c.front.result.now c.walk.invariant.space (c.needs_more.ensures.more.0 c.walk-test.true)) in
           (suc r.0, subst (λ m. NextBlocks ToRead c.args.id size a new c.walk.known c.ask_blocks.new.known (suc r.0) (Ok m)) c.if-not-goes_on.false (c.in_ok-goes_on.ensures.next ToRead size (suc r.0) a r.1 due)));
       space = c.needs_more.ensures.space ∙ c.walk.invariant.space;
-      come = come_further c.needs_more.new.self space.end c.walk.known.bytes.items c.front.result.now c.ask_blocks.new.known.bytes.items e grown.0 c.needs_more.ensures.come;
+      come = come_further c.needs_more.new.self space.end c.walk.known.bytes.items c.front.result.now gains.piece c.ask_blocks.new.known.bytes.items e grown c.needs_more.ensures.come;
       ready = c.in_ok-goes_on.ensures.ready;
       same = c.in_ok-goes_on.ensures.same ∙ c.walk.invariant.same;
       moves = g.met.T.TagLink.goes_on c.args.link.now c.walk.link c.ask_blocks.new.link c.walk.invariant.moves c.in_ok-goes_on.ensures.moves;

@@ -121,4 +121,4 @@ returns-in-Err-tell_t4-clause-brings g c a ps u same =
     let frame : c.unwrap-frame.result ≡ whole_a (command_bytes c.args.command.now) =
     (rw c.unwrap-frame.ensures at c.whole.ensures.ok) ∙ ap (λ xs. whole_a xs) (c.as_slice.ensures.value ∙ c.to_bytes-bytes.ensures) in
     let due : c.unwrap-frame.result ≡ next_command T4 ps = frame ∙ ap file_frame same in
-    told_fault T4 a old new ps c.unwrap-frame.result c.in-Ok.answer c.in-Err-tell_t4.fault u due c.in-Ok.ensures.ok c.in-Err-tell_t4.ensures.fault
+    told_fault T4 a old new ps c.unwrap-frame.result c.in-Ok.answer c.in-Err-tell_t4.fault u due c.in-Ok.ensures.ok tt (λ ends. ends) c.in-Err-tell_t4.ensures.fault

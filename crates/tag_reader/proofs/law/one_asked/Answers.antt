@@ -1,19 +1,21 @@
 use Rattle.std.proofs.Common.{List, sym, subst}
 use Rattle.nfc_base.specs.Signal.{Signal}
+use Rattle.tag_reader.specs.declared.how.How.TheVariants.{T2}
 use Rattle.tag_reader.specs.Asked.{IsAsked}
 use Rattle.tag_reader.specs.Kinds.{IsStore}
-use Rattle.tag_reader.specs.Steps.{IsOfBlocks}
-use Rattle.tag_reader.proofs.Areas.{block_store}
 use Rattle.tag_reader.proofs.Lists.{asked_all, asked_front, one_list}
 use Rattle.tag_reader.proofs.BlockLists.{blocks_asked}
 use Rattle.tag_reader.proofs.FileAsked.{file_asked}
 use Rattle.tag_reader.proofs.law.one_asked.Goals as goal
 
-pub count_blocks-requires : goal.count_blocks-requires
-count_blocks-requires c = block_store c.args.how c.args.size c.args.store.now (subst IsOfBlocks (sym c.in-T2.is) tt) c.requires
+pub count_reads-requires : goal.count_reads-requires
+count_reads-requires c = (subst (λ h. IsStore h c.args.size c.args.store.now) c.in-T2.is c.requires).1
 
 pub returns-in-T2-clause-some : goal.returns-in-T2-clause-some
-returns-in-T2-clause-some c = asked_all c.args.how c.args.size c.args.store.now c.count_blocks.result c.count_blocks.ensures.each c.count_blocks.ensures.no_more
+returns-in-T2-clause-some c =
+    subst (λ h. (xs : List Signal) × IsAsked h c.args.size c.args.store.now xs) (sym c.in-T2.is)
+    (subst (λ n. (xs : List Signal) × IsAsked T2 n c.args.store.now xs) (sym (subst (λ h. IsStore h c.args.size c.args.store.now) c.in-T2.is c.requires).0)
+    (asked_all T2 16 c.args.store.now c.count_reads.result c.count_reads.ensures.each c.count_reads.ensures.no_more))
 
 pub returns-in-T5-clause-some : goal.returns-in-T5-clause-some
 returns-in-T5-clause-some c =

@@ -1,16 +1,20 @@
 use Rattle.std.proofs.Common.{sym, subst}
 use Rattle.tag_reader.specs.Kinds.{IsTag}
-use Rattle.tag_reader.specs.Steps.{IsOfBlocks, IsRead}
+use Rattle.tag_reader.specs.Steps.{IsRead}
 use Rattle.tag_reader.specs.Heard.{IsOf, IsToldBy}
-use Rattle.tag_reader.proofs.Replies.{block_tag}
 use Rattle.tag_reader.proofs.reader.read_kind.Goals as goal
 
-pub read_area-requires-clause-kind : goal.read_area-requires-clause-kind
-read_area-requires-clause-kind g c = subst IsOfBlocks (sym c.in-T2.is) tt
+pub read_area-requires-clause-of : goal.read_area-requires-clause-of
+read_area-requires-clause-of g c = subst (λ h. IsOf h (g.T.TagLink.seen c.args.link.now)) c.in-T2.is c.requires.of
+
+pub returns-in-T2-clause-told : goal.returns-in-T2-clause-told
+returns-in-T2-clause-told g c =
+    subst (λ h. IsToldBy h (g.T.TagLink.seen c.args.link.now) (g.T.TagLink.seen c.read_area.new.link) c.read_area.result) (sym c.in-T2.is) c.read_area.ensures.told
 
 pub returns-in-T2-clause-reads : goal.returns-in-T2-clause-reads
 returns-in-T2-clause-reads g c size is =
-    c.read_area.ensures.reads size (block_tag c.args.how size (g.T.TagLink.seen c.args.link.now) (subst IsOfBlocks (sym c.in-T2.is) tt) is)
+    subst (λ h. IsRead h size (g.T.TagLink.seen c.args.link.now) (g.T.TagLink.seen c.read_area.new.link) c.read_area.result) (sym c.in-T2.is)
+    (c.read_area.ensures.reads size (subst (λ h. IsTag h size (g.T.TagLink.seen c.args.link.now)) c.in-T2.is is))
 
 pub read_file-requires-clause-of : goal.read_file-requires-clause-of
 read_file-requires-clause-of g c = subst (λ h. IsOf h (g.T.TagLink.seen c.args.link.now)) c.in-T4.is c.requires.of

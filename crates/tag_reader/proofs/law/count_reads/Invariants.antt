@@ -1,12 +1,13 @@
 use Rattle.std.proofs.Common.{◌+◌, ◌-◌, ◌*◌, ◌<◌, ◌≤◌, length}
+use Rattle.tag_reader.specs.declared.how.How.TheVariants.{T2}
 use Rattle.tag_reader.specs.Asked.{AreDue}
-use Rattle.tag_reader.proofs.law.count_blocks.Given as goal
+use Rattle.tag_reader.proofs.law.count_reads.Given as goal
 
 abbrev pub invariant-loop-count : goal.invariant-loop-count
 invariant-loop-count l = record {
   some : 0 < l.count;
-  small : l.size * l.count ≤ length l.store + l.size;
-  each : AreDue l.fn.how l.size l.store l.count;
+  small : 16 * l.count ≤ length l.store + 16;
+  each : AreDue T2 16 l.store l.count;
 }
 
 abbrev pub decreases-loop-count : goal.decreases-loop-count
