@@ -138,7 +138,7 @@ module _ {C A : Type 0} (seen : C → CarrierView) (swaps : C → List ℕ → L
   peer_state = view far
 
   abbrev from : Step
-  from = begun (connected client client_sap) (Begins ask.most (bytes_of ask))
+  from = begun (connected client client_sap) (alone (Begins ask.most (bytes_of ask)))
 
   abbrev course : Course (AddsSome ask peer_state read o)
   course = request_course peer_state.service.limit peer_state.service.table peer_state.bound (conv ask peer_state read o) ask.most (bytes_of ask) peer_state.service.accepted

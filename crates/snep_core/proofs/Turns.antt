@@ -221,9 +221,9 @@ module _ (limit : ℕ) (table : List Offer) (names : List Bound) (conv : ℕ →
         (subst (λ z. Answered limit table names conv most bytes old keeps r.job mid (taken_from silent mid (given serving s.count there)) z) (sym s.left)
         (answers limit table names conv most bytes old keeps r.job mid there s.count out)) in
         let end_ = taken_from silent mid reply in
-        let x = joined_hears (has_waiting_of (own_of mid)) back.joined back.waiting in
-        let gave = gave_something (own_of mid) (own_of end_) || has_byte (units_of (own_of end_)) in
-        subst (λ z. StepSo z q) (sym (took_some mid end_ end_ job r.job idle x.next gave x.heard_is refl
+        let x = joined_hears (has_waiting_of (own_of client_sap mid)) back.joined back.waiting in
+        let gave = gave_something (own_of client_sap mid) (own_of client_sap end_) || has_byte (units_of (own_of client_sap end_)) in
+        subst (λ z. StepSo z q) (sym (took_some client_sap mid end_ end_ job r.job idle x.next gave x.heard_is refl
         ∙ ap (λ b. settled (emptied end_ client_sap) (alone x.next) (idle_after b idle)) back.gave_some))
         (settles (emptied end_ client_sap) q x.next (inr (inr x.rested)))
 
