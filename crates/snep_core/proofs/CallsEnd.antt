@@ -9,7 +9,7 @@ use Rattle.llcp_conn.specs.Conn.{count_end}
 use Rattle.llcp_link.specs.declared.own.OwnIs.{OwnIs}
 use Rattle.llcp_link.specs.declared.own.OwnIs.TheVariants.{Asking, Open, Refused, Leaving, Closed}
 use Rattle.llcp_link.specs.State.{OwnState, own_from}
-use Rattle.llcp_link.specs.Asking.{acked_of, acked_on, asked_from, disconnected_by, has_waiting_of, is_busy_by, is_open_by, looked_up, put_own}
+use Rattle.llcp_link.specs.Asking.{acked_of, acked_on, asked_from, disconnected_by, has_waiting_of, is_busy_by, is_open_by, put_own}
 use Rattle.llcp_link.specs.Giving.{after_giving}
 use Rattle.llcp_link.specs.Taking.{taken_from}
 use Rattle.llcp_link.specs.Waning.{pending, pending_on}

@@ -58,12 +58,12 @@ module _ (limit : ℕ) (table : List Offer) (names : List Bound) (conv : ℕ →
   abbrev J : EndState → PeerState → Type 0
   J l p = Joined limit table names conv job l p
 
-  laws_of : {l : EndState} → {p : PeerState} → (h : J l p) → Converses limit table (conv h.n.server_miu h.n.client_miu) h.n.server_miu h.n.client_miu
+  laws_of : {l : EndState} → {p : PeerState} → (h : J l p) → Converses client_sap limit table (conv h.n.server_miu h.n.client_miu) h.n.server_miu h.n.client_miu
   laws_of h = keeps.laws h.n.server_miu h.n.client_miu h.paired.server_miu h.paired.client_miu
 
   -- the server has a unit to give
   abbrev pub HasAnswer : {l : EndState} → {p : PeerState} → J l p → Type 0
-  HasAnswer h = Tells limit table (conv h.n.server_miu h.n.client_miu) h.n.client_miu h.phase h.service
+  HasAnswer h = Tells client_sap limit table (conv h.n.server_miu h.n.client_miu) h.n.client_miu h.phase h.service
 
   -- The client is ready: where it is to give nothing, and nothing of it is unacknowledged, the server has an answer.
   pub record IsReady (l : EndState) (p : PeerState) : Type 0 where

@@ -15,6 +15,7 @@ use Rattle.snep_core.proofs.Carrying.{Handed, handed}
 use Rattle.snep_core.proofs.Conversations.{Conversation, told_apart}
 use Rattle.snep_core.proofs.Meets.{Joined}
 use Rattle.snep_core.proofs.Pressing.{Answered, IsReady, Presses, answers, asks_presses_all, awaits_presses, ready_presses}
+use Rattle.snep_core.proofs.OnConnection.{readied_open}
 use Rattle.snep_core.proofs.Opening.{Asks, Awaits, Keeps, Meeting, asking, asks_again, awaiting, awaits_again, hops, hops_back, joined_client}
 use Rattle.snep_core.proofs.Served.{Serves}
 use Rattle.snep_core.proofs.Talking.{took_some}
@@ -36,10 +37,10 @@ module _ (limit : ℕ) (table : List Offer) (names : List Bound) (conv : ℕ →
   joined_ready {job} {l} {p} h =
       let c = conv h.n.server_miu h.n.client_miu in
       let laws = keeps.laws h.n.server_miu h.n.client_miu h.paired.server_miu h.paired.client_miu in
-      let r = laws.readies h.phase h.holds h.base h.n refl h.paired in
+      let r = laws.readies h.phase h.holds h.n refl h.paired in
       subst (λ z. ReadyMeets p (readied z client_sap job)) (sym h.l_is)
       (subst (λ z. ReadyMeets p (readied (joined_client limit table names conv most bytes old h) client_sap z)) (sym h.job_is)
-      (subst (ReadyMeets p) (sym r.ready) (inr (inr (record {
+      (subst (ReadyMeets p) (sym (readied_open h.base h.n (c.queue_at h.phase) (c.units_at h.phase) (c.queue_at r.to) (c.units_at r.to) (c.job_at h.phase) (c.job_at r.to) r.ready)) (inr (inr (record {
         base = h.base;
         far = h.far;
         n = h.n;
@@ -53,8 +54,8 @@ module _ (limit : ℕ) (table : List Offer) (names : List Bound) (conv : ℕ →
         l_is = refl;
         p_is = h.p_is;
         job_is = refl;
-        serves = subst (λ z. Serves limit table h.service z (c.accepted_at r.to)) (sym r.session_is)
-            (subst (λ z. Serves limit table h.service (c.session_at h.phase) z) (sym r.accepted_is) h.serves);
+        serves = subst (λ z. Serves client_sap limit table h.service z (c.accepted_at r.to)) (sym r.session_is)
+            (subst (λ z. Serves client_sap limit table h.service (c.session_at h.phase) z) (sym r.accepted_is) h.serves);
       })))))
 
   ready_meets : {job : Job} → {l : EndState} → {p : PeerState} → Meets job l p → ReadyMeets p (readied l client_sap job)
@@ -133,8 +134,8 @@ module _ (limit : ℕ) (table : List Offer) (names : List Bound) (conv : ℕ →
             l_is = ap (λ q. client_open h.base h.n q []) (sym x.queue_is) ∙ ap (λ us. client_open h.base h.n (c.queue_at x.to) us) (sym x.units_is);
             p_is = h.p_is;
             job_is = refl;
-            serves = subst (λ z. Serves limit table h.service z (c.accepted_at x.to)) (sym x.session_is)
-                (subst (λ z. Serves limit table h.service (c.session_at h.phase) z) (sym x.accepted_is) h.serves);
+            serves = subst (λ z. Serves client_sap limit table h.service z (c.accepted_at x.to)) (sym x.session_is)
+                (subst (λ z. Serves client_sap limit table h.service (c.session_at h.phase) z) (sym x.accepted_is) h.serves);
           };
           units = x.units_is;
         };
@@ -150,12 +151,12 @@ module _ (limit : ℕ) (table : List Offer) (names : List Bound) (conv : ℕ →
       let h = x.joined in
       let c = conv h.n.server_miu h.n.client_miu in
       let laws = keeps.laws h.n.server_miu h.n.client_miu h.paired.server_miu h.paired.client_miu in
-      let r = laws.readies h.phase h.holds h.base h.n refl h.paired in
-      let serves = subst (λ z. Serves limit table h.service z (c.accepted_at r.to)) (sym r.session_is)
-      (subst (λ z. Serves limit table h.service (c.session_at h.phase) z) (sym r.accepted_is) h.serves) in
+      let r = laws.readies h.phase h.holds h.n refl h.paired in
+      let serves = subst (λ z. Serves client_sap limit table h.service z (c.accepted_at r.to)) (sym r.session_is)
+      (subst (λ z. Serves client_sap limit table h.service (c.session_at h.phase) z) (sym r.accepted_is) h.serves) in
       subst (λ z. ReadyRests p (readied z client_sap job)) (sym h.l_is)
       (subst (λ z. ReadyRests p (readied (joined_client limit table names conv most bytes old h) client_sap z)) (sym h.job_is)
-      (subst (ReadyRests p) (sym r.ready) (inr (inr (record {
+      (subst (ReadyRests p) (sym (readied_open h.base h.n (c.queue_at h.phase) (c.units_at h.phase) (c.queue_at r.to) (c.units_at r.to) (c.job_at h.phase) (c.job_at r.to) r.ready)) (inr (inr (record {
         joined = record {
           base = h.base;
           far = h.far;
