@@ -34,11 +34,11 @@ pub data Stand : Type 0 where
 
 abbrev pub own_at : Stand → List OwnState
 own_at (Apart os) = os
-own_at (Joined n) = opened client_sap server_sap (client_conn n []) [] ∷ []
+own_at (Joined n) = opened client_sap server_sap (client_conn client_sap n []) [] ∷ []
 
 abbrev pub served_at : Stand → List ConnState
 served_at (Apart os) = []
-served_at (Joined n) = server_conn n ∷ []
+served_at (Joined n) = server_conn client_sap n ∷ []
 
 abbrev pub IsStand : Stand → ServerState → Type 0
 IsStand (Apart os) s = AreOver os

@@ -9,7 +9,7 @@ use Rattle.llcp_conn.specs.Conn.{count_end}
 use Rattle.llcp_link.specs.declared.own.OwnIs.{OwnIs}
 use Rattle.llcp_link.specs.declared.own.OwnIs.TheVariants.{Asking, Open, Refused, Leaving, Closed}
 use Rattle.llcp_link.specs.State.{OwnState, own_from}
-use Rattle.llcp_link.specs.Asking.{acked_of, acked_on, asked_from, disconnected_by, has_waiting_of, is_busy_by, is_open_by, looked_up, put_own}
+use Rattle.llcp_link.specs.Asking.{acked_of, acked_on, asked_from, disconnected_by, has_waiting_of, is_busy_by, is_open_by, put_own}
 use Rattle.llcp_link.specs.Giving.{after_giving}
 use Rattle.llcp_link.specs.Taking.{taken_from}
 use Rattle.llcp_link.specs.Waning.{pending, pending_on}
@@ -17,10 +17,10 @@ use Rattle.llcp_link.proofs.Awaited.{here_of}
 use Rattle.llcp_link.proofs.Ranged.{either}
 use Rattle.llcp_link.proofs.Submitted.{own_with}
 use Rattle.llcp_link.proofs.Waning.{Wanes, is_of, given_wanes, pending_wanes, taken_wanes}
-use Rattle.snep_core.specs.Jobs.{Job, Begins, Looks, Closes, Over, Done, has_byte}
-use Rattle.snep_core.specs.Talk.{AllReady, EndState, Ends, Finds, Gets, GivenUp, GivesUp, Leaves, Puts, alone, begun, client_sap, connected, get_bytes, own_of, put_bytes, server_sap, Goes, OnSap, Ready, Step, Told, Working, all_emptied, all_heard, all_over, all_readied, all_well, as_they_came, emptied, emptied_by, gave_any, gave_something, goes_on, heard, heard_with, idle_after, most_idle, given_up, readied, ready, replied, saps, settled, silent, with_job, told_by, took, units_of}
-use Rattle.snep_core.specs.RepliesLeft.{CallsBegin, CallsEnd, IsCounted, IsUnderWay, RepliesFall, all_to_come, job_left, replies_left, to_come}
-use Rattle.snep_core.specs.Waning.{one_job, LessensTo, Putting}
+use Rattle.snep_core.specs.Jobs.{Job, Begins, Closes, has_byte}
+use Rattle.snep_core.specs.Talk.{AllReady, EndState, Ends, Finds, Gets, GivenUp, GivesUp, Leaves, Puts, Task, TaskOn, all_opening, begun, connected, get_bytes, opening, own_of, put_bytes, server_sap, Goes, OnSap, Ready, Step, Told, Working, all_emptied, all_heard, all_over, all_readied, all_well, as_they_came, emptied, emptied_by, gave_any, gave_something, goes_on, heard, heard_with, idle_after, most_idle, given_up, leaving, readied, ready, ready_so, replied, saps, settled, silent, with_job, told_by, took, units_of}
+use Rattle.snep_core.specs.RepliesLeft.{CallsBegin, CallsEnd, IsCounted, IsUnderWay, RepliesFall, all_to_come, job_left, replies_left, task_saps, to_come}
+use Rattle.snep_core.specs.Waning.{LessensTo, Putting}
 use Rattle.snep_core.proofs.Falling.{both_lessen, gave_lessens, turn_falls}
 use Rattle.snep_core.proofs.Jobs.{heard_lets}
 use Rattle.snep_core.proofs.Readied.{Readies, elsewhere, one_ready}
@@ -273,31 +273,91 @@ put_there h o (p ∷ ps) i = go (put_there h o ps i) (p.here == o.here) refl
     go more false t =
         ap (λ b. if b then Some p else own_from h (put_own o ps)) (ap (λ k. p.here == k) (sym (eqb-true o.here h i)) ∙ t) ∙ more
 
-begins_so : (l : EndState) (job : Job) → IsCounted l client_sap → IsUnderWay (one_job l job 0)
+put_elsewhere : (s : ℕ) (o : OwnState) (os : List OwnState) → (o.here == s) ≡ false → own_from s (put_own o os) ≡ own_from s os
+put_elsewhere s o [] n = ap (λ b. if b then Some o else None) n
+put_elsewhere s o (x ∷ os) n = go (x.here == o.here) refl (put_elsewhere s o os n)
+  where
+    go : (b : Bool) → (x.here == o.here) ≡ b → own_from s (put_own o os) ≡ own_from s os
+        → own_from s (if b then o ∷ os else x ∷ put_own o os) ≡ own_from s (x ∷ os)
+    go true t more =
+        ap (λ b. if b then Some o else own_from s os) n
+        ∙ sym (ap (λ b. if b then Some x else own_from s os) (ap (λ k. k == s) (eqb-true x.here o.here t) ∙ n))
+    go false t more = ap (λ z. if x.here == s then Some x else z) more
+
+-- What a task puts before a payload leaves the other connections as they are.
+record Opens (l : EndState) (sap : ℕ) (r : Ready) : Type 0 where
+  pub counted : IsCounted l sap → IsCounted r.llc sap
+  pub others : (s : ℕ) → (sap == s) ≡ false → own_from s r.llc.own ≡ own_from s l.own
+
+itself : (m : ℕ) → (m == m) ≡ true
+itself m = grind (arith, nat_tests)
+
+connected_opens : (l : EndState) (sap : ℕ) (job : Job) → Opens l sap (ready_so (connected l sap) job)
+connected_opens l sap job =
+    either {X = EndState} (λ z. Opens l sap (ready_so z job)) (is_busy_by (own_from sap l.own)) l _
+    (λ e. record { counted = λ c. c; others = λ s n. refl })
+    (λ e. record {
+      counted = λ c. subst (λ o. acked_of o < count_end) (sym (put_there sap (asked_from sap server_sap) l.own (itself sap))) (omega arith);
+      others = λ s n. put_elsewhere s (asked_from sap server_sap) l.own n;
+    })
+
+ended_opens : (l : EndState) (sap : ℕ) (q : Option OwnState) → own_of sap l ≡ q → Opens l sap (ready_so (disconnected_by l q) Closes)
+ended_opens l sap None e = record { counted = λ c. c; others = λ s n. refl }
+ended_opens l sap (Some o) e = record {
+  counted = λ c. subst (λ z. acked_of z < count_end) (sym (own_with sap l.own (record o { is = Leaving }) o e (here_of sap l.own o e))) (omega arith);
+  others = λ s n. elsewhere s (record o { is = Leaving }) l.own (ap (λ h. h == s) (here_of sap l.own o e) ∙ n);
+}
+
+leaving_opens : (l : EndState) (sap : ℕ) (b : Bool) → Opens l sap (leaving l sap b)
+leaving_opens l sap true = ended_opens l sap (own_of sap l) refl
+leaving_opens l sap false = record { counted = λ c. c; others = λ s n. refl }
+
+one_opens : (l : EndState) (sap : ℕ) (task : Task) → Opens l sap (opening l sap task)
+one_opens l sap (Puts message) = connected_opens l sap (Begins None (put_bytes message))
+one_opens l sap (Gets most key) = connected_opens l sap (Begins (Some most) (get_bytes most key))
+one_opens l sap (Finds name) = record { counted = λ c. c; others = λ s n. refl }
+one_opens l sap Leaves = leaving_opens l sap (is_open_by (own_of sap l))
+
+counted_apart : (l : EndState) (sap : ℕ) (r : Ready) → Opens l sap r → (ss : List ℕ) → NotAmong sap ss
+    → AllByRecursion (IsCounted l) ss → AllByRecursion (IsCounted r.llc) ss
+counted_apart l sap r h [] n c = tt
+counted_apart l sap r h (s ∷ ss) n c =
+    (subst (λ o. acked_of o < count_end) (sym (h.others s n.0)) c.0, counted_apart l sap r h ss n.1 c.1)
+
+-- what all tasks put there
+record AllOpens (l : EndState) (xs : List TaskOn) (r : AllReady) : Type 0 where
+  pub counted : AllByRecursion (IsCounted l) (task_saps xs) → AllByRecursion (IsCounted r.llc) (task_saps xs)
+  pub others : (s : ℕ) → NotAmong s (task_saps xs) → own_from s r.llc.own ≡ own_from s l.own
+  pub same : saps r.jobs ≡ task_saps xs
+
+all_opens : (xs : List TaskOn) (l : EndState) → IsDistinct eqb (task_saps xs) → AllOpens l xs (all_opening xs l)
 unfolding IsDistinct
-begins_so l job c = record { apart = (tt, tt); counted = (c, tt); idle = omega arith }
+all_opens [] l d = record { counted = λ c. c; others = λ s n. refl; same = refl }
+all_opens (x ∷ xs) l d = go (opening l x.sap x.task) (one_opens l x.sap x.task) (all_opens xs (opening l x.sap x.task).llc d.1)
+  where
+    go : (r : Ready) → Opens l x.sap r → AllOpens r.llc xs (all_opening xs r.llc) → AllOpens l (x ∷ xs) (with_job x.sap r (all_opening xs))
+    go r h m = record {
+      counted = λ c. (
+        subst (λ o. acked_of o < count_end) (sym (m.others x.sap d.0)) (h.counted c.0),
+        m.counted (counted_apart l x.sap r h (task_saps xs) d.0 c.1),
+      );
+      others = λ s n. m.others s n.1 ∙ h.others s (is_other s x.sap n.0);
+      same = ap (λ ss. x.sap ∷ ss) m.same;
+    }
 
-connected_so : (l : EndState) → IsCounted l client_sap → IsCounted (connected l client_sap) client_sap
-connected_so l c =
-    either {X = EndState} (λ z. IsCounted z client_sap) (is_busy_by (own_from client_sap l.own)) l _ (λ e. c)
-    (λ e. subst (λ o. acked_of o < count_end) (sym (put_there client_sap (asked_from client_sap server_sap) l.own refl)) (omega arith))
-
-disconnected_so : (l : EndState) (q : Option OwnState) → own_of l ≡ q → IsCounted l client_sap → IsCounted (disconnected_by l q) client_sap
-disconnected_so l None e c = c
-disconnected_so l (Some o) e c =
-    subst (λ z. acked_of z < count_end)
-    (sym (own_with client_sap l.own (record o { is = Leaving }) o e (here_of client_sap l.own o e))) (omega arith)
-
-abbrev BeginsSo : Step → Type 0
-BeginsSo step = (w : Working) → step ≡ Goes w → IsUnderWay w
-
-goes_from : (l : EndState) (job : Job) → IsCounted l client_sap → BeginsSo (begun l job)
-goes_from l job c w e = let k : one_job l job 0 ≡ w = cc in subst IsUnderWay k (begins_so l job c)
+begun_under_way : (l : EndState) (tasks : List TaskOn) (r : AllReady) → IsDistinct eqb (task_saps tasks) → AllByRecursion (IsCounted l) (task_saps tasks)
+    → AllOpens l tasks r → IsUnderWay (record { llc = r.llc; jobs = r.jobs; idle = 0 })
+begun_under_way l tasks r d c m = record {
+  apart = subst (IsDistinct eqb) (sym m.same) d;
+  counted = subst (AllByRecursion (IsCounted r.llc)) (sym m.same) (m.counted c);
+  idle = omega arith;
+}
 
 pub calls_begin : CallsBegin
-calls_begin l (Puts message) w c e = goes_from (connected l client_sap) (Begins None (put_bytes message)) (connected_so l c) w e
-calls_begin l (Gets most key) w c e = goes_from (connected l client_sap) (Begins (Some most) (get_bytes most key)) (connected_so l c) w e
-calls_begin l (Finds name) w c e = goes_from (looked_up l name) (Looks l.asked) c w e
-calls_begin l Leaves w c e =
-    either {X = Step} BeginsSo (is_open_by (own_of l)) (begun (disconnected_by l (own_of l)) Closes) (Ends (alone (Over Done)) l)
-    (λ b. goes_from (disconnected_by l (own_of l)) Closes (disconnected_so l (own_of l) refl c)) (λ b x k. absurd cc) w e
+calls_begin l tasks w d c e =
+    either {X = Step} (λ s. s ≡ Goes w → IsUnderWay w) (all_over r.jobs) (Ends r.jobs r.llc) (begun r.llc r.jobs) (λ b q. absurd cc)
+    (λ b q. (let same : record { llc = r.llc; jobs = r.jobs; idle = 0 } ≡ w = cc in
+    subst IsUnderWay same (begun_under_way l tasks r d c (all_opens tasks l d)))) e
+  where
+    r : AllReady
+    r = all_opening tasks l

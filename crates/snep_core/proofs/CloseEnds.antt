@@ -15,7 +15,7 @@ use Rattle.snep_core.specs.Accord.{Accords, AreOver, AsideFails, IsClosed, IsFai
 use Rattle.snep_core.specs.Calling.{FailsBy, Talks}
 use Rattle.snep_core.specs.Jobs.{Closes, Done, Over, told_in}
 use Rattle.snep_core.specs.Server.{ServerState, serving}
-use Rattle.snep_core.specs.Talk.{EndState, Ends, Leaves, Step, alone, begins, begun, client_sap, emptied, finished, heard, heard_so, is_waiting, own_of, server_sap, silent}
+use Rattle.snep_core.specs.Talk.{EndState, Ends, Leaves, Step, all_opening, alone, beginning, begins, client_sap, emptied, finished, heard, heard_so, is_waiting, leaving as leaves_by, own_of, server_sap, with_job, silent}
 use Rattle.snep_core.proofs.AtOneSap.{found_none}
 use Rattle.snep_core.proofs.Asides.{Apart, IsStand, Joined, Stand, accord_at, apart_at, bare_none, client_at, peer_at, stand_emptied, stand_units, stands_at}
 use Rattle.snep_core.proofs.Carrying.{FirstSo, HopSo}
@@ -171,7 +171,7 @@ module _ {C A : Type 0} (seen : C → CarrierView) (swaps : C → List ℕ → L
   AtStep = (course p.service Closes Done closing).At
 
   abbrev begin_by : EndState → Bool → Step
-  begin_by l b = if b then begun (disconnected_by l (own_of l)) Closes else Ends (alone (Over Done)) l
+  begin_by l b = beginning (with_job client_sap (leaves_by l client_sap b) (all_opening []))
 
   begins_so : AtStep (begins client Leaves) p
   begins_so = let x = stands_at client p a in go x.st x.stand x.client_is x.peer_is
@@ -179,7 +179,7 @@ module _ {C A : Type 0} (seen : C → CarrierView) (swaps : C → List ℕ → L
       go : (st : Stand) → IsStand st p.service → client ≡ client_at client st [] → p ≡ peer_at p st [] p.service → AtStep (begins client Leaves) p
       go (Joined n) k e q =
           subst (λ z. AtStep (begins z Leaves) p) (sym e) (
-            disconnected_by (client_at client (Joined n) []) (own_of (client_at client (Joined n) [])),
+            disconnected_by (client_at client (Joined n) []) (own_of client_sap (client_at client (Joined n) [])),
             0,
             refl,
             record {

@@ -1,11 +1,12 @@
--- One request on a connection, unit by unit: where the two ends stand, and how they come from one phase to another.
+-- One request on the connection from a SAP, unit by unit: where the two ends stand, and how they come from one phase to another.
 use Rattle.std.proofs.Common.{◌≡◌, ◌<◌, ◌≤◌, ◌⊎◌, Bool, true, false, ℕ, List, [], ◌∷◌, ◌++◌, length, Option, Some, None, is_some, refl, sym, ap}
 use Rattle.llcp_conn.specs.Conn.{first}
-use Rattle.snep_core.specs.Accord.{IsPaired, Numbers, client_open}
+use Rattle.snep_core.specs.Accord.{IsPaired, Numbers}
 use Rattle.snep_core.specs.Jobs.{Job, told_all, told_in}
 use Rattle.snep_core.specs.Server.{Received, ServerState, serving}
 use Rattle.snep_core.specs.Session.{Offer, Session, fresh_session}
-use Rattle.snep_core.specs.Talk.{EndState, client_sap, finished, is_over, readied, ready_so}
+use Rattle.snep_core.specs.Talk.{EndState, finished, is_over}
+use Rattle.snep_core.proofs.OnConnection.{conn_at, on_so, readied_on}
 use Rattle.snep_core.proofs.Served.{Serves}
 
 -- Phases, and at each: the client's job, the units that it is still to give, and those that it heard and didn't take up; the server's
@@ -23,10 +24,10 @@ abbrev pub AllWithin : ℕ → List (List ℕ) → Type 0
 AllWithin miu [] = Unit {0}
 AllWithin miu (u ∷ us) = (length u ≤ miu) × AllWithin miu us
 
-module _ (limit : ℕ) (table : List Offer) (c : Conversation) where
+module _ (sap limit : ℕ) (table : List Offer) (c : Conversation) where
   -- the server stands so
   abbrev pub StandsAt : c.Phase → ServerState → Type 0
-  StandsAt ph s = Serves limit table s (c.session_at ph) (c.accepted_at ph)
+  StandsAt ph s = Serves sap limit table s (c.session_at ph) (c.accepted_at ph)
 
   -- A unit came, and the server stands elsewhere.
   pub record Comes (from : c.Phase) (queue units : List (List ℕ)) (s : ServerState) : Type 0 where
@@ -40,7 +41,7 @@ module _ (limit : ℕ) (table : List Offer) (c : Conversation) where
   -- A unit that the server gives, of at most so many bytes, and where it stands then.
   pub record Tells (size : ℕ) (from : c.Phase) (s : ServerState) : Type 0 where
     pub unit : List ℕ
-    pub due : serving.due s client_sap size ≡ Some unit
+    pub due : serving.due s sap size ≡ Some unit
     pub short : length unit ≤ size
     pub some : 0 < length unit
     pub to : c.Phase
@@ -48,10 +49,10 @@ module _ (limit : ℕ) (table : List Offer) (c : Conversation) where
     pub job : c.job_at to ≡ c.job_at from
     pub queue_is : c.queue_at to ≡ c.queue_at from
     pub units_is : c.units_at to ≡ c.units_at from ++ unit ∷ []
-    pub serves : StandsAt to (serving.sent s client_sap size)
+    pub serves : StandsAt to (serving.sent s sap size)
 
   abbrev pub MayTell : ℕ → c.Phase → ServerState → Type 0
-  MayTell size ph s = (serving.due s client_sap size ≡ None) ⊎ Tells size ph s
+  MayTell size ph s = (serving.due s sap size ≡ None) ⊎ Tells size ph s
 
   -- The client took up what it heard.
   pub record Hears (from : c.Phase) : Type 0 where
@@ -65,12 +66,12 @@ module _ (limit : ℕ) (table : List Offer) (c : Conversation) where
     pub accepted_is : c.accepted_at to ≡ c.accepted_at from
 
   -- The client submitted what it may. Where it is still to do nothing, and nothing of it is unacknowledged, the server has an answer.
-  pub record Readies (size : ℕ) (l : EndState) (n : Numbers) (from : c.Phase) : Type 0 where
+  pub record Readies (size : ℕ) (n : Numbers) (from : c.Phase) : Type 0 where
     pub to : c.Phase
     pub holds : c.Holds to
     pub paired : IsPaired n (length (c.queue_at to))
-    pub ready : readied (client_open l n (c.queue_at from) (c.units_at from)) client_sap (c.job_at from)
-        ≡ ready_so (client_open l n (c.queue_at to) (c.units_at to)) (c.job_at to)
+    pub ready : readied_on (conn_at sap n (c.queue_at from) (c.units_at from)) (c.job_at from)
+        ≡ on_so (conn_at sap n (c.queue_at to) (c.units_at to)) (c.job_at to)
     pub session_is : c.session_at to ≡ c.session_at from
     pub accepted_is : c.accepted_at to ≡ c.accepted_at from
     pub busy : c.units_at from ≡ [] → is_over (c.job_at from) ≡ false → c.queue_at to ≡ [] → n.asked ≡ [] → (s : ServerState) → StandsAt to s → Tells size to s
@@ -79,11 +80,11 @@ module _ (limit : ℕ) (table : List Offer) (c : Conversation) where
   pub record Converses (miu size : ℕ) : Type 0 where
     pub within : (ph : c.Phase) → c.Holds ph → AllWithin miu (c.queue_at ph)
     pub comes : (ph : c.Phase) (u : List ℕ) (queue : List (List ℕ)) → c.queue_at ph ≡ u ∷ queue → c.Holds ph → (s : ServerState) → StandsAt ph s
-        → Comes ph queue (c.units_at ph) (serving.brought s client_sap u)
+        → Comes ph queue (c.units_at ph) (serving.brought s sap u)
     pub tells : (ph : c.Phase) → c.Holds ph → (s : ServerState) → StandsAt ph s → MayTell size ph s
     pub hears : (ph : c.Phase) → c.Holds ph → Hears ph
-    pub plain : (ph : c.Phase) (l : EndState) → finished l client_sap (c.job_at ph) ≡ c.job_at ph
-    pub readies : (ph : c.Phase) → c.Holds ph → (l : EndState) (n : Numbers) → n.server_miu ≡ miu → IsPaired n (length (c.queue_at ph)) → Readies size l n ph
+    pub plain : (ph : c.Phase) (l : EndState) → finished l sap (c.job_at ph) ≡ c.job_at ph
+    pub readies : (ph : c.Phase) → c.Holds ph → (n : Numbers) → n.server_miu ≡ miu → IsPaired n (length (c.queue_at ph)) → Readies size n ph
 
   -- a phase at which nothing of a request is submitted
   pub record Starts (job : Job) (old : List Received) : Type 0 where
@@ -105,9 +106,9 @@ told_apart waiting job [] o e f = e
 told_apart true job (u ∷ us) o e f = absurd (no_unit u us (sym (f refl)))
 told_apart false job (u ∷ us) o e f = e
 
-module _ (limit : ℕ) (table : List Offer) (c : Conversation) (ph : c.Phase) (holds : c.Holds ph) where
+module _ (sap limit : ℕ) (table : List Offer) (c : Conversation) (ph : c.Phase) (holds : c.Holds ph) where
   -- the client heard nothing
-  pub hears_nothing : c.units_at ph ≡ [] → Hears limit table c ph
+  pub hears_nothing : c.units_at ph ≡ [] → Hears sap limit table c ph
   hears_nothing e = record {
     to = ph;
     holds = holds;
@@ -120,11 +121,11 @@ module _ (limit : ℕ) (table : List Offer) (c : Conversation) (ph : c.Phase) (h
   }
 
   -- the client submits nothing
-  pub stays : (size : ℕ) (l : EndState) (n : Numbers) → IsPaired n (length (c.queue_at ph))
-      → readied (client_open l n (c.queue_at ph) (c.units_at ph)) client_sap (c.job_at ph) ≡ ready_so (client_open l n (c.queue_at ph) (c.units_at ph)) (c.job_at ph)
-      → (c.units_at ph ≡ [] → is_over (c.job_at ph) ≡ false → c.queue_at ph ≡ [] → (s : ServerState) → StandsAt limit table c ph s → Tells limit table c size ph s)
-      → Readies limit table c size l n ph
-  stays size l n paired ready busy = record {
+  pub stays : (size : ℕ) (n : Numbers) → IsPaired n (length (c.queue_at ph))
+      → readied_on (conn_at sap n (c.queue_at ph) (c.units_at ph)) (c.job_at ph) ≡ on_so (conn_at sap n (c.queue_at ph) (c.units_at ph)) (c.job_at ph)
+      → (c.units_at ph ≡ [] → is_over (c.job_at ph) ≡ false → c.queue_at ph ≡ [] → (s : ServerState) → StandsAt sap limit table c ph s → Tells sap limit table c size ph s)
+      → Readies sap limit table c size n ph
+  stays size n paired ready busy = record {
     to = ph;
     holds = holds;
     paired = paired;

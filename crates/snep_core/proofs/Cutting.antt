@@ -59,15 +59,15 @@ module _ {C A : Type 0} (seen : C → CarrierView) (swaps : C → List ℕ → L
     swapped = subst (λ b. Swapped swaps steps stops link b far now after (λ did. did ≡ Stepped b reply ∷ [])) g.bytes_are swapped;
   }))
 
-  pub exchanged : (reply : List ℕ) (passed : Passed) (new : EndState) → SwapDone steps (seen link) (seen now) out reply far after
+  pub exchanged : (sap : ℕ) (reply : List ℕ) (passed : Passed) (new : EndState) → SwapDone steps (seen link) (seen now) out reply far after
       → Swapped swaps steps stops link out far now after (λ did. did ≡ Stepped out reply ∷ []) → new ≡ taken_from silent mid reply
-      → passed.gave ≡ gave_something (own_of mid) (own_of new) → passed.waiting ≡ has_waiting_of (own_of mid)
-      → Exchanged seen swaps steps stops count llc link far passed new now after
-  exchanged reply passed new done swapped took something waiting = record {
+      → passed.gave ≡ gave_something (own_of sap mid) (own_of sap new) → passed.waiting ≡ has_waiting_of (own_of sap mid)
+      → Exchanged seen swaps steps stops count sap llc link far passed new now after
+  exchanged sap reply passed new done swapped took something waiting = record {
     reply = reply;
     swap = subst (λ b. SwapDone steps (seen link) (seen now) b reply far after) g.bytes_are done;
     swapped = subst (λ b. Swapped swaps steps stops link b far now after (λ did. did ≡ Stepped b reply ∷ [])) g.bytes_are swapped;
     took = took ∙ ap (λ l. taken_from silent l reply) g.left;
-    something = something ∙ ap (λ l. gave_something (own_of l) (own_of new)) g.left;
-    waiting = waiting ∙ ap (λ l. has_waiting_of (own_of l)) g.left;
+    something = something ∙ ap (λ l. gave_something (own_of sap l) (own_of sap new)) g.left;
+    waiting = waiting ∙ ap (λ l. has_waiting_of (own_of sap l)) g.left;
   }

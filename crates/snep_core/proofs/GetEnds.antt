@@ -9,12 +9,12 @@ use Rattle.snep_core.specs.declared.job.Refusal.TheVariants as refusals
 use Rattle.snep_core.specs.Accord.{Accords, GetFails, IsGot, IsPeer, PeerState, Refuses}
 use Rattle.snep_core.specs.Calling.{RequestFails, Talks, fault_of, refused_by}
 use Rattle.snep_core.specs.Jobs.{Over, Refused, Value}
-use Rattle.snep_core.specs.Talk.{EndState, Ends, Gets, alone, begins}
+use Rattle.snep_core.specs.Talk.{EndState, Ends, Gets, alone, begins, client_sap}
 use Rattle.snep_core.proofs.GetPhases.{ComesTo, GetOutcome, ask, get_outcome, get_read}
 use Rattle.snep_core.proofs.RequestEnds.{AddsSome, Ended, Failed, Fate, request_ended, request_failed}
 use Rattle.snep_core.proofs.RequestPhases.{IsRead}
 
-module _ (most : ℕ) (key : List ℕ) (p : PeerState) (fits : length key ≤ 65536) (x : GetOutcome p.service.limit p.service.table most key p.service.accepted) where
+module _ (most : ℕ) (key : List ℕ) (p : PeerState) (fits : length key ≤ 65536) (x : GetOutcome client_sap p.service.limit p.service.table most key p.service.accepted) where
   abbrev read : IsRead p.service.limit (ask most key)
   read = get_read p.service.limit most key fits
 
@@ -58,8 +58,8 @@ module _ (most : ℕ) (key : List ℕ) (p : PeerState) (fits : length key ≤ 65
 module _ {C A : Type 0} (seen : C → CarrierView) (swaps : C → List ℕ → List FarStep → C → Type 0) (steps : A → List ℕ → List ℕ → A → Type 0) (stops : A → List ℕ → A → Type 0)
     (view : A → PeerState) (peer : IsPeer steps stops view) (most : ℕ) (small : most < 2 ^ 32) (key : List ℕ) (fits : length key ≤ 65536) (client : EndState) (link : C) (far : A)
     (a : Accords client (view far)) (numbers : List ℕ) where
-  abbrev comes : GetOutcome (view far).service.limit (view far).service.table most key (view far).service.accepted
-  comes = get_outcome (view far).service.limit (view far).service.table most key (view far).service.accepted small
+  abbrev comes : GetOutcome client_sap (view far).service.limit (view far).service.table most key (view far).service.accepted
+  comes = get_outcome client_sap (view far).service.limit (view far).service.table most key (view far).service.accepted small
 
   -- the value was told
   pub get_got : (v : List ℕ) (new : EndState) (now : C) (after : A) → Talks seen swaps steps stops numbers (begins client (Gets most key)) link far (Ends (alone (Over (Value v))) new) now after

@@ -49,26 +49,26 @@ ComesTo table most key (Refused r) = Refuses table most key (refused_by r)
 ComesTo table most key _ = ⊥
 
 -- what comes of a get: the value, or why it is refused; nothing is accepted
-pub record GetOutcome (limit : ℕ) (table : List Offer) (most : ℕ) (key : List ℕ) (old : List Received) : Type 1 where
+pub record GetOutcome (sap limit : ℕ) (table : List Offer) (most : ℕ) (key : List ℕ) (old : List Received) : Type 1 where
   pub end : Ending
-  pub outcome : Outcome limit table (ask most key) old end old
+  pub outcome : Outcome sap limit table (ask most key) old end old
   pub comes : ComesTo table most key end
 
-module _ (limit : ℕ) (table : List Offer) (most : ℕ) (key : List ℕ) (old : List Received) (small : most < 2 ^ 32) where
+module _ (sap limit : ℕ) (table : List Offer) (most : ℕ) (key : List ℕ) (old : List Received) (small : most < 2 ^ 32) where
   -- a server that only says so
   abbrev says_only : Word → Did
   says_only w = record { session = record fresh_session { due = Tells w ∷ [] }; accepts = None }
 
   refused : (a : Answer) (r : Refusal) → length (message a []) ≡ 6 → told_all (Sends (Some most) []) (message a [] ∷ []) ≡ Some (Over (Refused r))
-      → gets table (four_bytes most ++ key) ≡ Answers a → Refuses table most key (refused_by r) → GetOutcome limit table most key old
+      → gets table (four_bytes most ++ key) ≡ Answers a → Refuses table most key (refused_by r) → GetOutcome sap limit table most key old
   refused a r six told e why = record {
     end = Refused r;
-    outcome = answered limit (ask most key) a (Refused r) old six told table old None
+    outcome = answered limit (ask most key) a (Refused r) old sap six told table old None
         (λ g. ap says_only e) (sym (append-nil old));
     comes = why;
   }
 
-  told_value : (v : List ℕ) → gets table (four_bytes most ++ key) ≡ Offers (message answers.Success v) → value_of key table ≡ Some v → length v ≤ most → GetOutcome limit table most key old
+  told_value : (v : List ℕ) → gets table (four_bytes most ++ key) ≡ Offers (message answers.Success v) → value_of key table ≡ Some v → length v ≤ most → GetOutcome sap limit table most key old
   told_value v e there few = record {
     end = Value v;
     outcome = record {
@@ -83,7 +83,7 @@ module _ (limit : ℕ) (table : List Offer) (most : ℕ) (key : List ℕ) (old :
         does = λ g. ap says_only e;
         accepted_is = sym (append-nil old);
       };
-      converses = λ miu size range fits. value_converses limit (length key) most v old size fits small few table miu range;
+      converses = λ miu size range fits. value_converses limit (length key) most v old size fits small few sap table miu range;
       within = λ size ph k. k.0;
       adds = λ size ph. refl;
       ends = λ size ph e q. value_ends limit (length key) most v old size ph e q;
@@ -91,18 +91,18 @@ module _ (limit : ℕ) (table : List Offer) (most : ℕ) (key : List ℕ) (old :
     comes = (there, few);
   }
 
-  found : (v : List ℕ) → gets table (four_bytes most ++ key) ≡ got most (Some v) → value_of key table ≡ Some v → (b : Bool) → nat_lt most (length v) ≡ b → GetOutcome limit table most key old
+  found : (v : List ℕ) → gets table (four_bytes most ++ key) ≡ got most (Some v) → value_of key table ≡ Some v → (b : Bool) → nat_lt most (length v) ≡ b → GetOutcome sap limit table most key old
   found v e there true h =
       refused answers.Excess refusals.Excess refl refl (e ∙ ap (λ b. if b then Answers answers.Excess else Offers (message answers.Success v)) h) (v, there, ltb-true most (length v) h)
   found v e there false h =
       told_value v (e ∙ ap (λ b. if b then Answers answers.Excess else Offers (message answers.Success v)) h) there (ltb-false most (length v) h)
 
-  by_value : 0 < length table → gets table (four_bytes most ++ key) ≡ got most (value_of key table) → (o : Option (List ℕ)) → value_of key table ≡ o → GetOutcome limit table most key old
+  by_value : 0 < length table → gets table (four_bytes most ++ key) ≡ got most (value_of key table) → (o : Option (List ℕ)) → value_of key table ≡ o → GetOutcome sap limit table most key old
   by_value some e None h = refused answers.NotFound refusals.NotFound refl refl (e ∙ ap (got most) h) (some, h)
   by_value some e (Some v) h = found v (e ∙ ap (got most) h) h (nat_lt most (length v)) refl
 
 -- by the table
-pub get_outcome : (limit : ℕ) (table : List Offer) (most : ℕ) (key : List ℕ) (old : List Received) → most < 2 ^ 32 → GetOutcome limit table most key old
-get_outcome limit [] most key old small = refused limit [] most key old small answers.NotImplemented refusals.NotImplemented refl refl refl refl
-get_outcome limit (o ∷ os) most key old small =
-    by_value limit (o ∷ os) most key old small (omega arith) (ap (λ n. got n (value_of key (o ∷ os))) (number_is most small)) (value_of key (o ∷ os)) refl
+pub get_outcome : (sap limit : ℕ) (table : List Offer) (most : ℕ) (key : List ℕ) (old : List Received) → most < 2 ^ 32 → GetOutcome sap limit table most key old
+get_outcome sap limit [] most key old small = refused sap limit [] most key old small answers.NotImplemented refusals.NotImplemented refl refl refl refl
+get_outcome sap limit (o ∷ os) most key old small =
+    by_value sap limit (o ∷ os) most key old small (omega arith) (ap (λ n. got n (value_of key (o ∷ os))) (number_is most small)) (value_of key (o ∷ os)) refl

@@ -14,6 +14,7 @@ pub mod CallsKeep
 pub mod CutOff
 pub mod Links
 pub mod Owned
+pub mod OnConnection
 pub mod Jobs
 pub mod Submits
 pub mod Connecting

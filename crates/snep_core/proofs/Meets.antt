@@ -111,17 +111,17 @@ module _ (limit : ℕ) (table : List Offer) (names : List Bound) (conv : ℕ →
     pub l_is : l ≡ client_open base n ((conv n.server_miu n.client_miu).queue_at phase) ((conv n.server_miu n.client_miu).units_at phase)
     pub p_is : p ≡ server_open far n service
     pub job_is : job ≡ (conv n.server_miu n.client_miu).job_at phase
-    pub serves : StandsAt limit table (conv n.server_miu n.client_miu) phase service
+    pub serves : StandsAt client_sap limit table (conv n.server_miu n.client_miu) phase service
 
   pub marked_fair : {S : Type 0} (l : LlcState S) → IsFair l → IsFair (marked l)
   marked_fair l h = record { miu = h.miu; window = h.window; last = omega arith }
 
   module _ (job : Job) (base : EndState) (far : PeerState) (n : Numbers) (s : ServerState)
       (base_fair : IsFair base) (far_fair : IsFair far) (bound : IsReached names far)
-      (laws : Converses limit table (conv n.server_miu n.client_miu) n.server_miu n.client_miu)
+      (laws : Converses client_sap limit table (conv n.server_miu n.client_miu) n.server_miu n.client_miu)
       (ph : (conv n.server_miu n.client_miu).Phase) (paired : IsPaired n (length ((conv n.server_miu n.client_miu).queue_at ph)))
       (holds : (conv n.server_miu n.client_miu).Holds ph) (j : job ≡ (conv n.server_miu n.client_miu).job_at ph)
-      (serves : StandsAt limit table (conv n.server_miu n.client_miu) ph s) where
+      (serves : StandsAt client_sap limit table (conv n.server_miu n.client_miu) ph s) where
     abbrev c : Conversation
     c = conv n.server_miu n.client_miu
 
@@ -243,7 +243,7 @@ module _ (limit : ℕ) (table : List Offer) (names : List Bound) (conv : ℕ →
         (server_ack_short, joined_server_acks)
 
     -- once it gave a unit
-    abbrev pub joined_tells : (t : Tells limit table c n.client_miu ph s) → nat_lt (length n.told + 0) n.client_window ≡ true
+    abbrev pub joined_tells : (t : Tells client_sap limit table c n.client_miu ph s) → nat_lt (length n.told + 0) n.client_window ≡ true
         → Joined job (steps_part silent (client_open base n (c.queue_at ph) units) (told_part n t.unit)) (server_open (marked far) (tells n t.unit) (serving.sent s client_sap n.client_miu))
     joined_tells t room = record {
       base = base;
@@ -265,18 +265,18 @@ module _ (limit : ℕ) (table : List Offer) (names : List Bound) (conv : ℕ →
       serves = t.serves;
     }
 
-    pub tells_short : (t : Tells limit table c n.client_miu ph s) → IsShort (told_part n t.unit)
+    pub tells_short : (t : Tells client_sap limit table c n.client_miu ph s) → IsShort (told_part n t.unit)
     tells_short t = (((omega arith), (omega arith), below (n.told_sa + length n.told), below (n.asked_sa + length n.asked)), (let z = t.short in let b = paired.client_miu.1 in omega arith))
 
     pub server_gives : Back
     server_gives = go (laws.tells ph holds s serves)
       where
-        by_room : Tells limit table c n.client_miu ph s → (b : Bool) → nat_lt (length n.told + 0) n.client_window ≡ b → Back
+        by_room : Tells client_sap limit table c n.client_miu ph s → (b : Bool) → nat_lt (length n.told + 0) n.client_window ≡ b → Back
         by_room t true e =
             subst (λ o. HopSo serving silent (λ p l. Joined job l p) (client_open base n (c.queue_at ph) units) o) (sym (server_unit serving far n s far_fair.last t.unit t.due e))
             (tells_short t, joined_tells t e)
         by_room t false e = rests (inr e) n.asked refl
 
-        go : ((serving.due s client_sap n.client_miu ≡ None) ⊎ Tells limit table c n.client_miu ph s) → Back
+        go : ((serving.due s client_sap n.client_miu ≡ None) ⊎ Tells client_sap limit table c n.client_miu ph s) → Back
         go (inl e) = rests (inl e) n.asked refl
         go (inr t) = by_room t (nat_lt (length n.told + 0) n.client_window) refl

@@ -102,9 +102,9 @@ module _ (s : ServerState) (job : Job) (ending : Ending) (x : OneExchange s job 
         let now : x.After end_ q =
         subst (λ b. x.After (taken_from silent mid b) q) (sym z.reply_is)
         (subst (λ b. x.After (taken_from silent mid (given serving z.count there)) b) (sym z.left) (answered l p h k z.count)) in
-        let gave_ = gave_something (own_of mid) (own_of end_) || has_byte (units_of (own_of end_)) in
+        let gave_ = gave_something (own_of client_sap mid) (own_of client_sap end_) || has_byte (units_of (own_of client_sap end_)) in
         let same = x.emptied_is end_ q now in
-        subst (λ b. StepSo b q) (sym (took_some mid end_ end_ job job idle (Over ending) gave_ (x.over (has_waiting_of (own_of mid)) end_ q now) refl))
+        subst (λ b. StepSo b q) (sym (took_some client_sap mid end_ end_ job job idle (Over ending) gave_ (x.over (has_waiting_of (own_of client_sap mid)) end_ q now) refl))
         (refl, subst (λ b. x.After b q) (sym same) now)
 
     turned : TurnSo (readied l client_sap job)

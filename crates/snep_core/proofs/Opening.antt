@@ -89,7 +89,7 @@ module _ (limit : ℕ) (table : List Offer) (names : List Bound) (conv : ℕ →
     pub l_is : l ≡ awaiting base
     pub p_is : p ≡ accepting far base service
     pub job_is : job ≡ Begins most bytes
-    pub serves : Serves limit table service fresh_session old
+    pub serves : Serves client_sap limit table service fresh_session old
 
   -- seen from the ends as they are
   pub asks_again : {job : Job} → {l : EndState} → {p : PeerState} → (h : Asks job l p) → Asks (Begins most bytes) (asking h.base) p
@@ -133,8 +133,8 @@ module _ (limit : ℕ) (table : List Offer) (names : List Bound) (conv : ℕ →
 
   -- what both keep to: the conversation's laws, and a phase at which it begins
   pub record Keeps : Type 0 where
-    pub laws : (miu size : ℕ) → IsMiu miu → IsMiu size → Converses limit table (conv miu size) miu size
-    pub starts : (miu size : ℕ) → Starts limit table (conv miu size) (Begins most bytes) old
+    pub laws : (miu size : ℕ) → IsMiu miu → IsMiu size → Converses client_sap limit table (conv miu size) miu size
+    pub starts : (miu size : ℕ) → Starts client_sap limit table (conv miu size) (Begins most bytes) old
 
   module _ (keeps : Keeps) (job : Job) where
     abbrev Hop : PeerState → Option (Gave NoService) → Type 0
@@ -183,7 +183,7 @@ module _ (limit : ℕ) (table : List Offer) (names : List Bound) (conv : ℕ →
             l_is = refl;
             p_is = connect_taken base far s (own_params base.miu base.window) b.1 w.1 w.0 (some_window base.window f.window.0);
             job_is = j;
-            serves = serves_begun limit table s _ old (record { seats = seats; session = refl; got = got; most = limit_is; offers = offers });
+            serves = serves_begun client_sap limit table s _ old (record { seats = seats; session = refl; got = got; most = limit_is; offers = offers });
           },
         )
 
@@ -203,7 +203,7 @@ module _ (limit : ℕ) (table : List Offer) (names : List Bound) (conv : ℕ →
     cc_part far = Cc client_sap server_sap (own_params far.miu far.window)
 
     pub awaits_given : (base : EndState) (far : PeerState) (s : ServerState) → IsFair base → IsFair far → IsReached names far → job ≡ Begins most bytes
-        → Serves limit table s fresh_session old
+        → Serves client_sap limit table s fresh_session old
         → IsShort (cc_part far) × Joined limit table names conv job (steps_part silent (awaiting base) (cc_part far)) (server_open far (new_numbers base far) s)
     awaits_given base far s f g b j serves =
         let w = says far.miu far.window g.miu g.window in
@@ -234,7 +234,7 @@ module _ (limit : ℕ) (table : List Offer) (names : List Bound) (conv : ℕ →
                 ∙ ap (λ q. client_open base (new_numbers base far) q []) (sym t.queue_is) ∙ ap (λ us. client_open base (new_numbers base far) (c.queue_at t.at) us) (sym t.units_is);
             p_is = refl;
             job_is = j ∙ sym t.job_is;
-            serves = subst (λ x. Serves limit table s x (c.accepted_at t.at)) (sym t.session_is) (subst (λ y. Serves limit table s fresh_session y) (sym t.accepted_is) serves);
+            serves = subst (λ x. Serves client_sap limit table s x (c.accepted_at t.at)) (sym t.session_is) (subst (λ y. Serves client_sap limit table s fresh_session y) (sym t.accepted_is) serves);
           },
         )
 

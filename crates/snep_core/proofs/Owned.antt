@@ -8,7 +8,7 @@ use Rattle.llcp_link.specs.Waning.{pending}
 use Rattle.llcp_link.proofs.Awaited.{here_of, with_same}
 use Rattle.llcp_link.proofs.Submitted.{own_with}
 use Rattle.snep_core.specs.Jobs.{Job, has_byte, told, told_all, told_in, told_on}
-use Rattle.snep_core.specs.Talk.{EndState, client_sap, emptied, emptied_by, finished, heard, heard_so, is_lost, own_of, units_of}
+use Rattle.snep_core.specs.Talk.{EndState, emptied, emptied_by, finished, heard, heard_so, is_lost, own_of, units_of}
 
 is_same : (m n : ℕ) → m ≡ n → (m == n) ≡ true
 is_same m n e = grind (arith, nat_tests)
@@ -46,69 +46,69 @@ without_with h (x ∷ os) o i = go (x.here == h) refl (without_with h os o i)
         ∙ sym (ap (λ b. if b then os else x ∷ without_own h os) t)
 
 -- Units that are taken away one by one, until there is none.
-abbrev taken : EndState → EndState
-taken l = unit_taken_by l (own_of l)
+abbrev taken : ℕ → EndState → EndState
+taken sap l = unit_taken_by l (own_of sap l)
 
-module _ (l : EndState) where
-  none_left : (q : Option OwnState) → own_of l ≡ q → unit_of q ≡ None → (units_of q ≡ []) × (emptied_by l q ≡ l)
+module _ (sap : ℕ) (l : EndState) where
+  none_left : (q : Option OwnState) → own_of sap l ≡ q → unit_of q ≡ None → (units_of q ≡ []) × (emptied_by l q ≡ l)
   none_left None e n = (refl, refl)
   none_left (Some o) e n = go o.units refl n
     where
       go : (us : List (List ℕ)) → o.units ≡ us → first us ≡ None → (o.units ≡ []) × (emptied_by l (Some o) ≡ l)
       go [] k n =
           let same : record o { units = [] } ≡ o = ap (λ (x : List (List ℕ)). record o { units = x }) (sym k) in
-          (k, ap (λ xs. record l { own = xs }) (ap (λ z. with_own z l.own) same ∙ with_same client_sap l.own o e))
+          (k, ap (λ xs. record l { own = xs }) (ap (λ z. with_own z l.own) same ∙ with_same sap l.own o e))
       go (u ∷ us) k n = absurd cc
 
   -- no unit is left, and nothing is to be taken away
-  pub emptied_none : unit_of (own_of l) ≡ None → (units_of (own_of l) ≡ []) × (emptied l client_sap ≡ l)
-  emptied_none n = none_left (own_of l) refl n
+  pub emptied_none : unit_of (own_of sap l) ≡ None → (units_of (own_of sap l) ≡ []) × (emptied l sap ≡ l)
+  emptied_none n = none_left (own_of sap l) refl n
 
-  one_taken : (q : Option OwnState) → own_of l ≡ q → (u : List ℕ) → unit_of q ≡ Some u
-      → (units_of q ≡ u ∷ units_of (own_of (unit_taken_by l q))) × (emptied (unit_taken_by l q) client_sap ≡ emptied_by l q)
-      × (forgotten (unit_taken_by l q) client_sap ≡ forgotten l client_sap)
+  one_taken : (q : Option OwnState) → own_of sap l ≡ q → (u : List ℕ) → unit_of q ≡ Some u
+      → (units_of q ≡ u ∷ units_of (own_of sap (unit_taken_by l q))) × (emptied (unit_taken_by l q) sap ≡ emptied_by l q)
+      × (forgotten (unit_taken_by l q) sap ≡ forgotten l sap)
   one_taken None e u n = absurd cc
   one_taken (Some o) e u n = go o.units refl n
     where
-      here : o.here ≡ client_sap
-      here = here_of client_sap l.own o e
+      here : o.here ≡ sap
+      here = here_of sap l.own o e
 
       go : (us : List (List ℕ)) → o.units ≡ us → first us ≡ Some u
-          → (o.units ≡ u ∷ units_of (own_of (unit_taken_by l (Some o)))) × (emptied (unit_taken_by l (Some o)) client_sap ≡ emptied_by l (Some o))
-          × (forgotten (unit_taken_by l (Some o)) client_sap ≡ forgotten l client_sap)
+          → (o.units ≡ u ∷ units_of (own_of sap (unit_taken_by l (Some o)))) × (emptied (unit_taken_by l (Some o)) sap ≡ emptied_by l (Some o))
+          × (forgotten (unit_taken_by l (Some o)) sap ≡ forgotten l sap)
       go [] k n = absurd cc
       go (v ∷ us) k n =
           let p : OwnState = record o { units = drop 1 o.units } in
-          let there : own_of (unit_taken_by l (Some o)) ≡ Some p = own_with client_sap l.own p o e here in
+          let there : own_of sap (unit_taken_by l (Some o)) ≡ Some p = own_with sap l.own p o e here in
           let v_is : v ≡ u = cc in (
             k ∙ ap (λ z. z ∷ us) v_is ∙ sym (ap (λ z. u ∷ units_of z) there ∙ ap (λ z. u ∷ drop 1 z) k),
             ap (λ z. emptied_by (unit_taken_by l (Some o)) z) there
-                ∙ ap (λ xs. record l { own = xs }) (with_twice client_sap l.own p (record o { units = [] }) here here),
-            ap (λ xs. record l { own = xs }) (without_with client_sap l.own p here),
+                ∙ ap (λ xs. record l { own = xs }) (with_twice sap l.own p (record o { units = [] }) here here),
+            ap (λ xs. record l { own = xs }) (without_with sap l.own p here),
           )
 
   -- one was taken away, and the rest is as it was
-  pub emptied_one : (u : List ℕ) → unit_of (own_of l) ≡ Some u
-      → (units_of (own_of l) ≡ u ∷ units_of (own_of (taken l))) × (emptied (taken l) client_sap ≡ emptied l client_sap)
-      × (forgotten (taken l) client_sap ≡ forgotten l client_sap)
-  emptied_one u n = one_taken (own_of l) refl u n
+  pub emptied_one : (u : List ℕ) → unit_of (own_of sap l) ≡ Some u
+      → (units_of (own_of sap l) ≡ u ∷ units_of (own_of sap (taken sap l))) × (emptied (taken sap l) sap ≡ emptied l sap)
+      × (forgotten (taken sap l) sap ≡ forgotten l sap)
+  emptied_one u n = one_taken (own_of sap l) refl u n
 
-  forgotten_so : (q : Option OwnState) → own_of l ≡ q → forgotten (emptied_by l q) client_sap ≡ forgotten l client_sap
+  forgotten_so : (q : Option OwnState) → own_of sap l ≡ q → forgotten (emptied_by l q) sap ≡ forgotten l sap
   forgotten_so None e = refl
   forgotten_so (Some o) e =
-      ap (λ xs. record l { own = xs }) (without_with client_sap l.own (record o { units = [] }) (here_of client_sap l.own o e))
+      ap (λ xs. record l { own = xs }) (without_with sap l.own (record o { units = [] }) (here_of sap l.own o e))
 
-  pub forgotten_emptied : forgotten (emptied l client_sap) client_sap ≡ forgotten l client_sap
-  forgotten_emptied = forgotten_so (own_of l) refl
+  pub forgotten_emptied : forgotten (emptied l sap) sap ≡ forgotten l sap
+  forgotten_emptied = forgotten_so (own_of sap l) refl
 
-  pending_so : (q : Option OwnState) → own_of l ≡ q → pending (own_of (emptied_by l q)) ≡ pending q
+  pending_so : (q : Option OwnState) → own_of sap l ≡ q → pending (own_of sap (emptied_by l q)) ≡ pending q
   pending_so None e = ap pending e
   pending_so (Some o) e =
-      ap pending (own_with client_sap l.own (record o { units = [] }) o e (here_of client_sap l.own o e))
+      ap pending (own_with sap l.own (record o { units = [] }) o e (here_of sap l.own o e))
 
   -- units that are taken away leave what is still to come
-  pub pending_emptied : pending (own_of (emptied l client_sap)) ≡ pending (own_of l)
-  pending_emptied = pending_so (own_of l) refl
+  pub pending_emptied : pending (own_of sap (emptied l sap)) ≡ pending (own_of sap l)
+  pending_emptied = pending_so (own_of sap l) refl
 
 either_or : (a b c : Bool) → (a || (b || c)) ≡ ((a || b) || c)
 either_or true b c = refl
@@ -124,55 +124,55 @@ told_free job [] = refl
 told_free job (u ∷ us) = refl
 
 -- One unit is heard, and the others are as they were.
-pub record HearsOne (l new : EndState) (job : Job) (u : List ℕ) (some : Bool) : Type 0 where
-  pub units_are : units_of (own_of l) ≡ u ∷ units_of (own_of new)
-  pub told_is : told_all job (units_of (own_of l)) ≡ told_on (told job u) (units_of (own_of new))
-  pub some_is : (some || has_byte (units_of (own_of l))) ≡ ((some || has_byte (u ∷ [])) || has_byte (units_of (own_of new)))
-  pub emptied_is : emptied new client_sap ≡ emptied l client_sap
-  pub forgotten_is : forgotten new client_sap ≡ forgotten l client_sap
-  pub fewer : length (units_of (own_of new)) < length (units_of (own_of l))
+pub record HearsOne (sap : ℕ) (l new : EndState) (job : Job) (u : List ℕ) (some : Bool) : Type 0 where
+  pub units_are : units_of (own_of sap l) ≡ u ∷ units_of (own_of sap new)
+  pub told_is : told_all job (units_of (own_of sap l)) ≡ told_on (told job u) (units_of (own_of sap new))
+  pub some_is : (some || has_byte (units_of (own_of sap l))) ≡ ((some || has_byte (u ∷ [])) || has_byte (units_of (own_of sap new)))
+  pub emptied_is : emptied new sap ≡ emptied l sap
+  pub forgotten_is : forgotten new sap ≡ forgotten l sap
+  pub fewer : length (units_of (own_of sap new)) < length (units_of (own_of sap l))
 
-pub hears_one : (l new : EndState) (job : Job) (u : List ℕ) (some : Bool) → unit_of (own_of l) ≡ Some u → new ≡ unit_taken_by l (own_of l)
-    → HearsOne l new job u some
-hears_one l new job u some e k = subst (λ z. HearsOne l z job u some) (sym k) (record {
+pub hears_one : (sap : ℕ) (l new : EndState) (job : Job) (u : List ℕ) (some : Bool) → unit_of (own_of sap l) ≡ Some u → new ≡ unit_taken_by l (own_of sap l)
+    → HearsOne sap l new job u some
+hears_one sap l new job u some e k = subst (λ z. HearsOne sap l z job u some) (sym k) (record {
   units_are = one.0;
   told_is = ap (told_all job) one.0;
   some_is =
-      ap (λ us. some || has_byte us) one.0 ∙ ap (λ b. some || b) (byte_on u (units_of (own_of (taken l))))
-      ∙ either_or some (has_byte (u ∷ [])) (has_byte (units_of (own_of (taken l))));
+      ap (λ us. some || has_byte us) one.0 ∙ ap (λ b. some || b) (byte_on u (units_of (own_of sap (taken sap l))))
+      ∙ either_or some (has_byte (u ∷ [])) (has_byte (units_of (own_of sap (taken sap l))));
   emptied_is = one.1;
   forgotten_is = one.2;
   fewer = (let n = ap length one.0 in omega arith);
 })
   where
-    one : (units_of (own_of l) ≡ u ∷ units_of (own_of (taken l))) × (emptied (taken l) client_sap ≡ emptied l client_sap)
-        × (forgotten (taken l) client_sap ≡ forgotten l client_sap)
-    one = emptied_one l u e
+    one : (units_of (own_of sap l) ≡ u ∷ units_of (own_of sap (taken sap l))) × (emptied (taken sap l) sap ≡ emptied l sap)
+        × (forgotten (taken sap l) sap ≡ forgotten l sap)
+    one = emptied_one sap l u e
 
-module _ (l new : EndState) (job : Job) (u : List ℕ) (some : Bool) (one : HearsOne l new job u some) where
+module _ (sap : ℕ) (l new : EndState) (job : Job) (u : List ℕ) (some : Bool) (one : HearsOne sap l new job u some) where
   -- the job goes on, and hears the others
   pub hears_on : (waiting : Bool) (next : Job) → waiting ≡ false → told job u ≡ Some next
-      → told_in waiting job (units_of (own_of l)) ≡ told_in waiting next (units_of (own_of new))
+      → told_in waiting job (units_of (own_of sap l)) ≡ told_in waiting next (units_of (own_of sap new))
   hears_on waiting next f e =
-      ap (λ b. told_in b job (units_of (own_of l))) f ∙ told_free job (units_of (own_of l)) ∙ one.told_is
-      ∙ ap (λ o. told_on o (units_of (own_of new))) e ∙ sym (told_free next (units_of (own_of new)))
-      ∙ ap (λ b. told_in b next (units_of (own_of new))) (sym f)
+      ap (λ b. told_in b job (units_of (own_of sap l))) f ∙ told_free job (units_of (own_of sap l)) ∙ one.told_is
+      ∙ ap (λ o. told_on o (units_of (own_of sap new))) e ∙ sym (told_free next (units_of (own_of sap new)))
+      ∙ ap (λ b. told_in b next (units_of (own_of sap new))) (sym f)
 
   -- it puts the far end at fault
-  pub hears_fault : (waiting : Bool) → waiting ≡ false → told job u ≡ None → told_in waiting job (units_of (own_of l)) ≡ None
+  pub hears_fault : (waiting : Bool) → waiting ≡ false → told job u ≡ None → told_in waiting job (units_of (own_of sap l)) ≡ None
   hears_fault waiting f e =
-      ap (λ b. told_in b job (units_of (own_of l))) f ∙ told_free job (units_of (own_of l)) ∙ one.told_is
-      ∙ ap (λ o. told_on o (units_of (own_of new))) e
+      ap (λ b. told_in b job (units_of (own_of sap l))) f ∙ told_free job (units_of (own_of sap l)) ∙ one.told_is
+      ∙ ap (λ o. told_on o (units_of (own_of sap new))) e
 
   -- it came too early
-  pub hears_early : (waiting : Bool) → waiting ≡ true → told_in waiting job (units_of (own_of l)) ≡ None
-  hears_early waiting f = ap (λ b. told_in b job (units_of (own_of l))) f ∙ ap (told_in true job) one.units_are
+  pub hears_early : (waiting : Bool) → waiting ≡ true → told_in waiting job (units_of (own_of sap l)) ≡ None
+  hears_early waiting f = ap (λ b. told_in b job (units_of (own_of sap l))) f ∙ ap (told_in true job) one.units_are
 
 -- the far end refused the connection of a job that needs it, or closed it
-pub lost_so : (waiting : Bool) (l mid new : EndState) (job now : Job) → told_in waiting job (units_of (own_of l)) ≡ Some now → mid ≡ emptied l client_sap
-    → is_lost mid client_sap now ≡ true → new ≡ forgotten mid client_sap → (heard waiting l client_sap job ≡ None) × (new ≡ forgotten l client_sap)
-lost_so waiting l mid new job now t e b f = (
-  ap (heard_so (emptied l client_sap) client_sap) t
-      ∙ ap (λ x. if x then None else Some (finished (emptied l client_sap) client_sap now)) (ap (λ z. is_lost z client_sap now) (sym e) ∙ b),
-  f ∙ ap (λ z. forgotten z client_sap) e ∙ forgotten_emptied l,
+pub lost_so : (sap : ℕ) (waiting : Bool) (l mid new : EndState) (job now : Job) → told_in waiting job (units_of (own_of sap l)) ≡ Some now → mid ≡ emptied l sap
+    → is_lost mid sap now ≡ true → new ≡ forgotten mid sap → (heard waiting l sap job ≡ None) × (new ≡ forgotten l sap)
+lost_so sap waiting l mid new job now t e b f = (
+  ap (heard_so (emptied l sap) sap) t
+      ∙ ap (λ x. if x then None else Some (finished (emptied l sap) sap now)) (ap (λ z. is_lost z sap now) (sym e) ∙ b),
+  f ∙ ap (λ z. forgotten z sap) e ∙ forgotten_emptied sap l,
 )

@@ -68,7 +68,7 @@ again a = omega arith
 -- the client gives
 module _ (l : EndState) (n : Numbers) (units : List (List ℕ)) (mark : IfSome l.last IsSap) where
   abbrev own_at : List (List ℕ) → OwnState
-  own_at queue = opened client_sap server_sap (client_conn n queue) units
+  own_at queue = opened client_sap server_sap (client_conn client_sap n queue) units
 
   elsewhere : (queue : List (List ℕ)) (s : ℕ) → (s == client_sap) ≡ false → informs silent (client_open l n queue units) s ≡ None
   elsewhere queue s e =
@@ -87,31 +87,31 @@ module _ (l : EndState) (n : Numbers) (units : List (List ℕ)) (mark : IfSome l
       (found_at (acknowledges (client_open l n queue units)) client_sap (acks_elsewhere queue) (omega arith) l.last mark)
 
   abbrev ack_conn : List (List ℕ) → ℕ → ConnState
-  ack_conn queue vr = record (client_conn (client_acks n) queue) { vr = vr }
+  ack_conn queue vr = record (client_conn client_sap (client_acks n) queue) { vr = vr }
 
   pub client_unit : (u : List ℕ) (queue : List (List ℕ)) → gave silent (client_open l n (u ∷ queue) units)
       ≡ Some (record { llc = client_open (marked l) (asks n u) queue units; part = asked_part n u })
   client_unit u queue =
       client_gave (u ∷ queue)
-      ∙ ap (λ vr. Some (record { llc = asking_end (marked l) (record (client_conn (asks n u) queue) { vr = vr }) units; part = asked_part n u }))
+      ∙ ap (λ vr. Some (record { llc = asking_end (marked l) (record (client_conn client_sap (asks n u) queue) { vr = vr }) units; part = asked_part n u }))
       (sym (again (n.told_sa + length n.told)))
 
   pub client_ack : (v : List ℕ) (vs : List (List ℕ)) → n.told ≡ v ∷ vs → gave silent (client_open l n [] units)
       ≡ Some (record { llc = client_open (marked l) (client_acks n) [] units; part = Rr server_sap client_sap ((n.told_sa + length n.told) % modulus) })
   client_ack v vs e =
       client_gave []
-      ∙ subst (λ b. or_else (informs silent (asking_end l (record (client_conn n []) { owed = b }) units) client_sap)
-      (acknowledges (asking_end l (record (client_conn n []) { owed = b }) units) client_sap)
-      ≡ Some (record { llc = asking_end (marked l) (record (client_conn (client_acks n) []) { vr = (n.told_sa + length n.told) % modulus }) units; part = Rr server_sap client_sap ((n.told_sa + length n.told) % modulus) }))
+      ∙ subst (λ b. or_else (informs silent (asking_end l (record (client_conn client_sap n []) { owed = b }) units) client_sap)
+      (acknowledges (asking_end l (record (client_conn client_sap n []) { owed = b }) units) client_sap)
+      ≡ Some (record { llc = asking_end (marked l) (record (client_conn client_sap (client_acks n) []) { vr = (n.told_sa + length n.told) % modulus }) units; part = Rr server_sap client_sap ((n.told_sa + length n.told) % modulus) }))
       (sym (ap is_some_of e)) refl
-      ∙ ap (λ vr. Some (record { llc = asking_end (marked l) (record (client_conn (client_acks n) []) { vr = vr }) units; part = Rr server_sap client_sap ((n.told_sa + length n.told) % modulus) }))
+      ∙ ap (λ vr. Some (record { llc = asking_end (marked l) (record (client_conn client_sap (client_acks n) []) { vr = vr }) units; part = Rr server_sap client_sap ((n.told_sa + length n.told) % modulus) }))
       (sym (again (n.told_sa + length n.told)))
 
   pub client_none : n.told ≡ [] → gave silent (client_open l n [] units) ≡ None
   client_none e =
       client_gave []
-      ∙ subst (λ b. or_else (informs silent (asking_end l (record (client_conn n []) { owed = b }) units) client_sap)
-      (acknowledges (asking_end l (record (client_conn n []) { owed = b }) units) client_sap) ≡ None) (sym (ap is_some_of e)) refl
+      ∙ subst (λ b. or_else (informs silent (asking_end l (record (client_conn client_sap n []) { owed = b }) units) client_sap)
+      (acknowledges (asking_end l (record (client_conn client_sap n []) { owed = b }) units) client_sap) ≡ None) (sym (ap is_some_of e)) refl
 
 -- numbers modulo 16
 pub right : (a k : ℕ) → a < 16 → k ≤ 15 → ((a + k) % 16 + 16 - a) % 16 ≡ k
@@ -130,7 +130,7 @@ some_more (x ∷ us) u = refl
 -- the server takes
 module _ {S : Type 0} (m : Serving S) (p : LlcState S) (n : Numbers) (s : S) (sa : n.told_sa < 16) (few : length n.told ≤ 15) where
   pub server_takes : (u : List ℕ) → length u ≤ n.server_miu
-      → steps_part m (serving_end p (server_conn n) s) (asked_part n u) ≡ serving_end p (server_conn (asks n u)) (m.brought s client_sap u)
+      → steps_part m (serving_end p (server_conn client_sap n) s) (asked_part n u) ≡ serving_end p (server_conn client_sap (asks n u)) (m.brought s client_sap u)
   server_takes u fits =
       rw (
         not_lt n.server_miu (length u) fits,
@@ -143,8 +143,8 @@ module _ {S : Type 0} (m : Serving S) (p : LlcState S) (n : Numbers) (s : S) (sa
         some_more n.asked u,
       ) refl
 
-  pub server_hears : steps_part m (serving_end p (server_conn n) s) (Rr server_sap client_sap ((n.told_sa + length n.told) % modulus))
-      ≡ serving_end p (server_conn (client_acks n)) s
+  pub server_hears : steps_part m (serving_end p (server_conn client_sap n) s) (Rr server_sap client_sap ((n.told_sa + length n.told) % modulus))
+      ≡ serving_end p (server_conn client_sap (client_acks n)) s
   server_hears =
       rw (
         right n.told_sa (length n.told) sa few,
@@ -155,7 +155,7 @@ module _ {S : Type 0} (m : Serving S) (p : LlcState S) (n : Numbers) (s : S) (sa
 -- the client takes
 module _ (l : EndState) (n : Numbers) (units : List (List ℕ)) (sa : n.asked_sa < 16) (few : length n.asked ≤ 15) where
   pub client_takes : (queue : List (List ℕ)) (v : List ℕ) → length v ≤ n.client_miu
-      → steps_part silent (asking_end l (client_conn n queue) units) (told_part n v) ≡ asking_end l (client_conn (tells n v) queue) (units ++ v ∷ [])
+      → steps_part silent (asking_end l (client_conn client_sap n queue) units) (told_part n v) ≡ asking_end l (client_conn client_sap (tells n v) queue) (units ++ v ∷ [])
   client_takes queue v fits =
       rw (
         not_lt n.client_miu (length v) fits,
@@ -168,8 +168,8 @@ module _ (l : EndState) (n : Numbers) (units : List (List ℕ)) (sa : n.asked_sa
         some_more n.told v,
       ) refl
 
-  pub client_hears : (queue : List (List ℕ)) → steps_part silent (asking_end l (client_conn n queue) units) (Rr client_sap server_sap ((n.asked_sa + length n.asked) % modulus))
-      ≡ asking_end l (client_conn (server_acks n) queue) units
+  pub client_hears : (queue : List (List ℕ)) → steps_part silent (asking_end l (client_conn client_sap n queue) units) (Rr client_sap server_sap ((n.asked_sa + length n.asked) % modulus))
+      ≡ asking_end l (client_conn client_sap (server_acks n) queue) units
   client_hears queue =
       rw (
         right n.asked_sa (length n.asked) sa few,
@@ -180,13 +180,13 @@ module _ (l : EndState) (n : Numbers) (units : List (List ℕ)) (sa : n.asked_sa
 -- the server gives
 module _ {S : Type 0} (m : Serving S) (p : LlcState S) (n : Numbers) (s : S) (mark : IfSome p.last IsSap) where
   abbrev peer : LlcState S
-  peer = serving_end p (server_conn n) s
+  peer = serving_end p (server_conn client_sap n) s
 
   served_elsewhere : (e : ℕ) → (e == client_sap) ≡ false → informs m peer e ≡ None
-  served_elsewhere e t = ap (λ b. or_else (informs_served m peer (if b then Some (server_conn n) else None)) None) (flip e t)
+  served_elsewhere e t = ap (λ b. or_else (informs_served m peer (if b then Some (server_conn client_sap n) else None)) None) (flip e t)
 
   served_acks_elsewhere : (e : ℕ) → (e == client_sap) ≡ false → acknowledges peer e ≡ None
-  served_acks_elsewhere e t = ap (λ b. or_else (acknowledges_served peer (if b then Some (server_conn n) else None)) None) (flip e t)
+  served_acks_elsewhere e t = ap (λ b. or_else (acknowledges_served peer (if b then Some (server_conn client_sap n) else None)) None) (flip e t)
 
   server_gave : gave m peer ≡ or_else (informs m peer client_sap) (acknowledges peer client_sap)
   server_gave =
@@ -194,11 +194,11 @@ module _ {S : Type 0} (m : Serving S) (p : LlcState S) (n : Numbers) (s : S) (ma
       ∙ ap (λ o. or_else (informs m peer client_sap) o) (found_at (acknowledges peer) client_sap served_acks_elsewhere (omega arith) p.last mark)
 
   pub server_unit : (v : List ℕ) → m.due s client_sap n.client_miu ≡ Some v → nat_lt (length n.told + 0) n.client_window ≡ true
-      → gave m peer ≡ Some (record { llc = serving_end (marked p) (server_conn (tells n v)) (m.sent s client_sap n.client_miu); part = told_part n v })
+      → gave m peer ≡ Some (record { llc = serving_end (marked p) (server_conn client_sap (tells n v)) (m.sent s client_sap n.client_miu); part = told_part n v })
   server_unit v e room =
       server_gave
       ∙ rw (room, e) refl
-      ∙ ap (λ vr. Some (record { llc = serving_end (marked p) (record (server_conn (tells n v)) { vr = vr }) (m.sent s client_sap n.client_miu); part = told_part n v }))
+      ∙ ap (λ vr. Some (record { llc = serving_end (marked p) (record (server_conn client_sap (tells n v)) { vr = vr }) (m.sent s client_sap n.client_miu); part = told_part n v }))
       (sym (again (n.asked_sa + length n.asked)))
 
   -- nothing is to be sent, or the window is full
@@ -206,27 +206,27 @@ module _ {S : Type 0} (m : Serving S) (p : LlcState S) (n : Numbers) (s : S) (ma
   Rests = (m.due s client_sap n.client_miu ≡ None) ⊎ (nat_lt (length n.told + 0) n.client_window ≡ false)
 
   rests_none : Rests → informs m peer client_sap ≡ None
-  rests_none (inl e) = go (nat_lt (length n.told + 0) n.client_window) (ap (λ o. sends m peer (server_conn n) o) e)
+  rests_none (inl e) = go (nat_lt (length n.told + 0) n.client_window) (ap (λ o. sends m peer (server_conn client_sap n) o) e)
     where
-      go : (b : Bool) → sends m peer (server_conn n) (m.due s client_sap n.client_miu) ≡ None
-          → or_else (if b then sends m peer (server_conn n) (m.due s client_sap n.client_miu) else None) None ≡ None
+      go : (b : Bool) → sends m peer (server_conn client_sap n) (m.due s client_sap n.client_miu) ≡ None
+          → or_else (if b then sends m peer (server_conn client_sap n) (m.due s client_sap n.client_miu) else None) None ≡ None
       go true k = ap (λ o. or_else o None) k
       go false k = refl
-  rests_none (inr e) = ap (λ b. or_else (if b then sends m peer (server_conn n) (m.due s client_sap n.client_miu) else None) None) e
+  rests_none (inr e) = ap (λ b. or_else (if b then sends m peer (server_conn client_sap n) (m.due s client_sap n.client_miu) else None) None) e
 
   pub server_ack : Rests → (u : List ℕ) (us : List (List ℕ)) → n.asked ≡ u ∷ us → gave m peer
-      ≡ Some (record { llc = serving_end (marked p) (server_conn (server_acks n)) s; part = Rr client_sap server_sap ((n.asked_sa + length n.asked) % modulus) })
+      ≡ Some (record { llc = serving_end (marked p) (server_conn client_sap (server_acks n)) s; part = Rr client_sap server_sap ((n.asked_sa + length n.asked) % modulus) })
   server_ack r u us e =
       server_gave
       ∙ ap (λ o. or_else o (acknowledges peer client_sap)) (rests_none r)
-      ∙ subst (λ b. acknowledges (serving_end p (record (server_conn n) { owed = b }) s) client_sap
-      ≡ Some (record { llc = serving_end (marked p) (record (server_conn (server_acks n)) { vr = (n.asked_sa + length n.asked) % modulus }) s; part = Rr client_sap server_sap ((n.asked_sa + length n.asked) % modulus) }))
+      ∙ subst (λ b. acknowledges (serving_end p (record (server_conn client_sap n) { owed = b }) s) client_sap
+      ≡ Some (record { llc = serving_end (marked p) (record (server_conn client_sap (server_acks n)) { vr = (n.asked_sa + length n.asked) % modulus }) s; part = Rr client_sap server_sap ((n.asked_sa + length n.asked) % modulus) }))
       (sym (ap is_some_of e)) refl
-      ∙ ap (λ vr. Some (record { llc = serving_end (marked p) (record (server_conn (server_acks n)) { vr = vr }) s; part = Rr client_sap server_sap ((n.asked_sa + length n.asked) % modulus) }))
+      ∙ ap (λ vr. Some (record { llc = serving_end (marked p) (record (server_conn client_sap (server_acks n)) { vr = vr }) s; part = Rr client_sap server_sap ((n.asked_sa + length n.asked) % modulus) }))
       (sym (again (n.asked_sa + length n.asked)))
 
   pub server_none : Rests → n.asked ≡ [] → gave m peer ≡ None
   server_none r e =
       server_gave
       ∙ ap (λ o. or_else o (acknowledges peer client_sap)) (rests_none r)
-      ∙ subst (λ b. acknowledges (serving_end p (record (server_conn n) { owed = b }) s) client_sap ≡ None) (sym (ap is_some_of e)) refl
+      ∙ subst (λ b. acknowledges (serving_end p (record (server_conn client_sap n) { owed = b }) s) client_sap ≡ None) (sym (ap is_some_of e)) refl

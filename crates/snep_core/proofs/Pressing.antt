@@ -58,12 +58,12 @@ module _ (limit : ℕ) (table : List Offer) (names : List Bound) (conv : ℕ →
   abbrev J : EndState → PeerState → Type 0
   J l p = Joined limit table names conv job l p
 
-  laws_of : {l : EndState} → {p : PeerState} → (h : J l p) → Converses limit table (conv h.n.server_miu h.n.client_miu) h.n.server_miu h.n.client_miu
+  laws_of : {l : EndState} → {p : PeerState} → (h : J l p) → Converses client_sap limit table (conv h.n.server_miu h.n.client_miu) h.n.server_miu h.n.client_miu
   laws_of h = keeps.laws h.n.server_miu h.n.client_miu h.paired.server_miu h.paired.client_miu
 
   -- the server has a unit to give
   abbrev pub HasAnswer : {l : EndState} → {p : PeerState} → J l p → Type 0
-  HasAnswer h = Tells limit table (conv h.n.server_miu h.n.client_miu) h.n.client_miu h.phase h.service
+  HasAnswer h = Tells client_sap limit table (conv h.n.server_miu h.n.client_miu) h.n.client_miu h.phase h.service
 
   -- The client is ready: where it is to give nothing, and nothing of it is unacknowledged, the server has an answer.
   pub record IsReady (l : EndState) (p : PeerState) : Type 0 where
@@ -225,8 +225,8 @@ module _ (limit : ℕ) (table : List Offer) (names : List Bound) (conv : ℕ →
   -- A reply was taken, and gave something.
   pub record Answered (before after : EndState) (q : PeerState) : Type 0 where
     pub joined : J after q
-    pub gave_some : (gave_something (own_of before) (own_of after) || has_byte (units_of (own_of after))) ≡ true
-    pub waiting : has_waiting_of (own_of before) ≡ true → is_some (first_in ((conv joined.n.server_miu joined.n.client_miu).queue_at joined.phase)) ≡ true
+    pub gave_some : (gave_something (own_of client_sap before) (own_of client_sap after) || has_byte (units_of (own_of client_sap after))) ≡ true
+    pub waiting : has_waiting_of (own_of client_sap before) ≡ true → is_some (first_in ((conv joined.n.server_miu joined.n.client_miu).queue_at joined.phase)) ≡ true
 
   module _ (l : EndState) (p : PeerState) (k : ℕ) where
     abbrev after : EndState
@@ -246,15 +246,15 @@ module _ (limit : ℕ) (table : List Offer) (names : List Bound) (conv : ℕ →
         record {
           joined = m.joined;
           gave_some = seen h queue m;
-          waiting = λ e. ap (λ z. is_some (first_in z)) m.queue_is ∙ sym (ap (λ z. has_waiting_of (own_of z)) h.l_is) ∙ e;
+          waiting = λ e. ap (λ z. is_some (first_in z)) m.queue_is ∙ sym (ap (λ z. has_waiting_of (own_of client_sap z)) h.l_is) ∙ e;
         }
       where
-        seen : (h : J l p) (queue : List (List ℕ)) (m : Moved h.n.asked_count queue after q_) → (gave_something (own_of l) (own_of after) || has_byte (units_of (own_of after))) ≡ true
+        seen : (h : J l p) (queue : List (List ℕ)) (m : Moved h.n.asked_count queue after q_) → (gave_something (own_of client_sap l) (own_of client_sap after) || has_byte (units_of (own_of client_sap after))) ≡ true
         seen h queue m =
             let g = m.joined in
             let units = (conv g.n.server_miu g.n.client_miu).units_at g.phase in
-            ap (λ z. gave_something (own_of z) (own_of after) || has_byte (units_of (own_of after))) h.l_is
-            ∙ ap (λ z. gave_something (own_of (joined_client limit table names conv most bytes old h)) (own_of z) || has_byte (units_of (own_of z))) g.l_is
+            ap (λ z. gave_something (own_of client_sap z) (own_of client_sap after) || has_byte (units_of (own_of client_sap after))) h.l_is
+            ∙ ap (λ z. gave_something (own_of client_sap (joined_client limit table names conv most bytes old h)) (own_of client_sap z) || has_byte (units_of (own_of client_sap z))) g.l_is
             ∙ by_moved g.n.asked_count h.n.asked_count g.n.asked units m.moved
 
     awaits_answers : Awaits limit table names conv most bytes old job l p → Answered l after q_
@@ -268,9 +268,9 @@ module _ (limit : ℕ) (table : List Offer) (names : List Bound) (conv : ℕ →
         let g = handed_first serving silent (λ q e. J e q) joined_hop k p l s r first in record {
           joined = g;
           gave_some =
-              ap (λ z. gave_something (own_of z) (own_of after) || has_byte (units_of (own_of after))) w.l_is
-              ∙ ap (λ z. gave_something (own_of (awaiting w.base)) (own_of z) || has_byte (units_of (own_of z))) g.l_is;
-          waiting = λ e. (let none : false ≡ true = sym (ap (λ z. has_waiting_of (own_of z)) w.l_is) ∙ e in absurd cc);
+              ap (λ z. gave_something (own_of client_sap z) (own_of client_sap after) || has_byte (units_of (own_of client_sap after))) w.l_is
+              ∙ ap (λ z. gave_something (own_of client_sap (awaiting w.base)) (own_of client_sap z) || has_byte (units_of (own_of client_sap z))) g.l_is;
+          waiting = λ e. (let none : false ≡ true = sym (ap (λ z. has_waiting_of (own_of client_sap z)) w.l_is) ∙ e in absurd cc);
         }
 
     pub answers : Presses l p → Answered l after q_

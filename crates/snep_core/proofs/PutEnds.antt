@@ -9,7 +9,7 @@ use Rattle.snep_core.specs.declared.job.Refusal.TheVariants as refusals
 use Rattle.snep_core.specs.Accord.{Accords, AddsAtMost, IsPeer, IsTaken, PeerState, PutFails, from_client}
 use Rattle.snep_core.specs.Calling.{RequestFails, Talks, fault_of, refused_by}
 use Rattle.snep_core.specs.Jobs.{Done, Over, Refused}
-use Rattle.snep_core.specs.Talk.{EndState, Ends, Puts, alone, begins}
+use Rattle.snep_core.specs.Talk.{EndState, Ends, Puts, alone, begins, client_sap}
 use Rattle.snep_core.proofs.PutPhases.{ask, is_read, put_outcome}
 use Rattle.snep_core.proofs.RequestEnds.{Ended, Failed, Fate, request_ended, request_failed}
 use Rattle.snep_core.proofs.RequestPhases.{IsRead, Outcome}
@@ -18,8 +18,8 @@ module _ (m : List ℕ) (p : PeerState) (short : length m < 2 ^ 32) where
   abbrev read : IsRead p.service.limit (ask m)
   read = is_read p.service.limit m short
 
-  abbrev outcome : Outcome p.service.limit p.service.table (ask m) p.service.accepted Done (p.service.accepted ++ from_client m ∷ [])
-  outcome = put_outcome p.service.limit p.service.table m p.service.accepted
+  abbrev outcome : Outcome client_sap p.service.limit p.service.table (ask m) p.service.accepted Done (p.service.accepted ++ from_client m ∷ [])
+  outcome = put_outcome client_sap p.service.limit p.service.table m p.service.accepted
 
   module _ (l : EndState) (q : PeerState) where
     taken_at : Ended (ask m) p read outcome Done l q → IsTaken m p l q

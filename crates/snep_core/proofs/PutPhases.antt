@@ -4,7 +4,6 @@ use Rattle.std.proofs.lemmas.Bool.{eq-eqb, le-ltb, lt-ltb}
 use Rattle.std.proofs.lemmas.Bool.Decides.{nat_tests}
 use Rattle.snep_core.specs.declared.message.Answer.TheVariants as answers
 use Rattle.snep_core.specs.declared.message.Request.TheVariants.{Put}
-use Rattle.snep_core.specs.Accord.{from_client}
 use Rattle.snep_core.specs.Jobs.{Done}
 use Rattle.snep_core.specs.Message.{put_code}
 use Rattle.snep_core.specs.Server.{Received}
@@ -27,5 +26,5 @@ is_read limit m short = record {
 }
 
 -- its message is accepted, once, and its client is told so
-pub put_outcome : (limit : ℕ) (table : List Offer) (m : List ℕ) (old : List Received) → Outcome limit table (ask m) old Done (old ++ from_client m ∷ [])
-put_outcome limit table m old = answered limit (ask m) answers.Success Done (old ++ from_client m ∷ []) refl refl table old (Some m) (λ g. refl) refl
+pub put_outcome : (sap limit : ℕ) (table : List Offer) (m : List ℕ) (old : List Received) → Outcome sap limit table (ask m) old Done (old ++ record { source = sap; message = m } ∷ [])
+put_outcome sap limit table m old = answered limit (ask m) answers.Success Done (old ++ record { source = sap; message = m } ∷ []) sap refl refl table old (Some m) (λ g. refl) refl

@@ -3,6 +3,7 @@ use Rattle.std.proofs.Common.{◌≡◌, ◌<◌, ◌≤◌, ◌⊎◌, nat_lt, 
 use Rattle.std.specs.List.{concat}
 use Rattle.std.proofs.lemmas.Bool.{le-ltb, ltb-false, ltb-true}
 use Rattle.llcp_conn.specs.declared.fault.ConnFault.TheVariants.{TooLong, WindowFull}
+use Rattle.llcp_link.specs.State.{OwnState}
 use Rattle.llcp_link.specs.declared.standing.Standing.TheVariants as stands
 use Rattle.llcp_link.proofs.Ranged.{either}
 use Rattle.std.proofs.lemmas.List.{drop_all, length-drop, length-take, nil_from_length, take-append-drop, take_all}
@@ -14,13 +15,14 @@ use Rattle.snep_core.specs.declared.session.Word.TheVariants.{Answers}
 use Rattle.snep_core.specs.declared.job.Refusal.TheVariants as refusals
 use Rattle.snep_core.specs.Cuts.{NoneEmpty}
 use Rattle.snep_core.specs.First.{info_of}
-use Rattle.snep_core.specs.Accord.{IsPaired, Numbers, client_open}
+use Rattle.snep_core.specs.Accord.{IsPaired, Numbers}
 use Rattle.snep_core.specs.Jobs.{Begins, Over, Refused, Sends, told_all}
 use Rattle.snep_core.specs.Message.{message}
 use Rattle.snep_core.specs.Server.{Received, ServerState, serving}
 use Rattle.snep_core.specs.Session.{Offer, Sent, Session, fresh_session, sent}
-use Rattle.snep_core.specs.Talk.{EndState, Ready, begins_on, behind_first, client_sap, finished, is_over, miu_of, readied, ready_so, sends_on, sends_some, submits, takes_more}
+use Rattle.snep_core.specs.Talk.{EndState, behind_first, finished, is_over, miu_of}
 use Rattle.snep_core.proofs.Conversations.{AllWithin, Comes, Conversation, Converses, Hears, MayTell, Readies, StandsAt, Starts, Tells, hears_nothing, no_unit, stays}
+use Rattle.snep_core.proofs.OnConnection.{OnIt, begin_on, conn_at, on_so, readied_on, sent_on, some_on, submits_on, takes_on}
 use Rattle.snep_core.proofs.Served.{Serves, due_is, serves_sent}
 use Rattle.snep_core.proofs.RequestPhases.{Asked, Came, ContinueHeard, Continues, IsRead, Phase, Refusing, Rejected, RefusalHeard, Sending, Unsent, Submitted, Whole, Holds, accepted_at, begun_info, bytes_of, conversation, first_comes, first_unit, gathering, job_at, later_comes, queue_at, rest_units, session_at, units_at}
 
@@ -46,12 +48,12 @@ within_more : (miu : ℕ) (us : List (List ℕ)) (u : List ℕ) → AllWithin mi
 within_more miu [] u h k = (k, tt)
 within_more miu (x ∷ us) u h k = (h.0, within_more miu us u h.1 k)
 
-pub behind_plain : (l : EndState) (most : Option ℕ) (rest : List ℕ) → finished l client_sap (behind_first most rest) ≡ behind_first most rest
-behind_plain l most [] = refl
-behind_plain l most (b ∷ bs) = refl
+pub behind_plain : (sap : ℕ) (l : EndState) (most : Option ℕ) (rest : List ℕ) → finished l sap (behind_first most rest) ≡ behind_first most rest
+behind_plain sap l most [] = refl
+behind_plain sap l most (b ∷ bs) = refl
 
-module _ (l : EndState) (n : Numbers) where
-  pub takes_room : (queue units : List (List ℕ)) (u : List ℕ) → takes_more (client_open l n queue units) client_sap u ≡ true → length n.asked + length queue < n.server_window
+module _ (sap : ℕ) (n : Numbers) where
+  pub takes_room : (queue units : List (List ℕ)) (u : List ℕ) → takes_on (conn_at sap n queue units) u ≡ true → length n.asked + length queue < n.server_window
   takes_room queue units u e =
       ltb-true (length n.asked + length queue) n.server_window
       (room_by (nat_lt n.server_miu (length u)) (nat_lt (length n.asked + length queue) n.server_window) e)
@@ -62,7 +64,7 @@ module _ (l : EndState) (n : Numbers) where
   full_by false true i h = absurd cc
   full_by false false i h = refl
 
-  pub no_room : (queue units : List (List ℕ)) (u : List ℕ) → length u ≤ n.server_miu → takes_more (client_open l n queue units) client_sap u ≡ false → n.server_window ≤ length n.asked + length queue
+  pub no_room : (queue units : List (List ℕ)) (u : List ℕ) → length u ≤ n.server_miu → takes_on (conn_at sap n queue units) u ≡ false → n.server_window ≤ length n.asked + length queue
   no_room queue units u i e =
       ltb-false (length n.asked + length queue) n.server_window
       (full_by (nat_lt n.server_miu (length u)) (nat_lt (length n.asked + length queue) n.server_window) (le-ltb n.server_miu (length u) i) e)
@@ -87,9 +89,9 @@ module _ (l : EndState) (n : Numbers) where
       let y : length n.asked ≡ 0 = ap length a in omega arith
 
   pub behind_stays : (most : Option ℕ) (miu : ℕ) → n.server_miu ≡ miu → (queue units : List (List ℕ)) (rest : List ℕ) → 0 < miu
-      → readied (client_open l n queue units) client_sap (behind_first most rest) ≡ ready_so (client_open l n queue units) (behind_first most rest)
+      → readied_on (conn_at sap n queue units) (behind_first most rest) ≡ on_so (conn_at sap n queue units) (behind_first most rest)
   behind_stays most miu is queue units [] h =
-      ap (sends_on (client_open l n queue units) client_sap most []) (ap (λ z. miu_of (stands.Open z)) is ∙ miu_some miu h)
+      ap (sent_on (conn_at sap n queue units) most []) (ap (λ z. miu_of (stands.Open z)) is ∙ miu_some miu h)
   behind_stays most miu is queue units (b ∷ bs) h = refl
 
 -- a session that is idle but for what is gathered
@@ -110,18 +112,18 @@ module _ (miu : ℕ) (range : IsMiu miu) where
       ∙ ap (λ z. record { session = rested x; unit = Some z }) (take_all miu (message a []) (six_fit a six))
 
 -- what a server says at a phase of any conversation
-module _ (size limit : ℕ) (table : List Offer) (c : Conversation) where
-  pub quiet : (ph : c.Phase) (s : ServerState) → StandsAt limit table c ph s → (z : Sent) → sent size (c.session_at ph) ≡ z → z.unit ≡ None → MayTell limit table c size ph s
-  quiet ph s h z e n = inl (due_is limit table s (c.session_at ph) (c.accepted_at ph) h size z e ∙ n)
+module _ (sap size limit : ℕ) (table : List Offer) (c : Conversation) where
+  pub quiet : (ph : c.Phase) (s : ServerState) → StandsAt sap limit table c ph s → (z : Sent) → sent size (c.session_at ph) ≡ z → z.unit ≡ None → MayTell sap limit table c size ph s
+  quiet ph s h z e n = inl (due_is sap limit table s (c.session_at ph) (c.accepted_at ph) h size z e ∙ n)
 
   pub says : IsMiu size → (ph to : c.Phase) (a : Answer) → length (message a []) ≡ 6 → (c.session_at ph).going ≡ [] → (c.session_at ph).due ≡ Tells_ (Answers a) ∷ []
       → rested (c.session_at ph) ≡ c.session_at to → c.accepted_at to ≡ c.accepted_at ph → c.Holds to → c.job_at to ≡ c.job_at ph → c.queue_at to ≡ c.queue_at ph
-      → c.units_at to ≡ c.units_at ph ++ message a [] ∷ [] → (s : ServerState) → StandsAt limit table c ph s → Tells limit table c size ph s
+      → c.units_at to ≡ c.units_at ph ++ message a [] ∷ [] → (s : ServerState) → StandsAt sap limit table c ph s → Tells sap limit table c size ph s
   says fits ph to a six g d r same k j q u s h =
       let z : Sent = record { session = rested (c.session_at ph); unit = Some (message a []) } in
       let e : sent size (c.session_at ph) ≡ z = answer_sent size fits (c.session_at ph) a six g d in record {
         unit = message a [];
-        due = due_is limit table s (c.session_at ph) (c.accepted_at ph) h size z e;
+        due = due_is sap limit table s (c.session_at ph) (c.accepted_at ph) h size z e;
         short = six_fit size fits a six;
         some = omega arith;
         to = to;
@@ -129,19 +131,19 @@ module _ (size limit : ℕ) (table : List Offer) (c : Conversation) where
         job = j;
         queue_is = q;
         units_is = u;
-        serves = subst (λ x. Serves limit table (serving.sent s client_sap size) x (c.accepted_at to)) r
-            (subst (λ y. Serves limit table (serving.sent s client_sap size) (rested (c.session_at ph)) y) (sym same) (serves_sent limit table s (c.session_at ph) (c.accepted_at ph) h size z e));
+        serves = subst (λ x. Serves sap limit table (serving.sent s sap size) x (c.accepted_at to)) r
+            (subst (λ y. Serves sap limit table (serving.sent s sap size) (rested (c.session_at ph)) y) (sym same) (serves_sent sap limit table s (c.session_at ph) (c.accepted_at ph) h size z e));
       }
 
-module _ (miu size limit : ℕ) (table : List Offer) (ask : Asked) (old : List Received) (later : Conversation) (laws : Converses limit table later miu size) where
+module _ (sap miu size limit : ℕ) (table : List Offer) (ask : Asked) (old : List Received) (later : Conversation) (laws : Converses sap limit table later miu size) where
   abbrev Here_ : Type 0
   Here_ = Phase later.Phase
 
   abbrev Stands : Here_ → ServerState → Type 0
-  Stands ph s = StandsAt limit table (conversation miu limit table ask old later) ph s
+  Stands ph s = StandsAt sap limit table (conversation miu limit table ask old later) ph s
 
   abbrev May : Here_ → ServerState → Type 0
-  May ph s = MayTell limit table (conversation miu limit table ask old later) size ph s
+  May ph s = MayTell sap limit table (conversation miu limit table ask old later) size ph s
 
   abbrev at : Here_ → Session
   at ph = session_at miu limit table ask old later ph
@@ -153,10 +155,10 @@ module _ (miu size limit : ℕ) (table : List Offer) (ask : Asked) (old : List R
   conv = conversation miu limit table ask old later
 
   -- what came of it goes on as it does by itself
-  comes_later : (ph : later.Phase) (queue units : List (List ℕ)) (s : ServerState) → Comes limit table later ph queue units s → Comes limit table conv (Came ph) queue units s
+  comes_later : (ph : later.Phase) (queue units : List (List ℕ)) (s : ServerState) → Comes sap limit table later ph queue units s → Comes sap limit table conv (Came ph) queue units s
   comes_later ph queue units s x = record { to = Came x.to; holds = x.holds; job = x.job; queue_is = x.queue_is; units_is = x.units_is; serves = x.serves }
 
-  tells_later : (ph : later.Phase) (s : ServerState) → Tells limit table later size ph s → Tells limit table conv size (Came ph) s
+  tells_later : (ph : later.Phase) (s : ServerState) → Tells sap limit table later size ph s → Tells sap limit table conv size (Came ph) s
   tells_later ph s x = record {
     unit = x.unit;
     due = x.due;
@@ -170,11 +172,11 @@ module _ (miu size limit : ℕ) (table : List Offer) (ask : Asked) (old : List R
     serves = x.serves;
   }
 
-  may_later : (ph : later.Phase) (s : ServerState) → MayTell limit table later size ph s → MayTell limit table conv size (Came ph) s
+  may_later : (ph : later.Phase) (s : ServerState) → MayTell sap limit table later size ph s → MayTell sap limit table conv size (Came ph) s
   may_later ph s (inl e) = inl e
   may_later ph s (inr x) = inr (tells_later ph s x)
 
-  hears_later : (ph : later.Phase) → Hears limit table later ph → Hears limit table conv (Came ph)
+  hears_later : (ph : later.Phase) → Hears sap limit table later ph → Hears sap limit table conv (Came ph)
   hears_later ph x = record {
     to = Came x.to;
     holds = x.holds;
@@ -186,8 +188,8 @@ module _ (miu size limit : ℕ) (table : List Offer) (ask : Asked) (old : List R
     accepted_is = x.accepted_is;
   }
 
-  readies_later : (l : EndState) (n : Numbers) (ph : later.Phase) → Readies limit table later size l n ph → Readies limit table conv size l n (Came ph)
-  readies_later l n ph x = record {
+  readies_later : (n : Numbers) (ph : later.Phase) → Readies sap limit table later size n ph → Readies sap limit table conv size n (Came ph)
+  readies_later n ph x = record {
     to = Came x.to;
     holds = x.holds;
     paired = x.paired;
@@ -199,18 +201,18 @@ module _ (miu size limit : ℕ) (table : List Offer) (ask : Asked) (old : List R
 
   module _ (fits : IsMiu size) where
     request_tells : (ph : Here_) → Holds miu limit table ask old later ph → (s : ServerState) → Stands ph s → May ph s
-    request_tells Unsent k s h = quiet size limit table conv Unsent s h (sent size fresh_session) refl refl
-    request_tells Submitted k s h = quiet size limit table conv Submitted s h (sent size fresh_session) refl refl
-    request_tells RefusalHeard k s h = quiet size limit table conv RefusalHeard s h (sent size fresh_session) refl refl
-    request_tells ContinueHeard k s h = quiet size limit table conv ContinueHeard s h (sent size (at ContinueHeard)) refl refl
-    request_tells (Sending info queue rest) k s h = quiet size limit table conv (Sending info queue rest) s h (sent size (at (Sending info queue rest))) refl refl
-    request_tells Rejected k s h = quiet size limit table conv Rejected s h (sent size fresh_session) refl refl
-    request_tells Refusing k s h = inr (says size limit table conv fits Refusing RefusalHeard answers.Reject refl refl refl refl refl k refl refl refl s h)
+    request_tells Unsent k s h = quiet sap size limit table conv Unsent s h (sent size fresh_session) refl refl
+    request_tells Submitted k s h = quiet sap size limit table conv Submitted s h (sent size fresh_session) refl refl
+    request_tells RefusalHeard k s h = quiet sap size limit table conv RefusalHeard s h (sent size fresh_session) refl refl
+    request_tells ContinueHeard k s h = quiet sap size limit table conv ContinueHeard s h (sent size (at ContinueHeard)) refl refl
+    request_tells (Sending info queue rest) k s h = quiet sap size limit table conv (Sending info queue rest) s h (sent size (at (Sending info queue rest))) refl refl
+    request_tells Rejected k s h = quiet sap size limit table conv Rejected s h (sent size fresh_session) refl refl
+    request_tells Refusing k s h = inr (says sap size limit table conv fits Refusing RefusalHeard answers.Reject refl refl refl refl refl k refl refl refl s h)
     request_tells (Came ph) k s h = may_later ph s (laws.tells ph k s h)
-    request_tells Continues k s h = inr (says size limit table conv fits Continues ContinueHeard answers.Continue refl refl refl refl refl k refl refl refl s h)
+    request_tells Continues k s h = inr (says sap size limit table conv fits Continues ContinueHeard answers.Continue refl refl refl refl refl k refl refl refl s h)
 
   abbrev Heard_ : Here_ → Type 0
-  Heard_ ph = Hears limit table (conversation miu limit table ask old later) ph
+  Heard_ ph = Hears sap limit table (conversation miu limit table ask old later) ph
 
   refused_by : (rest : List ℕ) → told_all (behind_first ask.most rest) (message answers.Reject [] ∷ []) ≡ Some (Over (Refused refusals.Reject))
   refused_by [] = refl
@@ -220,14 +222,14 @@ module _ (miu size limit : ℕ) (table : List Offer) (ask : Asked) (old : List R
   continued_by [] h = absurd (omega arith)
   continued_by (b ∷ bs) h = refl
 
-  module _ (w : Whole miu limit table ask old later) (range : IsMiu miu) (read : IsRead limit ask) where
+  module _ (w : Whole miu limit table ask old later sap) (range : IsMiu miu) (read : IsRead limit ask) where
     request_hears : (ph : Here_) → Holds miu limit table ask old later ph → Heard_ ph
-    request_hears Unsent k = hears_nothing limit table conv Unsent k refl
-    request_hears Submitted k = hears_nothing limit table conv Submitted k refl
-    request_hears Refusing k = hears_nothing limit table conv Refusing k refl
-    request_hears Continues k = hears_nothing limit table conv Continues k refl
-    request_hears (Sending info queue rest) k = hears_nothing limit table conv (Sending info queue rest) k refl
-    request_hears Rejected k = hears_nothing limit table conv Rejected k refl
+    request_hears Unsent k = hears_nothing sap limit table conv Unsent k refl
+    request_hears Submitted k = hears_nothing sap limit table conv Submitted k refl
+    request_hears Refusing k = hears_nothing sap limit table conv Refusing k refl
+    request_hears Continues k = hears_nothing sap limit table conv Continues k refl
+    request_hears (Sending info queue rest) k = hears_nothing sap limit table conv (Sending info queue rest) k refl
+    request_hears Rejected k = hears_nothing sap limit table conv Rejected k refl
     request_hears RefusalHeard k = record {
       to = Rejected;
       holds = k;
@@ -242,7 +244,7 @@ module _ (miu size limit : ℕ) (table : List Offer) (ask : Asked) (old : List R
         let first = first_unit miu limit table ask old later in
         let rest = rest_units miu limit table ask old later in record {
           to = Sending (info_of first) [] rest;
-          holds = (k.0, k.1, begun_info miu limit table ask old later w range read, tt, tt);
+          holds = (k.0, k.1, begun_info miu limit table ask old later sap w range read, tt, tt);
           told = continued_by rest k.1;
           apart = λ w. absurd cc;
           queue_is = refl;
@@ -252,13 +254,13 @@ module _ (miu size limit : ℕ) (table : List Offer) (ask : Asked) (old : List R
         }
     request_hears (Came ph) k = hears_later ph (laws.hears ph k)
 
-  request_plain : (ph : Here_) (l : EndState) → finished l client_sap (job_at miu limit table ask old later ph) ≡ job_at miu limit table ask old later ph
+  request_plain : (ph : Here_) (l : EndState) → finished l sap (job_at miu limit table ask old later ph) ≡ job_at miu limit table ask old later ph
   request_plain Unsent l = refl
-  request_plain Submitted l = behind_plain l ask.most (rest_units miu limit table ask old later)
-  request_plain Refusing l = behind_plain l ask.most (rest_units miu limit table ask old later)
-  request_plain RefusalHeard l = behind_plain l ask.most (rest_units miu limit table ask old later)
-  request_plain Continues l = behind_plain l ask.most (rest_units miu limit table ask old later)
-  request_plain ContinueHeard l = behind_plain l ask.most (rest_units miu limit table ask old later)
+  request_plain Submitted l = behind_plain sap l ask.most (rest_units miu limit table ask old later)
+  request_plain Refusing l = behind_plain sap l ask.most (rest_units miu limit table ask old later)
+  request_plain RefusalHeard l = behind_plain sap l ask.most (rest_units miu limit table ask old later)
+  request_plain Continues l = behind_plain sap l ask.most (rest_units miu limit table ask old later)
+  request_plain ContinueHeard l = behind_plain sap l ask.most (rest_units miu limit table ask old later)
   request_plain (Sending info queue rest) l = refl
   request_plain Rejected l = refl
   request_plain (Came ph) l = laws.plain ph l
@@ -274,56 +276,56 @@ module _ (miu size limit : ℕ) (table : List Offer) (ask : Asked) (old : List R
   request_within Rejected k = tt
   request_within (Came ph) k = laws.within ph k
 
-  module _ (w : Whole miu limit table ask old later) (range : IsMiu miu) (read : IsRead limit ask) where
+  module _ (w : Whole miu limit table ask old later sap) (range : IsMiu miu) (read : IsRead limit ask) where
     request_comes : (ph : Here_) (u : List ℕ) (queue : List (List ℕ)) → queue_at miu limit table ask old later ph ≡ u ∷ queue → Holds miu limit table ask old later ph → (s : ServerState) → Stands ph s
-        → Comes limit table (conversation miu limit table ask old later) ph queue (units_at miu limit table ask old later ph) (serving.brought s client_sap u)
+        → Comes sap limit table (conversation miu limit table ask old later) ph queue (units_at miu limit table ask old later ph) (serving.brought s sap u)
     request_comes Submitted u queue e k s h =
         let i : first_unit miu limit table ask old later ≡ u = cc in
         let j : [] ≡ queue = cc in
-        subst (λ q. Comes limit table (conversation miu limit table ask old later) Submitted q [] (serving.brought s client_sap u)) j
-        (subst (λ v. Comes limit table (conversation miu limit table ask old later) Submitted [] [] (serving.brought s client_sap v)) i (first_comes miu limit table ask old later w range read s h))
+        subst (λ q. Comes sap limit table (conversation miu limit table ask old later) Submitted q [] (serving.brought s sap u)) j
+        (subst (λ v. Comes sap limit table (conversation miu limit table ask old later) Submitted [] [] (serving.brought s sap v)) i (first_comes miu limit table ask old later sap w range read s h))
     request_comes (Sending info [] rest) u queue e k s h = absurd (no_unit u queue e)
     request_comes (Sending info (v ∷ q) rest) u queue e k s h =
         let i : v ≡ u = cc in
         let j : q ≡ queue = cc in
-        subst (λ z. Comes limit table (conversation miu limit table ask old later) (Sending info (v ∷ q) rest) z [] (serving.brought s client_sap u)) j
-        (subst (λ z. Comes limit table (conversation miu limit table ask old later) (Sending info (v ∷ q) rest) q [] (serving.brought s client_sap z)) i (later_comes miu limit table ask old later w info v q rest k s h))
+        subst (λ z. Comes sap limit table (conversation miu limit table ask old later) (Sending info (v ∷ q) rest) z [] (serving.brought s sap u)) j
+        (subst (λ z. Comes sap limit table (conversation miu limit table ask old later) (Sending info (v ∷ q) rest) q [] (serving.brought s sap z)) i (later_comes miu limit table ask old later sap w info v q rest k s h))
     request_comes Unsent u queue e k s h = absurd (no_unit u queue e)
     request_comes Refusing u queue e k s h = absurd (no_unit u queue e)
     request_comes RefusalHeard u queue e k s h = absurd (no_unit u queue e)
     request_comes Continues u queue e k s h = absurd (no_unit u queue e)
     request_comes ContinueHeard u queue e k s h = absurd (no_unit u queue e)
     request_comes Rejected u queue e k s h = absurd (no_unit u queue e)
-    request_comes (Came ph) u queue e k s h = comes_later ph queue (later.units_at ph) (serving.brought s client_sap u) (laws.comes ph u queue e k s h)
+    request_comes (Came ph) u queue e k s h = comes_later ph queue (later.units_at ph) (serving.brought s sap u) (laws.comes ph u queue e k s h)
 
   -- what the client submits
-  module _ (l : EndState) (n : Numbers) (is : n.server_miu ≡ miu) where
+  module _ (n : Numbers) (is : n.server_miu ≡ miu) where
     abbrev Ready_ : Here_ → Type 0
-    Ready_ ph = Readies limit table (conversation miu limit table ask old later) size l n ph
+    Ready_ ph = Readies sap limit table (conversation miu limit table ask old later) size n ph
 
     -- the server has an answer where the client has nothing to give and nothing unacknowledged
     abbrev Busy : Here_ → Here_ → Type 0
     Busy ph to = units_at miu limit table ask old later ph ≡ [] → is_over (job_at miu limit table ask old later ph) ≡ false → queue_at miu limit table ask old later to ≡ [] → n.asked ≡ []
-        → (s : ServerState) → Stands to s → Tells limit table (conversation miu limit table ask old later) size to s
+        → (s : ServerState) → Stands to s → Tells sap limit table (conversation miu limit table ask old later) size to s
 
     -- a phase that another one stands for, as the client sees it
-    as_at : (ph : Here_) (r : Ready) → readied (client_open l n (queue_at miu limit table ask old later ph) (units_at miu limit table ask old later ph)) client_sap (job_at miu limit table ask old later ph) ≡ r
-        → (to : Here_) → r ≡ ready_so (client_open l n (queue_at miu limit table ask old later to) (units_at miu limit table ask old later to)) (job_at miu limit table ask old later to)
+    as_at : (ph : Here_) (r : OnIt) → readied_on (conn_at sap n (queue_at miu limit table ask old later ph) (units_at miu limit table ask old later ph)) (job_at miu limit table ask old later ph) ≡ r
+        → (to : Here_) → r ≡ on_so (conn_at sap n (queue_at miu limit table ask old later to) (units_at miu limit table ask old later to)) (job_at miu limit table ask old later to)
         → Holds miu limit table ask old later to → IsPaired n (length (queue_at miu limit table ask old later to)) → at to ≡ at ph → acc to ≡ acc ph → Busy ph to → Ready_ ph
     as_at ph r e to i k p x a w = record { to = to; holds = k; paired = p; ready = e ∙ i; session_is = x; accepted_is = a; busy = w }
 
     -- the rest goes out as far as the window allows
-    record Sends_ (info : List ℕ) (x : Session) (r : Ready) : Type 0 where
+    record Sends_ (info : List ℕ) (x : Session) (r : OnIt) : Type 0 where
       pub queue : List (List ℕ)
       pub rest : List ℕ
       pub holds : Holds miu limit table ask old later (Sending info queue rest)
       pub paired : IsPaired n (length queue)
-      pub ready : r ≡ ready_so (client_open l n queue []) (Sends ask.most rest)
+      pub ready : r ≡ on_so (conn_at sap n queue []) (Sends ask.most rest)
       pub same : at (Sending info queue rest) ≡ x
       pub full : (rest ≡ []) ⊎ (n.server_window ≤ length n.asked + length queue)
 
     sends : (info : List ℕ) (x : Session) (k : ℕ) (queue : List (List ℕ)) (rest : List ℕ) → Holds miu limit table ask old later (Sending info queue rest) → IsPaired n (length queue) → 0 < miu → length rest ≤ k
-        → at (Sending info queue rest) ≡ x → Sends_ info x (sends_some k miu (client_open l n queue []) client_sap ask.most rest)
+        → at (Sending info queue rest) ≡ x → Sends_ info x (some_on k miu (conn_at sap n queue []) ask.most rest)
     sends info x zero queue rest w r low i e = record { queue = queue; rest = rest; holds = w; paired = r; ready = refl; same = e; full = inl (nil_from_length rest (omega arith)) }
     sends info x (suc k) queue [] w r low i e = record { queue = queue; rest = []; holds = w; paired = r; ready = refl; same = e; full = inl refl }
     sends info x (suc k) queue (b ∷ bs) w r low i e =
@@ -339,15 +341,15 @@ module _ (miu size limit : ℕ) (table : List Offer) (ask : Asked) (old : List R
           none_more queue u w.3 (omega (arith, low, len)),
           within_more miu queue u w.4 (omega (arith, len)),
         ) in
-        either (Sends_ info x) (takes_more (client_open l n queue []) client_sap u) _ _
-        (λ t. sends info x k (queue ++ u ∷ []) rest now (paired_more l n queue u r (takes_room l n queue [] u t)) low (let d = length-drop miu (b ∷ bs) in omega (arith, d, low, i)) (ap (λ z. gathering ask.request (length z) info []) same ∙ e))
-        (λ t. record { queue = queue; rest = b ∷ bs; holds = w; paired = r; ready = refl; same = e; full = inr (no_room l n queue [] u (let z : n.server_miu ≡ miu = is in omega (arith, len, z)) t) })
+        either (Sends_ info x) (takes_on (conn_at sap n queue []) u) _ _
+        (λ t. sends info x k (queue ++ u ∷ []) rest now (paired_more sap n queue u r (takes_room sap n queue [] u t)) low (let d = length-drop miu (b ∷ bs) in omega (arith, d, low, i)) (ap (λ z. gathering ask.request (length z) info []) same ∙ e))
+        (λ t. record { queue = queue; rest = b ∷ bs; holds = w; paired = r; ready = refl; same = e; full = inr (no_room sap n queue [] u (let z : n.server_miu ≡ miu = is in omega (arith, len, z)) t) })
 
     miu_is : 0 < miu → miu_of (stands.Open n.server_miu) ≡ Some miu
     miu_is low = ap (λ z. miu_of (stands.Open z)) is ∙ miu_some miu low
 
-    abbrev bare_end : EndState
-    bare_end = client_open l n [] []
+    abbrev bare_end : OwnState
+    bare_end = conn_at sap n [] []
 
     abbrev first : List ℕ
     first = first_unit miu limit table ask old later
@@ -355,14 +357,14 @@ module _ (miu size limit : ℕ) (table : List Offer) (ask : Asked) (old : List R
     abbrev behind : List ℕ
     behind = rest_units miu limit table ask old later
 
-    abbrev chosen : Bool → Ready
+    abbrev chosen : Bool → OnIt
     chosen b =
-        if b then ready_so (submits bare_end client_sap first) (behind_first ask.most behind)
-        else ready_so bare_end (Begins ask.most (bytes_of ask))
+        if b then on_so (submits_on bare_end first) (behind_first ask.most behind)
+        else on_so bare_end (Begins ask.most (bytes_of ask))
 
     sending_on : (info : List ℕ) (queue : List (List ℕ)) (rest : List ℕ) → Holds miu limit table ask old later (Sending info queue rest) → IsPaired n (length queue)
         → ((rest ≡ []) ⊎ (n.server_window ≤ length n.asked + length queue)) → queue ≡ [] → n.asked ≡ [] → ⊥
-    sending_on info queue rest k r (inr full) q a = never_full l n queue (length queue) r full q a
+    sending_on info queue rest k r (inr full) q a = never_full sap n queue (length queue) r full q a
     sending_on info queue rest k r (inl none) q a =
         let e : concat queue ++ rest ≡ [] = ap (λ z. concat z ++ rest) q ∙ none in
         let z : length (concat queue ++ rest) ≡ 0 = ap length e in
@@ -370,47 +372,47 @@ module _ (miu size limit : ℕ) (table : List Offer) (ask : Asked) (old : List R
 
     request_readies : IsMiu size → (ph : Here_) → Holds miu limit table ask old later ph → 0 < miu → IsPaired n (length (queue_at miu limit table ask old later ph)) → Ready_ ph
     request_readies fits Submitted k low r =
-        stays limit table conv Submitted k size l n r (behind_stays l n ask.most miu is (first ∷ []) [] behind low) (λ u o q s h. absurd (no_unit _ _ (sym q)))
+        stays sap limit table conv Submitted k size n r (behind_stays sap n ask.most miu is (first ∷ []) [] behind low) (λ u o q s h. absurd (no_unit _ _ (sym q)))
     request_readies fits Refusing k low r =
-        stays limit table conv Refusing k size l n r (behind_stays l n ask.most miu is [] [] behind low)
-        (λ u o q s h. says size limit table conv fits Refusing RefusalHeard answers.Reject refl refl refl refl refl k refl refl refl s h)
+        stays sap limit table conv Refusing k size n r (behind_stays sap n ask.most miu is [] [] behind low)
+        (λ u o q s h. says sap size limit table conv fits Refusing RefusalHeard answers.Reject refl refl refl refl refl k refl refl refl s h)
     request_readies fits RefusalHeard k low r =
-        stays limit table conv RefusalHeard k size l n r (behind_stays l n ask.most miu is [] (message answers.Reject [] ∷ []) behind low) (λ u o q s h. absurd (no_unit _ _ (sym u)))
+        stays sap limit table conv RefusalHeard k size n r (behind_stays sap n ask.most miu is [] (message answers.Reject [] ∷ []) behind low) (λ u o q s h. absurd (no_unit _ _ (sym u)))
     request_readies fits Continues k low r =
-        stays limit table conv Continues k size l n r (behind_stays l n ask.most miu is [] [] behind low)
-        (λ u o q s h. says size limit table conv fits Continues ContinueHeard answers.Continue refl refl refl refl refl k refl refl refl s h)
+        stays sap limit table conv Continues k size n r (behind_stays sap n ask.most miu is [] [] behind low)
+        (λ u o q s h. says sap size limit table conv fits Continues ContinueHeard answers.Continue refl refl refl refl refl k refl refl refl s h)
     request_readies fits ContinueHeard k low r =
-        stays limit table conv ContinueHeard k size l n r (behind_stays l n ask.most miu is [] (message answers.Continue [] ∷ []) behind low) (λ u o q s h. absurd (no_unit _ _ (sym u)))
-    request_readies fits Rejected k low r = stays limit table conv Rejected k size l n r refl (λ u o q s h. absurd cc)
-    request_readies fits (Came ph) k low r = readies_later l n ph (laws.readies ph k l n is r)
-    request_readies fits Unsent k low r = go (takes_more bare_end client_sap first) refl
+        stays sap limit table conv ContinueHeard k size n r (behind_stays sap n ask.most miu is [] (message answers.Continue [] ∷ []) behind low) (λ u o q s h. absurd (no_unit _ _ (sym u)))
+    request_readies fits Rejected k low r = stays sap limit table conv Rejected k size n r refl (λ u o q s h. absurd cc)
+    request_readies fits (Came ph) k low r = readies_later n ph (laws.readies ph k n is r)
+    request_readies fits Unsent k low r = go (takes_on bare_end first) refl
       where
-        all : readied bare_end client_sap (Begins ask.most (bytes_of ask)) ≡ chosen (takes_more bare_end client_sap first)
-        all = ap (begins_on bare_end client_sap ask.most (bytes_of ask)) (miu_is low)
+        all : readied_on bare_end (Begins ask.most (bytes_of ask)) ≡ chosen (takes_on bare_end first)
+        all = ap (begin_on bare_end ask.most (bytes_of ask)) (miu_is low)
 
         short : length first ≤ n.server_miu
         short = let e = length-take miu (bytes_of ask) in let z : n.server_miu ≡ miu = is in omega (arith, e, z)
 
-        go : (b : Bool) → takes_more bare_end client_sap first ≡ b → Ready_ Unsent
-        go true t = as_at Unsent (chosen true) (all ∙ ap chosen t) Submitted refl tt (paired_more l n [] first r (takes_room l n [] [] first t)) refl refl (λ u o q a s h. absurd (no_unit _ _ (sym q)))
-        go false t = as_at Unsent (chosen false) (all ∙ ap chosen t) Unsent refl tt r refl refl (λ u o q a s h. absurd (never_full l n [] 0 r (no_room l n [] [] first short t) refl a))
+        go : (b : Bool) → takes_on bare_end first ≡ b → Ready_ Unsent
+        go true t = as_at Unsent (chosen true) (all ∙ ap chosen t) Submitted refl tt (paired_more sap n [] first r (takes_room sap n [] [] first t)) refl refl (λ u o q a s h. absurd (no_unit _ _ (sym q)))
+        go false t = as_at Unsent (chosen false) (all ∙ ap chosen t) Unsent refl tt r refl refl (λ u o q a s h. absurd (never_full sap n [] 0 r (no_room sap n [] [] first short t) refl a))
     request_readies fits (Sending info queue rest) k low r =
         let x = sends info (at (Sending info queue rest)) (length rest) queue rest k r low (omega arith) refl in
-        as_at (Sending info queue rest) (sends_some (length rest) miu (client_open l n queue []) client_sap ask.most rest)
-        (ap (sends_on (client_open l n queue []) client_sap ask.most rest) (miu_is low)) (Sending info x.queue x.rest) x.ready x.holds x.paired x.same refl
+        as_at (Sending info queue rest) (some_on (length rest) miu (conn_at sap n queue []) ask.most rest)
+        (ap (sent_on (conn_at sap n queue []) ask.most rest) (miu_is low)) (Sending info x.queue x.rest) x.ready x.holds x.paired x.same refl
         (λ u o q a s h. absurd (sending_on info x.queue x.rest x.holds x.paired x.full q a))
 
   -- a request is a conversation
-  pub request_converses : Whole miu limit table ask old later → IsMiu miu → IsMiu size → IsRead limit ask → Converses limit table conv miu size
+  pub request_converses : Whole miu limit table ask old later sap → IsMiu miu → IsMiu size → IsRead limit ask → Converses sap limit table conv miu size
   request_converses w range fits read = record {
     within = request_within;
     comes = request_comes w range read;
     tells = request_tells fits;
     hears = request_hears w range read;
     plain = request_plain;
-    readies = λ ph k l n is r. request_readies l n is fits ph k (let z = range.0 in omega arith) r;
+    readies = λ ph k n is r. request_readies n is fits ph k (let z = range.0 in omega arith) r;
   }
 
-module _ (miu limit : ℕ) (table : List Offer) (ask : Asked) (old : List Received) (later : Conversation) where
-  pub request_starts : Starts limit table (conversation miu limit table ask old later) (Begins ask.most (bytes_of ask)) old
+module _ (sap miu limit : ℕ) (table : List Offer) (ask : Asked) (old : List Received) (later : Conversation) where
+  pub request_starts : Starts sap limit table (conversation miu limit table ask old later) (Begins ask.most (bytes_of ask)) old
   request_starts = record { at = Unsent; holds = tt; job_is = refl; queue_is = refl; units_is = refl; session_is = refl; accepted_is = refl }

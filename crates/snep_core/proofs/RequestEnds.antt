@@ -26,7 +26,7 @@ ends_nowhere most [] e q = cc
 ends_nowhere most (b ∷ bs) e q = cc
 
 module _ (ask : Asked) (p : PeerState) (read : IsRead p.service.limit ask) {end : Ending} {now : List Received}
-    (o : Outcome p.service.limit p.service.table ask p.service.accepted end now) where
+    (o : Outcome client_sap p.service.limit p.service.table ask p.service.accepted end now) where
   abbrev limit : ℕ
   limit = p.service.limit
 
@@ -45,8 +45,8 @@ module _ (ask : Asked) (p : PeerState) (read : IsRead p.service.limit ask) {end 
 
   keeps : Keeps limit table names conv ask.most (bytes_of ask) old
   keeps = record {
-    laws = λ miu size range fits. request_converses miu size limit table ask old (o.later size) (o.converses miu size range fits) (o.whole miu size) range fits read;
-    starts = λ miu size. request_starts miu limit table ask old (o.later size);
+    laws = λ miu size range fits. request_converses client_sap miu size limit table ask old (o.later size) (o.converses miu size range fits) (o.whole miu size) range fits read;
+    starts = λ miu size. request_starts client_sap miu limit table ask old (o.later size);
   }
 
   abbrev Asking : Job → EndState → PeerState → Type 0
@@ -133,12 +133,12 @@ alone_is x y e = ap (first_job x) e
 module _ {C A : Type 0} (seen : C → CarrierView) (swaps : C → List ℕ → List FarStep → C → Type 0) (steps : A → List ℕ → List ℕ → A → Type 0) (stops : A → List ℕ → A → Type 0)
     (view : A → PeerState) (peer : IsPeer steps stops view) (client : EndState) (link : C) (far : A) (a : Accords client (view far)) (numbers : List ℕ)
     (ask : Asked) (read : IsRead (view far).service.limit ask) {end : Ending} {added : List Received}
-    (o : Outcome (view far).service.limit (view far).service.table ask (view far).service.accepted end added) where
+    (o : Outcome client_sap (view far).service.limit (view far).service.table ask (view far).service.accepted end added) where
   abbrev peer_state : PeerState
   peer_state = view far
 
   abbrev from : Step
-  from = begun (connected client client_sap) (Begins ask.most (bytes_of ask))
+  from = begun (connected client client_sap) (alone (Begins ask.most (bytes_of ask)))
 
   abbrev course : Course (AddsSome ask peer_state read o)
   course = request_course peer_state.service.limit peer_state.service.table peer_state.bound (conv ask peer_state read o) ask.most (bytes_of ask) peer_state.service.accepted

@@ -19,7 +19,7 @@ use Rattle.snep_core.specs.Jobs.{Begins, Ending, Job, Over, Refused, Sends}
 use Rattle.snep_core.specs.Message.{message, message_of_code, number}
 use Rattle.snep_core.specs.Server.{Received, ServerState, received, serving}
 use Rattle.snep_core.specs.Session.{Did, Gathering, Offer, Session, first_did, fresh_session, later_did, obeys}
-use Rattle.snep_core.specs.Talk.{behind_first, client_sap}
+use Rattle.snep_core.specs.Talk.{behind_first}
 use Rattle.snep_core.proofs.Conversations.{AllWithin, Comes, Conversation, Converses}
 use Rattle.snep_core.proofs.Served.{Serves, serves_brought}
 
@@ -163,7 +163,7 @@ module _ (miu limit : ℕ) (table : List Offer) (ask : Asked) (old : List Receiv
   }
 
   -- All of it came: what the server does, and where the later phases begin.
-  pub record Whole : Type 0 where
+  pub record Whole (sap : ℕ) : Type 0 where
     pub at : later.Phase
     pub holds : ask.size ≤ limit → later.Holds at
     pub job_is : later.job_at at ≡ Sends ask.most []
@@ -172,9 +172,9 @@ module _ (miu limit : ℕ) (table : List Offer) (ask : Asked) (old : List Receiv
     pub accepts : Option (List ℕ)
     pub does : (g : Option Gathering) → obeys table (record fresh_session { gathered = g }) ask.request ask.info
         ≡ record { session = later.session_at at; accepts = accepts }
-    pub accepted_is : later.accepted_at at ≡ old ++ received client_sap accepts
+    pub accepted_is : later.accepted_at at ≡ old ++ received sap accepts
 
-  module _ (w : Whole) (range : IsMiu miu) (read : IsRead limit ask) where
+  module _ (sap : ℕ) (w : Whole sap) (range : IsMiu miu) (read : IsRead limit ask) where
     six : 6 ≤ length first_unit
     six = let e = length-take miu (bytes_of ask) in omega (arith, range.0)
 
@@ -187,16 +187,16 @@ module _ (miu limit : ℕ) (table : List Offer) (ask : Asked) (old : List Receiv
     total : length ask.info ≡ length cut.info + length rest_units
     total = ap length cut.all ∙ length-append cut.info rest_units
 
-    first_comes_so : (s : ServerState) → Serves limit table s fresh_session old
-        → ((limit < ask.size) ⊎ (ask.size ≤ limit)) → (rest : List ℕ) → rest_units ≡ rest → Comes limit table conversation Submitted [] [] (serving.brought s client_sap first_unit)
+    first_comes_so : (s : ServerState) → Serves sap limit table s fresh_session old
+        → ((limit < ask.size) ⊎ (ask.size ≤ limit)) → (rest : List ℕ) → rest_units ≡ rest → Comes sap limit table conversation Submitted [] [] (serving.brought s sap first_unit)
     first_comes_so s h (inl long) rest e = record {
       to = Refusing;
       holds = long;
       job = refl;
       queue_is = refl;
       units_is = refl;
-      serves = subst (λ z. Serves limit table (serving.brought s client_sap first_unit) (answering answers.Reject) z) (append-nil old)
-          (serves_brought limit table s fresh_session old h first_unit (record { session = answering answers.Reject; accepts = None })
+      serves = subst (λ z. Serves sap limit table (serving.brought s sap first_unit) (answering answers.Reject) z) (append-nil old)
+          (serves_brought sap limit table s fresh_session old h first_unit (record { session = answering answers.Reject; accepts = None })
           (ap (λ f. first_did table fresh_session f (info_of first_unit)) (looks.first ∙ read.over long (length cut.info) (omega (arith, total)))));
     }
     first_comes_so s h (inr few) [] e =
@@ -207,8 +207,8 @@ module _ (miu limit : ℕ) (table : List Offer) (ask : Asked) (old : List Receiv
           job = w.job_is ∙ sym (ap (behind_first ask.most) e);
           queue_is = w.queue_is;
           units_is = w.units_is;
-          serves = subst (λ z. Serves limit table (serving.brought s client_sap first_unit) (later.session_at w.at) z) (sym w.accepted_is)
-              (serves_brought limit table s fresh_session old h first_unit did_
+          serves = subst (λ z. Serves sap limit table (serving.brought s sap first_unit) (later.session_at w.at) z) (sym w.accepted_is)
+              (serves_brought sap limit table s fresh_session old h first_unit did_
               (ap (λ f. first_did table fresh_session f (info_of first_unit))
               (looks.first ∙ ap (λ k. by_code limit ask.code (length ask.info) k) (sym (ap length all)) ∙ read.whole few)
               ∙ ap (λ z. obeys table fresh_session ask.request z) (looks.info_is ∙ sym all) ∙ w.does None));
@@ -221,14 +221,14 @@ module _ (miu limit : ℕ) (table : List Offer) (ask : Asked) (old : List Receiv
           job = refl;
           queue_is = refl;
           units_is = refl;
-          serves = subst (λ z. Serves limit table (serving.brought s client_sap first_unit) (session_at Continues) z) (append-nil old)
-              (serves_brought limit table s fresh_session old h first_unit (record { session = session_at Continues; accepts = None })
+          serves = subst (λ z. Serves sap limit table (serving.brought s sap first_unit) (session_at Continues) z) (append-nil old)
+              (serves_brought sap limit table s fresh_session old h first_unit (record { session = session_at Continues; accepts = None })
               (ap (λ f. first_did table fresh_session f (info_of first_unit)) (looks.first ∙ read.partly few (length cut.info) (omega (arith, total)))
               ∙ ap (λ n. record { session = gathering ask.request n (info_of first_unit) (Tells (Answers answers.Continue) ∷ []); accepts = None }) left));
         }
 
     -- the first unit comes
-    pub first_comes : (s : ServerState) → Serves limit table s fresh_session old → Comes limit table conversation Submitted [] [] (serving.brought s client_sap first_unit)
+    pub first_comes : (s : ServerState) → Serves sap limit table s fresh_session old → Comes sap limit table conversation Submitted [] [] (serving.brought s sap first_unit)
     first_comes s h = first_comes_so s h (cases_lt limit ask.size) rest_units refl
 
     -- what was there of its information, as the continue is heard
@@ -239,10 +239,10 @@ module _ (miu limit : ℕ) (table : List Offer) (ask : Asked) (old : List Receiv
   not_eq a b h = grind (arith, nat_tests)
 
   -- a later unit comes
-  pub later_comes : Whole → (info u : List ℕ) (queue : List (List ℕ)) (rest : List ℕ) → Holds (Sending info (u ∷ queue) rest) → (s : ServerState)
-      → Serves limit table s (session_at (Sending info (u ∷ queue) rest)) old
-      → Comes limit table conversation (Sending info (u ∷ queue) rest) queue [] (serving.brought s client_sap u)
-  later_comes wh info u queue rest h s v =
+  pub later_comes : (sap : ℕ) → Whole sap → (info u : List ℕ) (queue : List (List ℕ)) (rest : List ℕ) → Holds (Sending info (u ∷ queue) rest) → (s : ServerState)
+      → Serves sap limit table s (session_at (Sending info (u ∷ queue) rest)) old
+      → Comes sap limit table conversation (Sending info (u ∷ queue) rest) queue [] (serving.brought s sap u)
+  later_comes sap wh info u queue rest h s v =
       go (concat queue ++ rest) refl
     where
       here : gathering ask.request (length (concat (u ∷ queue) ++ rest)) info [] ≡ gathering ask.request (length u + length (concat queue ++ rest)) info []
@@ -251,15 +251,15 @@ module _ (miu limit : ℕ) (table : List Offer) (ask : Asked) (old : List Receiv
       all : info ++ (u ++ (concat queue ++ rest)) ≡ ask.info
       all = ap (λ z. info ++ z) (sym (append_assoc u (concat queue) rest)) ∙ h.2
 
-      w : Serves limit table s (gathering ask.request (length u + length (concat queue ++ rest)) info []) old
-      w = subst (λ x. Serves limit table s x old) here v
+      w : Serves sap limit table s (gathering ask.request (length u + length (concat queue ++ rest)) info []) old
+      w = subst (λ x. Serves sap limit table s x old) here v
 
       empty : (q : List (List ℕ)) → NoneEmpty q → concat q ++ rest ≡ [] → (q ≡ []) × (rest ≡ [])
       empty [] n e = (refl, e)
       empty ([] ∷ us) n e = absurd (let z = n.0 in omega arith)
       empty ((b ∷ bs) ∷ us) n e = absurd cc
 
-      go : (more : List ℕ) → concat queue ++ rest ≡ more → Comes limit table conversation (Sending info (u ∷ queue) rest) queue [] (serving.brought s client_sap u)
+      go : (more : List ℕ) → concat queue ++ rest ≡ more → Comes sap limit table conversation (Sending info (u ∷ queue) rest) queue [] (serving.brought s sap u)
       go [] e =
           let z = empty queue h.3.1 e in
           let whole : info ++ u ≡ ask.info = ap (λ t. info ++ t) (sym (append-nil u)) ∙ ap (λ t. info ++ (u ++ t)) (sym e) ∙ all in
@@ -273,8 +273,8 @@ module _ (miu limit : ℕ) (table : List Offer) (ask : Asked) (old : List Receiv
             job = wh.job_is ∙ ap (λ t. Sends ask.most t) (sym z.1);
             queue_is = wh.queue_is ∙ sym z.0;
             units_is = wh.units_is;
-            serves = subst (λ z. Serves limit table (serving.brought s client_sap u) (later.session_at wh.at) z) (sym wh.accepted_is)
-                (serves_brought limit table s _ old w u did_
+            serves = subst (λ z. Serves sap limit table (serving.brought s sap u) (later.session_at wh.at) z) (sym wh.accepted_is)
+                (serves_brought sap limit table s _ old w u did_
                 (ap (λ k. later_did table (gathering ask.request k info []) (record { request = ask.request; left = k; info = info }) u) n
                 ∙ met
                 ∙ ap (λ t. obeys table (gathering ask.request (length u) info []) ask.request t) whole
@@ -289,8 +289,8 @@ module _ (miu limit : ℕ) (table : List Offer) (ask : Asked) (old : List Receiv
             job = refl;
             queue_is = refl;
             units_is = refl;
-            serves = subst (λ z. Serves limit table (serving.brought s client_sap u) (gathering ask.request n (info ++ u) []) z) (append-nil old)
-                (serves_brought limit table s _ old w u (record { session = gathering ask.request n (info ++ u) []; accepts = None })
+            serves = subst (λ z. Serves sap limit table (serving.brought s sap u) (gathering ask.request n (info ++ u) []) z) (append-nil old)
+                (serves_brought sap limit table s _ old w u (record { session = gathering ask.request n (info ++ u) []; accepts = None })
                 (rw (le-ltb (length u + n) (length u) (omega arith), not_eq (length u) (length u + n) (omega arith), left) refl));
           }
 
@@ -303,10 +303,10 @@ pub record IsLast (c : Conversation) (end : Ending) (ph : c.Phase) (e : Ending) 
 
 -- What comes of a request within the limit once all of it came: by its client's MIU the later phases, at whose end it came to this, and this
 -- is accepted.
-pub record Outcome (limit : ℕ) (table : List Offer) (ask : Asked) (old : List Received) (end : Ending) (now : List Received) : Type 1 where
+pub record Outcome (sap limit : ℕ) (table : List Offer) (ask : Asked) (old : List Received) (end : Ending) (now : List Received) : Type 1 where
   pub later : ℕ → Conversation
-  pub whole : (miu size : ℕ) → Whole miu limit table ask old (later size)
-  pub converses : (miu size : ℕ) → IsMiu miu → IsMiu size → Converses limit table (later size) miu size
+  pub whole : (miu size : ℕ) → Whole miu limit table ask old (later size) sap
+  pub converses : (miu size : ℕ) → IsMiu miu → IsMiu size → Converses sap limit table (later size) miu size
   pub within : (size : ℕ) (ph : (later size).Phase) → (later size).Holds ph → ask.size ≤ limit
   pub adds : (size : ℕ) (ph : (later size).Phase) → (later size).accepted_at ph ≡ now
   pub ends : (size : ℕ) (ph : (later size).Phase) (e : Ending) → Over e ≡ (later size).job_at ph → IsLast (later size) end ph e

@@ -5,7 +5,7 @@ use Rattle.llcp_link.specs.Asking.{standing_of}
 use Rattle.llcp_link.specs.State.{own_from}
 use Rattle.snep_core.specs.Jobs.{Job, Begins, Waits, Sends, Asks, Collects, Looks, Closes, Over}
 use Rattle.snep_core.specs.Listening.{Offered}
-use Rattle.snep_core.specs.Talk.{EndState, Ready, behind_first, begins_on, client_sap, continue_bytes, miu_of, readied, ready_so, sends_on, sends_some, submits, takes_more}
+use Rattle.snep_core.specs.Talk.{EndState, Ready, behind_first, begins_on, continue_bytes, miu_of, readied, ready_so, sends_on, sends_some, submits, takes_more}
 use Rattle.snep_core.specs.Waning.{Aim, Serves, aim_by}
 
 none_there : (xs : List ℕ) → length xs ≤ 0 → xs ≡ []
@@ -54,76 +54,76 @@ module _ (miu sap : ℕ) (most : Option ℕ) (low : 0 < miu) where
   sends_end l rest e = ends (length rest) l rest (none_there rest (omega arith))
 
 -- an offer that was taken, or wasn't
-pub offered_true : (l : EndState) (u : List ℕ) (new : EndState) → Offered l u true new
-    → (takes_more l client_sap u ≡ true) × (new ≡ submits l client_sap u)
-offered_true l u new o = (sym o.test, o.kept)
+pub offered_true : (sap : ℕ) (l : EndState) (u : List ℕ) (new : EndState) → Offered sap l u true new
+    → (takes_more l sap u ≡ true) × (new ≡ submits l sap u)
+offered_true sap l u new o = (sym o.test, o.kept)
 
-pub offered_false : (l : EndState) (u : List ℕ) (new : EndState) → Offered l u false new → (takes_more l client_sap u ≡ false) × (new ≡ l)
-offered_false l u new o = (sym o.test, o.kept)
+pub offered_false : (sap : ℕ) (l : EndState) (u : List ℕ) (new : EndState) → Offered sap l u false new → (takes_more l sap u ≡ false) × (new ≡ l)
+offered_false sap l u new o = (sym o.test, o.kept)
 
 -- What is left once the first bytes were offered as a unit.
 abbrev pub IsLeft : ℕ → List ℕ → Bool → List ℕ → Type 0
 IsLeft miu bytes taken rest = rest ≡ (if taken then drop miu bytes else bytes)
 
-pub sent_one : (miu : ℕ) (most : Option ℕ) (l new : EndState) (bytes rest : List ℕ) (taken : Bool) → 0 < miu → 0 < length bytes → taken ≡ true
-    → Offered l (take miu bytes) taken new → IsLeft miu bytes taken rest
-    → sends_some (length bytes) miu l client_sap most bytes ≡ sends_some (length rest) miu new client_sap most rest
-sent_one miu most l new bytes rest taken low some is o left =
-    let t = offered_true l (take miu bytes) new (subst (λ b. Offered l (take miu bytes) b new) is o) in
+pub sent_one : (sap miu : ℕ) (most : Option ℕ) (l new : EndState) (bytes rest : List ℕ) (taken : Bool) → 0 < miu → 0 < length bytes → taken ≡ true
+    → Offered sap l (take miu bytes) taken new → IsLeft miu bytes taken rest
+    → sends_some (length bytes) miu l sap most bytes ≡ sends_some (length rest) miu new sap most rest
+sent_one sap miu most l new bytes rest taken low some is o left =
+    let t = offered_true sap l (take miu bytes) new (subst (λ b. Offered sap l (take miu bytes) b new) is o) in
     let r : rest ≡ drop miu bytes = subst (λ b. IsLeft miu bytes b rest) is left in
-    sends_step miu client_sap most low l bytes some t.0
-    ∙ ap (λ z. sends_some (length (drop miu bytes)) miu z client_sap most (drop miu bytes)) (sym t.1)
-    ∙ ap (λ z. sends_some (length z) miu new client_sap most z) (sym r)
+    sends_step miu sap most low l bytes some t.0
+    ∙ ap (λ z. sends_some (length (drop miu bytes)) miu z sap most (drop miu bytes)) (sym t.1)
+    ∙ ap (λ z. sends_some (length z) miu new sap most z) (sym r)
 
-pub sent_none : (miu : ℕ) (most : Option ℕ) (l new : EndState) (bytes rest : List ℕ) (taken : Bool) → 0 < miu → taken ≡ false
-    → Offered l (take miu bytes) taken new → IsLeft miu bytes taken rest
-    → sends_some (length bytes) miu l client_sap most bytes ≡ ready_so new (Sends most rest)
-sent_none miu most l new bytes rest taken low is o left =
-    let t = offered_false l (take miu bytes) new (subst (λ b. Offered l (take miu bytes) b new) is o) in
+pub sent_none : (sap miu : ℕ) (most : Option ℕ) (l new : EndState) (bytes rest : List ℕ) (taken : Bool) → 0 < miu → taken ≡ false
+    → Offered sap l (take miu bytes) taken new → IsLeft miu bytes taken rest
+    → sends_some (length bytes) miu l sap most bytes ≡ ready_so new (Sends most rest)
+sent_none sap miu most l new bytes rest taken low is o left =
+    let t = offered_false sap l (take miu bytes) new (subst (λ b. Offered sap l (take miu bytes) b new) is o) in
     let r : rest ≡ bytes = subst (λ b. IsLeft miu bytes b rest) is left in
-    sends_stop miu client_sap most low l bytes t.0 ∙ ap (λ z. ready_so z (Sends most bytes)) (sym t.1)
+    sends_stop miu sap most low l bytes t.0 ∙ ap (λ z. ready_so z (Sends most bytes)) (sym t.1)
     ∙ ap (λ z. ready_so new (Sends most z)) (sym r)
 
 -- the first unit of a request
-module _ (l new : EndState) (most : Option ℕ) (miu : ℕ) (bytes : List ℕ) where
-  begun_so : (rest : List ℕ) → drop miu bytes ≡ rest → Offered l (take miu bytes) true new
-      → begins_on l client_sap most bytes (Some miu) ≡ ready_so new (behind_first most rest)
+module _ (sap : ℕ) (l new : EndState) (most : Option ℕ) (miu : ℕ) (bytes : List ℕ) where
+  begun_so : (rest : List ℕ) → drop miu bytes ≡ rest → Offered sap l (take miu bytes) true new
+      → begins_on l sap most bytes (Some miu) ≡ ready_so new (behind_first most rest)
   begun_so rest e o =
-      let t = offered_true l (take miu bytes) new o in
-      ap (λ b. if b then ready_so (submits l client_sap (take miu bytes)) (behind_first most (drop miu bytes)) else ready_so l (Begins most bytes)) t.0
+      let t = offered_true sap l (take miu bytes) new o in
+      ap (λ b. if b then ready_so (submits l sap (take miu bytes)) (behind_first most (drop miu bytes)) else ready_so l (Begins most bytes)) t.0
       ∙ ap (λ z. ready_so z (behind_first most (drop miu bytes))) (sym t.1) ∙ ap (λ z. ready_so new (behind_first most z)) e
 
-  pub begins_whole : (rest : List ℕ) → rest ≡ drop miu bytes → length rest ≡ 0 → Offered l (take miu bytes) true new
-      → begins_on l client_sap most bytes (Some miu) ≡ ready_so new (Sends most rest)
+  pub begins_whole : (rest : List ℕ) → rest ≡ drop miu bytes → length rest ≡ 0 → Offered sap l (take miu bytes) true new
+      → begins_on l sap most bytes (Some miu) ≡ ready_so new (Sends most rest)
   begins_whole [] e k o = begun_so [] (sym e) o
   begins_whole (b ∷ bs) e k o = absurd (omega arith)
 
-  pub begins_part : (rest : List ℕ) → rest ≡ drop miu bytes → 0 < length rest → Offered l (take miu bytes) true new
-      → begins_on l client_sap most bytes (Some miu) ≡ ready_so new (Waits most rest)
+  pub begins_part : (rest : List ℕ) → rest ≡ drop miu bytes → 0 < length rest → Offered sap l (take miu bytes) true new
+      → begins_on l sap most bytes (Some miu) ≡ ready_so new (Waits most rest)
   begins_part [] e k o = absurd (omega arith)
   begins_part (b ∷ bs) e k o = begun_so (b ∷ bs) (sym e) o
 
-  pub begins_not : Offered l (take miu bytes) false new → begins_on l client_sap most bytes (Some miu) ≡ ready_so new (Begins most bytes)
+  pub begins_not : Offered sap l (take miu bytes) false new → begins_on l sap most bytes (Some miu) ≡ ready_so new (Begins most bytes)
   begins_not o =
-      let t = offered_false l (take miu bytes) new o in
-      ap (λ b. if b then ready_so (submits l client_sap (take miu bytes)) (behind_first most (drop miu bytes)) else ready_so l (Begins most bytes)) t.0
+      let t = offered_false sap l (take miu bytes) new o in
+      ap (λ b. if b then ready_so (submits l sap (take miu bytes)) (behind_first most (drop miu bytes)) else ready_so l (Begins most bytes)) t.0
       ∙ ap (λ z. ready_so z (Begins most bytes)) (sym t.1)
 
 -- the same by what was offered
-module _ (miu : ℕ) (most : Option ℕ) (l new : EndState) (bytes rest : List ℕ) (taken : Bool) (o : Offered l (take miu bytes) taken new)
+module _ (sap miu : ℕ) (most : Option ℕ) (l new : EndState) (bytes rest : List ℕ) (taken : Bool) (o : Offered sap l (take miu bytes) taken new)
     (left : IsLeft miu bytes taken rest) where
-  pub begin_whole : taken ≡ true → length rest ≡ 0 → begins_on l client_sap most bytes (Some miu) ≡ ready_so new (Sends most rest)
+  pub begin_whole : taken ≡ true → length rest ≡ 0 → begins_on l sap most bytes (Some miu) ≡ ready_so new (Sends most rest)
   begin_whole is none =
-      begins_whole l new most miu bytes rest (subst (λ b. IsLeft miu bytes b rest) is left) none (subst (λ b. Offered l (take miu bytes) b new) is o)
+      begins_whole sap l new most miu bytes rest (subst (λ b. IsLeft miu bytes b rest) is left) none (subst (λ b. Offered sap l (take miu bytes) b new) is o)
 
-  pub begin_part : taken ≡ true → 0 < length rest → begins_on l client_sap most bytes (Some miu) ≡ ready_so new (Waits most rest)
+  pub begin_part : taken ≡ true → 0 < length rest → begins_on l sap most bytes (Some miu) ≡ ready_so new (Waits most rest)
   begin_part is some =
-      begins_part l new most miu bytes rest (subst (λ b. IsLeft miu bytes b rest) is left) some (subst (λ b. Offered l (take miu bytes) b new) is o)
+      begins_part sap l new most miu bytes rest (subst (λ b. IsLeft miu bytes b rest) is left) some (subst (λ b. Offered sap l (take miu bytes) b new) is o)
 
-  pub begin_not : taken ≡ false → begins_on l client_sap most bytes (Some miu) ≡ ready_so new (Begins most rest)
+  pub begin_not : taken ≡ false → begins_on l sap most bytes (Some miu) ≡ ready_so new (Begins most rest)
   begin_not is =
       let r : rest ≡ bytes = subst (λ b. IsLeft miu bytes b rest) is left in
-      begins_not l new most miu bytes (subst (λ b. Offered l (take miu bytes) b new) is o) ∙ ap (λ z. ready_so new (Begins most z)) (sym r)
+      begins_not sap l new most miu bytes (subst (λ b. Offered sap l (take miu bytes) b new) is o) ∙ ap (λ z. ready_so new (Begins most z)) (sym r)
 
 -- what a job submits leaves it its aim
 some_serves : (aim : Aim) (n miu : ℕ) (l : EndState) (sap : ℕ) (most : Option ℕ) (rest : List ℕ) → aim ≡ aim_by most

@@ -12,7 +12,7 @@ use Rattle.snep_core.specs.declared.fault.SnepFault.{SnepFault}
 use Rattle.snep_core.specs.declared.fault.SnepFault.TheVariants.{Memory}
 use Rattle.snep_core.specs.Calling.{Breaks, Exchanged, IsCut, Talks, Turned, gives_up, last_of, payloads, step_of}
 use Rattle.snep_core.specs.Jobs.{Job, has_byte}
-use Rattle.snep_core.specs.Talk.{EndState, Ends, GivesUp, Goes, Ready, Step, Told, Working, alone, client_sap, emptied, gave_something, heard, heard_with, idle_after, numbers_behind, own_of, payload, ready, readied, ready_so, replied, replied_ready, settled, silent, told_by, took, units_of}
+use Rattle.snep_core.specs.Talk.{EndState, Ends, GivesUp, Goes, Ready, Step, Told, Working, emptied, gave_something, heard, heard_with, idle_after, numbers_behind, one_on, own_of, payload, ready, readied, ready_so, replied, replied_ready, settled, silent, told_by, took, units_of}
 
 told_more : (from : Step) (ns : List ℕ) (did : List FarStep) (w : Working) (reply : List ℕ) (to : Step) → Told ns from did (Goes w)
     → replied (first_number (numbers_behind did ns)) w reply ≡ to
@@ -71,16 +71,16 @@ module _ {C A : Type 0} (seen : C → CarrierView) (swaps : C → List ℕ → L
 
   module _ (numbers : List ℕ) (from : Step) (link : C) (far : A) (left : List ℕ) (w : Working) (mid : C) (mid_far : A)
       (t : TalksTo numbers from link far left (Goes w) mid mid_far) where
-    goes_on : (turn : Turn) (new : EndState) (now : C) (after : A)
-        → Turned seen swaps steps stops (first_number (numbers_behind t.talks.did numbers)) w mid mid_far turn new now after
-        → TalksTo numbers from link far (later_numbers left) (step_of turn new) now after
-    goes_on turn new now after u =
+    goes_on : (sap : ℕ) (turn : Turn) (new : EndState) (now : C) (after : A)
+        → Turned seen swaps steps stops (first_number (numbers_behind t.talks.did numbers)) sap w mid mid_far turn new now after
+        → TalksTo numbers from link far (later_numbers left) (step_of sap turn new) now after
+    goes_on sap turn new now after u =
         let did = t.talks.did in
         let out = given silent (first_number (numbers_behind did numbers)) (ready w).llc in
         let x : FarStep = Stepped out u.reply in record {
           talks = record {
             did = did ++ x ∷ [];
-            told = told_more from numbers did w u.reply (step_of turn new) t.talks.told u.step;
+            told = told_more from numbers did w u.reply (step_of sap turn new) t.talks.told u.step;
             handed =
                 u.swap.handed ∙ ap (λ z. z ++ out ∷ []) t.talks.handed ∙ append_assoc (seen link).handed (payloads did) (out ∷ [])
                 ∙ ap (λ z. (seen link).handed ++ z) (sym (payloads_more did x));
@@ -92,10 +92,10 @@ module _ {C A : Type 0} (seen : C → CarrierView) (swaps : C → List ℕ → L
           left_is = ap later_numbers t.left_is ∙ sym (behind_more did x numbers);
         }
 
-    pub talks_on : (turn : Turn) (new : EndState) (now : C) (after : A) → Turned seen swaps steps stops (first_number left) w mid mid_far turn new now after
-        → TalksTo numbers from link far (later_numbers left) (step_of turn new) now after
-    talks_on turn new now after u =
-        goes_on turn new now after (subst (λ z. Turned seen swaps steps stops (first_number z) w mid mid_far turn new now after) t.left_is u)
+    pub talks_on : (sap : ℕ) (turn : Turn) (new : EndState) (now : C) (after : A) → Turned seen swaps steps stops (first_number left) sap w mid mid_far turn new now after
+        → TalksTo numbers from link far (later_numbers left) (step_of sap turn new) now after
+    talks_on sap turn new now after u =
+        goes_on sap turn new now after (subst (λ z. Turned seen swaps steps stops (first_number z) sap w mid mid_far turn new now after) t.left_is u)
 
     pub talks_break : (e : SnepFault) (new : EndState) (now : C) (after : A) → IsCut seen swaps steps stops (first_number left) (ready w).llc mid mid_far e new now after
         → Breaks seen swaps steps stops numbers from link far e new now after
@@ -107,68 +107,68 @@ module _ {C A : Type 0} (seen : C → CarrierView) (swaps : C → List ℕ → L
       cut = subst (λ z. IsCut seen swaps steps stops (first_number z) (ready w).llc mid mid_far e new now after) t.left_is k;
     }
 
--- What one job alone comes to, behind a payload and its reply.
-module _ (old mid new : EndState) (job now : Job) (idle : ℕ) where
+-- What a job that is alone comes to, behind a payload and its reply.
+module _ (sap : ℕ) (old mid new : EndState) (job now : Job) (idle : ℕ) where
   or_false : (b : Bool) → (b || false) ≡ b
   or_false true = refl
   or_false false = refl
 
-  pub took_none : heard (has_waiting_of (own_of old)) mid client_sap now ≡ None → new ≡ forgotten mid client_sap
-      → took old mid (alone now) idle ≡ step_of (GaveUp None) new
+  pub took_none : heard (has_waiting_of (own_of sap old)) mid sap now ≡ None → new ≡ forgotten mid sap
+      → took old mid (one_on sap now) idle ≡ step_of sap (GaveUp None) new
   took_none h e =
-      ap (λ o. told_by mid (alone now) (record { sap = client_sap; job = o } ∷ [])
-      (idle_after ((gave_something (own_of old) (own_of mid) || has_byte (units_of (own_of mid))) || false) idle)
-      (heard_with client_sap o (Some []))) h
-      ∙ ap (gives_up None) (sym e)
+      ap (λ o. told_by mid (one_on sap now) (record { sap = sap; job = o } ∷ [])
+      (idle_after ((gave_something (own_of sap old) (own_of sap mid) || has_byte (units_of (own_of sap mid))) || false) idle)
+      (heard_with sap o (Some []))) h
+      ∙ ap (gives_up (record { sap = sap; job = None } ∷ [])) (sym e)
 
-  pub took_some : (next : Job) (gave : Bool) → heard (has_waiting_of (own_of old)) mid client_sap now ≡ Some next
-      → gave ≡ (gave_something (own_of old) (own_of mid) || has_byte (units_of (own_of mid)))
-      → took old mid (alone now) idle ≡ settled (emptied mid client_sap) (alone next) (idle_after gave idle)
+  pub took_some : (next : Job) (gave : Bool) → heard (has_waiting_of (own_of sap old)) mid sap now ≡ Some next
+      → gave ≡ (gave_something (own_of sap old) (own_of sap mid) || has_byte (units_of (own_of sap mid)))
+      → took old mid (one_on sap now) idle ≡ settled (emptied mid sap) (one_on sap next) (idle_after gave idle)
   took_some next gave h e =
-      ap (λ o. told_by mid (alone now) (record { sap = client_sap; job = o } ∷ [])
-      (idle_after ((gave_something (own_of old) (own_of mid) || has_byte (units_of (own_of mid))) || false) idle)
-      (heard_with client_sap o (Some []))) h
-      ∙ ap (λ b. settled (emptied mid client_sap) (alone next) (idle_after b idle))
-      (or_false (gave_something (own_of old) (own_of mid) || has_byte (units_of (own_of mid))) ∙ sym e)
+      ap (λ o. told_by mid (one_on sap now) (record { sap = sap; job = o } ∷ [])
+      (idle_after ((gave_something (own_of sap old) (own_of sap mid) || has_byte (units_of (own_of sap mid))) || false) idle)
+      (heard_with sap o (Some []))) h
+      ∙ ap (λ b. settled (emptied mid sap) (one_on sap next) (idle_after b idle))
+      (or_false (gave_something (own_of sap old) (own_of sap mid) || has_byte (units_of (own_of sap mid))) ∙ sym e)
 
 module _ {C A : Type 0} (seen : C → CarrierView) (swaps : C → List ℕ → List FarStep → C → Type 0) (steps : A → List ℕ → List ℕ → A → Type 0)
-    (stops : A → List ℕ → A → Type 0) (link : C) (far : A) (over : C) (after : A) (l mid heard_end : EndState) (job now : Job) (idle : ℕ)
-    (r : readied l client_sap job ≡ ready_so mid now) (count : ℕ) (passed : Passed)
-    (x : Exchanged seen swaps steps stops count mid link far passed heard_end over after) where
+    (stops : A → List ℕ → A → Type 0) (link : C) (far : A) (over : C) (after : A) (sap : ℕ) (l mid heard_end : EndState) (job now : Job) (idle : ℕ)
+    (r : readied l sap job ≡ ready_so mid now) (count : ℕ) (passed : Passed)
+    (x : Exchanged seen swaps steps stops count sap mid link far passed heard_end over after) where
   abbrev working : Working
-  working = record { llc = l; jobs = alone job; idle = idle }
+  working = record { llc = l; jobs = one_on sap job; idle = idle }
 
-  abbrev turned_by : (turn : Turn) (new : EndState) → took (after_giving silent count mid) heard_end (alone now) idle ≡ step_of turn new
-      → Turned seen swaps steps stops count working link far turn new over after
+  abbrev turned_by : (turn : Turn) (new : EndState) → took (after_giving silent count mid) heard_end (one_on sap now) idle ≡ step_of sap turn new
+      → Turned seen swaps steps stops count sap working link far turn new over after
   turned_by turn new e = record {
     reply = x.reply;
     swap = subst (λ (z : Ready). SwapDone steps (seen link) (seen over) (given silent count z.llc) x.reply far after) (sym r) x.swap;
     swapped = subst (λ (z : Ready). Swapped swaps steps stops link (given silent count z.llc) far over after
         (λ did. did ≡ Stepped (given silent count z.llc) x.reply ∷ [])) (sym r) x.swapped;
     step =
-        ap (λ (z : Ready). replied_ready count (record { llc = z.llc; jobs = record { sap = client_sap; job = z.job } ∷ []; idle = idle }) x.reply) r
-        ∙ ap (λ z. took (after_giving silent count mid) z (alone now) idle) (sym x.took) ∙ e;
+        ap (λ (z : Ready). replied_ready count (record { llc = z.llc; jobs = record { sap = sap; job = z.job } ∷ []; idle = idle }) x.reply) r
+        ∙ ap (λ z. took (after_giving silent count mid) z (one_on sap now) idle) (sym x.took) ∙ e;
   }
 
-  heard_where : (o : Option Job) → heard passed.waiting heard_end client_sap now ≡ o
-      → heard (has_waiting_of (own_of (after_giving silent count mid))) heard_end client_sap now ≡ o
-  heard_where o h = ap (λ b. heard b heard_end client_sap now) (sym x.waiting) ∙ h
+  heard_where : (o : Option Job) → heard passed.waiting heard_end sap now ≡ o
+      → heard (has_waiting_of (own_of sap (after_giving silent count mid))) heard_end sap now ≡ o
+  heard_where o h = ap (λ b. heard b heard_end sap now) (sym x.waiting) ∙ h
 
   -- the far end was at fault
-  pub turned_none : (new : EndState) → heard passed.waiting heard_end client_sap now ≡ None → new ≡ forgotten heard_end client_sap
-      → Turned seen swaps steps stops count working link far (GaveUp None) new over after
+  pub turned_none : (new : EndState) → heard passed.waiting heard_end sap now ≡ None → new ≡ forgotten heard_end sap
+      → Turned seen swaps steps stops count sap working link far (GaveUp None) new over after
   turned_none new h e =
-      turned_by (GaveUp None) new (took_none (after_giving silent count mid) heard_end new job now idle (heard_where None h) e)
+      turned_by (GaveUp None) new (took_none sap (after_giving silent count mid) heard_end new job now idle (heard_where None h) e)
 
   -- its job came to this
-  pub turned_some : (turn : Turn) (new : EndState) (next : Job) (some : Bool) → heard passed.waiting heard_end client_sap now ≡ Some next
-      → some ≡ has_byte (units_of (own_of heard_end))
-      → settled (emptied heard_end client_sap) (alone next) (idle_after (passed.gave || some) idle) ≡ step_of turn new
-      → Turned seen swaps steps stops count working link far turn new over after
+  pub turned_some : (turn : Turn) (new : EndState) (next : Job) (some : Bool) → heard passed.waiting heard_end sap now ≡ Some next
+      → some ≡ has_byte (units_of (own_of sap heard_end))
+      → settled (emptied heard_end sap) (one_on sap next) (idle_after (passed.gave || some) idle) ≡ step_of sap turn new
+      → Turned seen swaps steps stops count sap working link far turn new over after
   turned_some turn new next some h s e =
       turned_by turn new
-      (took_some (after_giving silent count mid) heard_end new job now idle next (passed.gave || some) (heard_where (Some next) h)
-      (ap (λ b. b || some) x.something ∙ ap (λ b. gave_something (own_of (after_giving silent count mid)) (own_of heard_end) || b) s) ∙ e)
+      (took_some sap (after_giving silent count mid) heard_end new job now idle next (passed.gave || some) (heard_where (Some next) h)
+      (ap (λ b. b || some) x.something ∙ ap (λ b. gave_something (own_of sap (after_giving silent count mid)) (own_of sap heard_end) || b) s) ∙ e)
 
   -- it was answered, and memory was wanting as the reply was read
   pub unread : (e : SnepFault) (new : EndState) → e ≡ Memory → IsCut seen swaps steps stops count (ready working).llc link far e new over after

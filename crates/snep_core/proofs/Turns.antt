@@ -15,6 +15,7 @@ use Rattle.snep_core.proofs.Carrying.{Handed, handed}
 use Rattle.snep_core.proofs.Conversations.{Conversation, told_apart}
 use Rattle.snep_core.proofs.Meets.{Joined}
 use Rattle.snep_core.proofs.Pressing.{Answered, IsReady, Presses, answers, asks_presses_all, awaits_presses, ready_presses}
+use Rattle.snep_core.proofs.OnConnection.{readied_open}
 use Rattle.snep_core.proofs.Opening.{Asks, Awaits, Keeps, Meeting, asking, asks_again, awaiting, awaits_again, hops, hops_back, joined_client}
 use Rattle.snep_core.proofs.Served.{Serves}
 use Rattle.snep_core.proofs.Talking.{took_some}
@@ -36,10 +37,10 @@ module _ (limit : ℕ) (table : List Offer) (names : List Bound) (conv : ℕ →
   joined_ready {job} {l} {p} h =
       let c = conv h.n.server_miu h.n.client_miu in
       let laws = keeps.laws h.n.server_miu h.n.client_miu h.paired.server_miu h.paired.client_miu in
-      let r = laws.readies h.phase h.holds h.base h.n refl h.paired in
+      let r = laws.readies h.phase h.holds h.n refl h.paired in
       subst (λ z. ReadyMeets p (readied z client_sap job)) (sym h.l_is)
       (subst (λ z. ReadyMeets p (readied (joined_client limit table names conv most bytes old h) client_sap z)) (sym h.job_is)
-      (subst (ReadyMeets p) (sym r.ready) (inr (inr (record {
+      (subst (ReadyMeets p) (sym (readied_open h.base h.n (c.queue_at h.phase) (c.units_at h.phase) (c.queue_at r.to) (c.units_at r.to) (c.job_at h.phase) (c.job_at r.to) r.ready)) (inr (inr (record {
         base = h.base;
         far = h.far;
         n = h.n;
@@ -53,8 +54,8 @@ module _ (limit : ℕ) (table : List Offer) (names : List Bound) (conv : ℕ →
         l_is = refl;
         p_is = h.p_is;
         job_is = refl;
-        serves = subst (λ z. Serves limit table h.service z (c.accepted_at r.to)) (sym r.session_is)
-            (subst (λ z. Serves limit table h.service (c.session_at h.phase) z) (sym r.accepted_is) h.serves);
+        serves = subst (λ z. Serves client_sap limit table h.service z (c.accepted_at r.to)) (sym r.session_is)
+            (subst (λ z. Serves client_sap limit table h.service (c.session_at h.phase) z) (sym r.accepted_is) h.serves);
       })))))
 
   ready_meets : {job : Job} → {l : EndState} → {p : PeerState} → Meets job l p → ReadyMeets p (readied l client_sap job)
@@ -133,8 +134,8 @@ module _ (limit : ℕ) (table : List Offer) (names : List Bound) (conv : ℕ →
             l_is = ap (λ q. client_open h.base h.n q []) (sym x.queue_is) ∙ ap (λ us. client_open h.base h.n (c.queue_at x.to) us) (sym x.units_is);
             p_is = h.p_is;
             job_is = refl;
-            serves = subst (λ z. Serves limit table h.service z (c.accepted_at x.to)) (sym x.session_is)
-                (subst (λ z. Serves limit table h.service (c.session_at h.phase) z) (sym x.accepted_is) h.serves);
+            serves = subst (λ z. Serves client_sap limit table h.service z (c.accepted_at x.to)) (sym x.session_is)
+                (subst (λ z. Serves client_sap limit table h.service (c.session_at h.phase) z) (sym x.accepted_is) h.serves);
           };
           units = x.units_is;
         };
@@ -150,12 +151,12 @@ module _ (limit : ℕ) (table : List Offer) (names : List Bound) (conv : ℕ →
       let h = x.joined in
       let c = conv h.n.server_miu h.n.client_miu in
       let laws = keeps.laws h.n.server_miu h.n.client_miu h.paired.server_miu h.paired.client_miu in
-      let r = laws.readies h.phase h.holds h.base h.n refl h.paired in
-      let serves = subst (λ z. Serves limit table h.service z (c.accepted_at r.to)) (sym r.session_is)
-      (subst (λ z. Serves limit table h.service (c.session_at h.phase) z) (sym r.accepted_is) h.serves) in
+      let r = laws.readies h.phase h.holds h.n refl h.paired in
+      let serves = subst (λ z. Serves client_sap limit table h.service z (c.accepted_at r.to)) (sym r.session_is)
+      (subst (λ z. Serves client_sap limit table h.service (c.session_at h.phase) z) (sym r.accepted_is) h.serves) in
       subst (λ z. ReadyRests p (readied z client_sap job)) (sym h.l_is)
       (subst (λ z. ReadyRests p (readied (joined_client limit table names conv most bytes old h) client_sap z)) (sym h.job_is)
-      (subst (ReadyRests p) (sym r.ready) (inr (inr (record {
+      (subst (ReadyRests p) (sym (readied_open h.base h.n (c.queue_at h.phase) (c.units_at h.phase) (c.queue_at r.to) (c.units_at r.to) (c.job_at h.phase) (c.job_at r.to) r.ready)) (inr (inr (record {
         joined = record {
           base = h.base;
           far = h.far;
@@ -221,9 +222,9 @@ module _ (limit : ℕ) (table : List Offer) (names : List Bound) (conv : ℕ →
         (subst (λ z. Answered limit table names conv most bytes old keeps r.job mid (taken_from silent mid (given serving s.count there)) z) (sym s.left)
         (answers limit table names conv most bytes old keeps r.job mid there s.count out)) in
         let end_ = taken_from silent mid reply in
-        let x = joined_hears (has_waiting_of (own_of mid)) back.joined back.waiting in
-        let gave = gave_something (own_of mid) (own_of end_) || has_byte (units_of (own_of end_)) in
-        subst (λ z. StepSo z q) (sym (took_some mid end_ end_ job r.job idle x.next gave x.heard_is refl
+        let x = joined_hears (has_waiting_of (own_of client_sap mid)) back.joined back.waiting in
+        let gave = gave_something (own_of client_sap mid) (own_of client_sap end_) || has_byte (units_of (own_of client_sap end_)) in
+        subst (λ z. StepSo z q) (sym (took_some client_sap mid end_ end_ job r.job idle x.next gave x.heard_is refl
         ∙ ap (λ b. settled (emptied end_ client_sap) (alone x.next) (idle_after b idle)) back.gave_some))
         (settles (emptied end_ client_sap) q x.next (inr (inr x.rested)))
 

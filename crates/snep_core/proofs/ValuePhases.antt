@@ -3,20 +3,22 @@ use Rattle.std.proofs.Common.{◌≡◌, ◌<◌, ◌≤◌, ℕ, ◌+◌, ◌^�
 use Rattle.std.specs.List.{concat}
 use Rattle.std.proofs.lemmas.Bool.{eq-eqb, le-ltb, ne_eqb}
 use Rattle.std.proofs.lemmas.List.{length-take, take-append-drop}
+use Rattle.llcp_link.specs.State.{OwnState}
 use Rattle.llcp_pdu.specs.General.{IsMiu}
 use Rattle.snep_core.specs.declared.message.Answer.TheVariants as answers
 use Rattle.snep_core.specs.declared.session.Due.TheVariants.{Tells as Tells_}
 use Rattle.snep_core.specs.declared.session.Word.{Word}
 use Rattle.snep_core.specs.declared.session.Word.TheVariants.{Offers, Resumes}
-use Rattle.snep_core.specs.Accord.{IsPaired, Numbers, client_open}
+use Rattle.snep_core.specs.Accord.{IsPaired, Numbers}
 use Rattle.snep_core.specs.Cuts.{NoneEmpty}
 use Rattle.snep_core.specs.First.{info_of}
 use Rattle.snep_core.specs.Jobs.{Asks, Collects, Ending, Job, Over, Sends, Value, head_of, sent_told, told, told_all, told_on, value_told}
 use Rattle.snep_core.specs.Message.{answer_code, message}
 use Rattle.snep_core.specs.Server.{Received, ServerState, serving}
 use Rattle.snep_core.specs.Session.{Did, Offer, Sent, Session, did, fresh_session, sent}
-use Rattle.snep_core.specs.Talk.{EndState, Ready, client_sap, continue_bytes, finished, ready_so, submits, takes_more}
+use Rattle.snep_core.specs.Talk.{EndState, continue_bytes, finished}
 use Rattle.snep_core.proofs.Conversations.{AllWithin, Comes, Conversation, Converses, Hears, MayTell, Readies, StandsAt, Tells, hears_nothing, no_unit, stays}
+use Rattle.snep_core.proofs.OnConnection.{OnIt, conn_at, on_so, submits_on, takes_on}
 use Rattle.snep_core.proofs.RequestAnswers.{behind_stays, concat_more, never_full, no_room, none_more, paired_more, quiet, takes_room}
 use Rattle.snep_core.proofs.RequestPhases.{IsLast, Opens, number_is, opens}
 use Rattle.snep_core.proofs.Served.{Serves, due_is, serves_brought, serves_sent}
@@ -165,9 +167,9 @@ module _ (limit counts most : ℕ) (v : List ℕ) (old : List Received) (size : 
     cut : Opens (answer_code answers.Success) v first rest
     cut = opens (answer_code answers.Success) v first rest first_six (sym (take-append-drop size bytes))
 
-    module _ (small : most < 2 ^ 32) (few : length v ≤ most) (table : List Offer) where
+    module _ (small : most < 2 ^ 32) (few : length v ≤ most) (sap : ℕ) (table : List Offer) where
       abbrev Stands : Later → ServerState → Type 0
-      Stands ph s = StandsAt limit table later ph s
+      Stands ph s = StandsAt sap limit table later ph s
 
       -- what the client makes of the first unit
       head : Heads v first cut.info
@@ -182,12 +184,12 @@ module _ (limit counts most : ℕ) (v : List ℕ) (old : List Received) (size : 
           ∙ ap (λ b. if b then None else value_told (length v) (info_of first) (Asks (length v) (info_of first))) (le-ltb most (length v) few)
 
       -- the first unit goes out, and all behind it waits
-      offers : counts ≤ limit → (s : ServerState) → Stands Offering s → Tells limit table later size Offering s
+      offers : counts ≤ limit → (s : ServerState) → Stands Offering s → Tells sap limit table later size Offering s
       offers k s h =
           let z : Sent = record { session = keeping rest; unit = Some first } in
           let e : sent size (telling (Offers bytes)) ≡ z = refl in record {
             unit = first;
-            due = due_is limit table s (telling (Offers bytes)) old h size z e;
+            due = due_is sap limit table s (telling (Offers bytes)) old h size z e;
             short = first_short;
             some = (let f = first_six in omega arith);
             to = FirstHeard;
@@ -195,30 +197,30 @@ module _ (limit counts most : ℕ) (v : List ℕ) (old : List Received) (size : 
             job = refl;
             queue_is = refl;
             units_is = refl;
-            serves = serves_sent limit table s (telling (Offers bytes)) old h size z e;
+            serves = serves_sent sap limit table s (telling (Offers bytes)) old h size z e;
           }
 
       -- a unit of bytes that are going out
       record Gives (going : List ℕ) (s : ServerState) : Type 0 where
-        pub due : serving.due s client_sap size ≡ Some (take size going)
+        pub due : serving.due s sap size ≡ Some (take size going)
         pub short : length (take size going) ≤ size
         pub some : 0 < length (take size going)
-        pub serves : Serves limit table (serving.sent s client_sap size) (giving (drop size going)) old
+        pub serves : Serves sap limit table (serving.sent s sap size) (giving (drop size going)) old
 
-      gives : (x : Session) (going : List ℕ) (s : ServerState) → Serves limit table s x old → 0 < length going → sent size x ≡ record { session = giving (drop size going); unit = Some (take size going) } → Gives going s
+      gives : (x : Session) (going : List ℕ) (s : ServerState) → Serves sap limit table s x old → 0 < length going → sent size x ≡ record { session = giving (drop size going); unit = Some (take size going) } → Gives going s
       gives x going s h some e =
           let z : Sent = record { session = giving (drop size going); unit = Some (take size going) } in
           let len = length-take size going in record {
-            due = due_is limit table s x old h size z e;
+            due = due_is sap limit table s x old h size z e;
             short = omega (arith, len);
             some = omega (arith, len, fits.0, some);
-            serves = serves_sent limit table s x old h size z e;
+            serves = serves_sent sap limit table s x old h size z e;
           }
 
       resumed : (n : List ℕ) → 0 < length n → sent size (record (keeping n) { due = Tells_ Resumes ∷ [] }) ≡ record { session = giving (drop size n); unit = Some (take size n) }
       resumed n h = rw (ne_eqb (length n) 0 (λ e. omega arith)) refl
 
-      resumes : counts ≤ limit → 0 < length rest → (s : ServerState) → Stands Resuming s → Tells limit table later size Resuming s
+      resumes : counts ≤ limit → 0 < length rest → (s : ServerState) → Stands Resuming s → Tells sap limit table later size Resuming s
       resumes k some s h =
           let g = gives (session_at Resuming) rest s h some (resumed rest some) in
           let same : concat (take size rest ∷ []) ++ drop size rest ≡ rest = ap (λ z. z ++ drop size rest) (append-nil (take size rest)) ∙ take-append-drop size rest in record {
@@ -235,7 +237,7 @@ module _ (limit counts most : ℕ) (v : List ℕ) (old : List Received) (size : 
           }
 
       collects : counts ≤ limit → (have : List ℕ) (units : List (List ℕ)) (b : ℕ) (bs : List ℕ) → AddsUp have units (b ∷ bs) → (s : ServerState) → Stands (Collecting have units (b ∷ bs)) s
-          → Tells limit table later size (Collecting have units (b ∷ bs)) s
+          → Tells sap limit table later size (Collecting have units (b ∷ bs)) s
       collects k have units b bs w s h =
           let u = take size (b ∷ bs) in
           let more = drop size (b ∷ bs) in
@@ -254,18 +256,18 @@ module _ (limit counts most : ℕ) (v : List ℕ) (old : List Received) (size : 
             serves = g.serves;
           }
 
-      value_tells : (ph : Later) → (counts ≤ limit) × IsAt ph → (s : ServerState) → Stands ph s → MayTell limit table later size ph s
+      value_tells : (ph : Later) → (counts ≤ limit) × IsAt ph → (s : ServerState) → Stands ph s → MayTell sap limit table later size ph s
       value_tells Offering k s h = inr (offers k.0 s h)
-      value_tells FirstHeard k s h = quiet size limit table later FirstHeard s h (sent size (keeping rest)) refl refl
-      value_tells Asking k s h = quiet size limit table later Asking s h (sent size (keeping rest)) refl refl
-      value_tells Requested k s h = quiet size limit table later Requested s h (sent size (keeping rest)) refl refl
+      value_tells FirstHeard k s h = quiet sap size limit table later FirstHeard s h (sent size (keeping rest)) refl refl
+      value_tells Asking k s h = quiet sap size limit table later Asking s h (sent size (keeping rest)) refl refl
+      value_tells Requested k s h = quiet sap size limit table later Requested s h (sent size (keeping rest)) refl refl
       value_tells Resuming k s h = inr (resumes k.0 k.1 s h)
-      value_tells (Collecting have units []) k s h = quiet size limit table later (Collecting have units []) s h (sent size fresh_session) refl refl
+      value_tells (Collecting have units []) k s h = quiet sap size limit table later (Collecting have units []) s h (sent size fresh_session) refl refl
       value_tells (Collecting have units (b ∷ bs)) k s h = inr (collects k.0 have units b bs k.1 s h)
-      value_tells Got k s h = quiet size limit table later Got s h (sent size fresh_session) refl refl
+      value_tells Got k s h = quiet sap size limit table later Got s h (sent size fresh_session) refl refl
 
       -- the continue comes
-      continue_comes : counts ≤ limit → 0 < length rest → (s : ServerState) → Stands Requested s → Comes limit table later Requested [] [] (serving.brought s client_sap continue_bytes)
+      continue_comes : counts ≤ limit → 0 < length rest → (s : ServerState) → Stands Requested s → Comes sap limit table later Requested [] [] (serving.brought s sap continue_bytes)
       continue_comes k some s h =
           let d : Did = record { session = session_at Resuming; accepts = None } in
           let e : did limit table (keeping rest) continue_bytes ≡ d = refl in record {
@@ -274,17 +276,17 @@ module _ (limit counts most : ℕ) (v : List ℕ) (old : List Received) (size : 
             job = refl;
             queue_is = refl;
             units_is = refl;
-            serves = subst (λ z. Serves limit table (serving.brought s client_sap continue_bytes) (session_at Resuming) z) (append-nil old)
-                (serves_brought limit table s (keeping rest) old h continue_bytes d e);
+            serves = subst (λ z. Serves sap limit table (serving.brought s sap continue_bytes) (session_at Resuming) z) (append-nil old)
+                (serves_brought sap limit table s (keeping rest) old h continue_bytes d e);
           }
 
       value_comes : (ph : Later) (u : List ℕ) (queue : List (List ℕ)) → queue_at ph ≡ u ∷ queue → (counts ≤ limit) × IsAt ph → (s : ServerState) → Stands ph s
-          → Comes limit table later ph queue (units_at ph) (serving.brought s client_sap u)
+          → Comes sap limit table later ph queue (units_at ph) (serving.brought s sap u)
       value_comes Requested u queue e k s h =
           let i : continue_bytes ≡ u = cc in
           let j : [] ≡ queue = cc in
-          subst (λ q. Comes limit table later Requested q [] (serving.brought s client_sap u)) j
-          (subst (λ w. Comes limit table later Requested [] [] (serving.brought s client_sap w)) i (continue_comes k.0 k.1 s h))
+          subst (λ q. Comes sap limit table later Requested q [] (serving.brought s sap u)) j
+          (subst (λ w. Comes sap limit table later Requested [] [] (serving.brought s sap w)) i (continue_comes k.0 k.1 s h))
       value_comes Offering u queue e k s h = absurd (no_unit u queue e)
       value_comes FirstHeard u queue e k s h = absurd (no_unit u queue e)
       value_comes Asking u queue e k s h = absurd (no_unit u queue e)
@@ -293,7 +295,7 @@ module _ (limit counts most : ℕ) (v : List ℕ) (old : List Received) (size : 
       value_comes Got u queue e k s h = absurd (no_unit u queue e)
 
       -- the client takes up what it heard
-      first_taken : counts ≤ limit → (r : List ℕ) → rest ≡ r → Hears limit table later FirstHeard
+      first_taken : counts ≤ limit → (r : List ℕ) → rest ≡ r → Hears sap limit table later FirstHeard
       first_taken k [] e =
           let whole : info_of first ≡ v = sym (append-nil (info_of first)) ∙ ap (λ z. info_of first ++ z) (sym e) ∙ all in record {
             to = Got;
@@ -321,7 +323,7 @@ module _ (limit counts most : ℕ) (v : List ℕ) (old : List Received) (size : 
             accepted_is = refl;
           }
 
-      units_taken : counts ≤ limit → (have : List ℕ) (units : List (List ℕ)) (going : List ℕ) → AddsUp have units going → Hears limit table later (Collecting have units going)
+      units_taken : counts ≤ limit → (have : List ℕ) (units : List (List ℕ)) (going : List ℕ) → AddsUp have units going → Hears sap limit table later (Collecting have units going)
       units_taken k have [] [] w = absurd (let z = w.some in omega arith)
       units_taken k have (u ∷ us) [] w =
           let whole : have ++ (u ++ concat us) ≡ v = ap (λ z. have ++ z) (sym (append-nil (u ++ concat us))) ∙ w.all in record {
@@ -347,16 +349,16 @@ module _ (limit counts most : ℕ) (v : List ℕ) (old : List Received) (size : 
             accepted_is = refl;
           }
 
-      value_hears : (ph : Later) → (counts ≤ limit) × IsAt ph → Hears limit table later ph
-      value_hears Offering k = hears_nothing limit table later Offering k refl
+      value_hears : (ph : Later) → (counts ≤ limit) × IsAt ph → Hears sap limit table later ph
+      value_hears Offering k = hears_nothing sap limit table later Offering k refl
       value_hears FirstHeard k = first_taken k.0 rest refl
-      value_hears Asking k = hears_nothing limit table later Asking k refl
-      value_hears Requested k = hears_nothing limit table later Requested k refl
-      value_hears Resuming k = hears_nothing limit table later Resuming k refl
+      value_hears Asking k = hears_nothing sap limit table later Asking k refl
+      value_hears Requested k = hears_nothing sap limit table later Requested k refl
+      value_hears Resuming k = hears_nothing sap limit table later Resuming k refl
       value_hears (Collecting have units going) k = units_taken k.0 have units going k.1
-      value_hears Got k = hears_nothing limit table later Got k refl
+      value_hears Got k = hears_nothing sap limit table later Got k refl
 
-      value_plain : (ph : Later) (l : EndState) → finished l client_sap (job_at ph) ≡ job_at ph
+      value_plain : (ph : Later) (l : EndState) → finished l sap (job_at ph) ≡ job_at ph
       value_plain Offering l = refl
       value_plain FirstHeard l = refl
       value_plain Asking l = refl
@@ -366,23 +368,23 @@ module _ (limit counts most : ℕ) (v : List ℕ) (old : List Received) (size : 
       value_plain Got l = refl
 
       -- what the client submits
-      module _ (miu : ℕ) (range : IsMiu miu) (l : EndState) (n : Numbers) (is : n.server_miu ≡ miu) where
-        abbrev bare_end : EndState
-        bare_end = client_open l n [] []
+      module _ (miu : ℕ) (range : IsMiu miu) (n : Numbers) (is : n.server_miu ≡ miu) where
+        abbrev bare_end : OwnState
+        bare_end = conn_at sap n [] []
 
-        abbrev chosen : Bool → Ready
+        abbrev chosen : Bool → OnIt
         chosen b =
-            if b then ready_so (submits bare_end client_sap continue_bytes) (Collects (length v) (info_of first))
-            else ready_so bare_end (Asks (length v) (info_of first))
+            if b then on_so (submits_on bare_end continue_bytes) (Collects (length v) (info_of first))
+            else on_so bare_end (Asks (length v) (info_of first))
 
         six_fit : length continue_bytes ≤ n.server_miu
         six_fit = let e : length continue_bytes ≡ 6 = refl in let z : n.server_miu ≡ miu = is in omega (arith, e, z, range.0)
 
-        asks_for : (counts ≤ limit) × (0 < length rest) → IsPaired n 0 → (b : Bool) → takes_more bare_end client_sap continue_bytes ≡ b → Readies limit table later size l n Asking
+        asks_for : (counts ≤ limit) × (0 < length rest) → IsPaired n 0 → (b : Bool) → takes_on bare_end continue_bytes ≡ b → Readies sap limit table later size n Asking
         asks_for k r true t = record {
           to = Requested;
           holds = k;
-          paired = paired_more l n [] continue_bytes r (takes_room l n [] [] continue_bytes t);
+          paired = paired_more sap n [] continue_bytes r (takes_room sap n [] [] continue_bytes t);
           ready = ap chosen t;
           session_is = refl;
           accepted_is = refl;
@@ -395,25 +397,25 @@ module _ (limit counts most : ℕ) (v : List ℕ) (old : List Received) (size : 
           ready = ap chosen t;
           session_is = refl;
           accepted_is = refl;
-          busy = λ u o q a s h. absurd (never_full l n [] 0 r (no_room l n [] [] continue_bytes six_fit t) refl a);
+          busy = λ u o q a s h. absurd (never_full sap n [] 0 r (no_room sap n [] [] continue_bytes six_fit t) refl a);
         }
 
         low : 0 < miu
         low = omega (arith, range.0)
 
-        collecting_stays : (have : List ℕ) (units : List (List ℕ)) (going : List ℕ) → (counts ≤ limit) × AddsUp have units going → IsPaired n 0 → Readies limit table later size l n (Collecting have units going)
-        collecting_stays have units (b ∷ bs) k r = stays limit table later (Collecting have units (b ∷ bs)) k size l n r refl (λ u o q s h. collects k.0 have units b bs k.1 s h)
+        collecting_stays : (have : List ℕ) (units : List (List ℕ)) (going : List ℕ) → (counts ≤ limit) × AddsUp have units going → IsPaired n 0 → Readies sap limit table later size n (Collecting have units going)
+        collecting_stays have units (b ∷ bs) k r = stays sap limit table later (Collecting have units (b ∷ bs)) k size n r refl (λ u o q s h. collects k.0 have units b bs k.1 s h)
         collecting_stays have [] [] k r = absurd (let z = k.1.some in omega arith)
-        collecting_stays have (x ∷ xs) [] k r = stays limit table later (Collecting have (x ∷ xs) []) k size l n r refl (λ u o q s h. absurd (no_unit _ _ (sym u)))
+        collecting_stays have (x ∷ xs) [] k r = stays sap limit table later (Collecting have (x ∷ xs) []) k size n r refl (λ u o q s h. absurd (no_unit _ _ (sym u)))
 
-        value_readies : (ph : Later) → (counts ≤ limit) × IsAt ph → IsPaired n (length (queue_at ph)) → Readies limit table later size l n ph
-        value_readies Offering k r = stays limit table later Offering k size l n r (behind_stays l n (Some most) miu is [] [] [] low) (λ u o q s h. offers k.0 s h)
-        value_readies FirstHeard k r = stays limit table later FirstHeard k size l n r (behind_stays l n (Some most) miu is [] (first ∷ []) [] low) (λ u o q s h. absurd (no_unit _ _ (sym u)))
-        value_readies Asking k r = asks_for k r (takes_more bare_end client_sap continue_bytes) refl
-        value_readies Requested k r = stays limit table later Requested k size l n r refl (λ u o q s h. absurd (no_unit _ _ (sym q)))
-        value_readies Resuming k r = stays limit table later Resuming k size l n r refl (λ u o q s h. resumes k.0 k.1 s h)
+        value_readies : (ph : Later) → (counts ≤ limit) × IsAt ph → IsPaired n (length (queue_at ph)) → Readies sap limit table later size n ph
+        value_readies Offering k r = stays sap limit table later Offering k size n r (behind_stays sap n (Some most) miu is [] [] [] low) (λ u o q s h. offers k.0 s h)
+        value_readies FirstHeard k r = stays sap limit table later FirstHeard k size n r (behind_stays sap n (Some most) miu is [] (first ∷ []) [] low) (λ u o q s h. absurd (no_unit _ _ (sym u)))
+        value_readies Asking k r = asks_for k r (takes_on bare_end continue_bytes) refl
+        value_readies Requested k r = stays sap limit table later Requested k size n r refl (λ u o q s h. absurd (no_unit _ _ (sym q)))
+        value_readies Resuming k r = stays sap limit table later Resuming k size n r refl (λ u o q s h. resumes k.0 k.1 s h)
         value_readies (Collecting have units going) k r = collecting_stays have units going k r
-        value_readies Got k r = stays limit table later Got k size l n r refl (λ u o q s h. absurd cc)
+        value_readies Got k r = stays sap limit table later Got k size n r refl (λ u o q s h. absurd cc)
 
       value_within : (miu : ℕ) → IsMiu miu → (ph : Later) → AllWithin miu (queue_at ph)
       value_within miu range Offering = tt
@@ -424,12 +426,12 @@ module _ (limit counts most : ℕ) (v : List ℕ) (old : List Received) (size : 
       value_within miu range (Collecting have units going) = tt
       value_within miu range Got = tt
 
-      pub value_converses : (miu : ℕ) → IsMiu miu → Converses limit table later miu size
+      pub value_converses : (miu : ℕ) → IsMiu miu → Converses sap limit table later miu size
       value_converses miu range = record {
         within = λ ph k. value_within miu range ph;
         comes = value_comes;
         tells = value_tells;
         hears = value_hears;
         plain = value_plain;
-        readies = λ ph k l n is r. value_readies miu range l n is ph k r;
+        readies = λ ph k n is r. value_readies miu range n is ph k r;
       }

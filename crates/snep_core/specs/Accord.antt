@@ -59,10 +59,10 @@ abbrev pub is_some_of : List (List ℕ) → Bool
 is_some_of [] = false
 is_some_of (u ∷ us) = true
 
--- the client's end of it, with these units still to give
-abbrev pub client_conn : Numbers → List (List ℕ) → ConnState
-client_conn n queue = record {
-  here = client_sap;
+-- the client's end of it, from a SAP, with these units still to give
+abbrev pub client_conn : ℕ → Numbers → List (List ℕ) → ConnState
+client_conn sap n queue = record {
+  here = sap;
   there = server_sap;
   near_miu = n.client_miu;
   far_miu = n.server_miu;
@@ -79,10 +79,10 @@ client_conn n queue = record {
 }
 
 -- the server's end of it
-abbrev pub server_conn : Numbers → ConnState
-server_conn n = record {
+abbrev pub server_conn : ℕ → Numbers → ConnState
+server_conn sap n = record {
   here = server_sap;
-  there = client_sap;
+  there = sap;
   near_miu = n.server_miu;
   far_miu = n.client_miu;
   window = n.client_window;
@@ -114,11 +114,11 @@ client_open l n queue units = record l {
   readable = true;
   queue = [];
   served = [];
-  own = opened client_sap server_sap (client_conn n queue) units ∷ [];
+  own = opened client_sap server_sap (client_conn client_sap n queue) units ∷ [];
 }
 
 abbrev pub server_open : PeerState → Numbers → ServerState → PeerState
-server_open p n s = record p { readable = true; queue = []; served = server_conn n ∷ []; own = []; service = s }
+server_open p n s = record p { readable = true; queue = []; served = server_conn client_sap n ∷ []; own = []; service = s }
 
 -- the client has no connection, or one that is over, of which no unit is left
 abbrev pub AreOver : List OwnState → Type 0

@@ -11,8 +11,8 @@ use Rattle.llcp_link.specs.Giving.{given, after_giving}
 use Rattle.snep_core.specs.declared.fault.SnepFault.{SnepFault}
 use Rattle.snep_core.specs.declared.fault.SnepFault.TheVariants.{LinkEnded, Memory, BadPeer}
 use Rattle.snep_core.specs.declared.fault.SnepFault.TheVariants as faults
-use Rattle.snep_core.specs.Jobs.{Job, Over, Refused}
-use Rattle.snep_core.specs.Talk.{EndState, Step, Goes, Ends, GivesUp, Told, Working, alone, gave_something, client_sap, numbers_behind, own_of, ready, replied, silent}
+use Rattle.snep_core.specs.Jobs.{Over, Refused}
+use Rattle.snep_core.specs.Talk.{EndState, Step, Goes, Ends, GivesUp, Told, Working, CameTo, alone, gave_something, numbers_behind, one_on, own_of, ready, replied, silent}
 use Rattle.snep_core.specs.declared.job.Refusal.{Refusal}
 use Rattle.snep_core.specs.declared.job.Refusal.TheVariants as refusals
 use Rattle.snep_core.specs.declared.job.Passed.{Passed}
@@ -52,15 +52,15 @@ refused_by refusals.NotFound = faults.NotFound
 refused_by refusals.Excess = faults.Excess
 refused_by refusals.NotImplemented = faults.NotImplemented
 
--- a far end that is given up in a call of one job: what that came to, or none where it was at fault
-abbrev pub gives_up : Option Job → EndState → Step
-gives_up came l = GivesUp (record { came = record { sap = client_sap; job = came } ∷ []; llc = l })
+-- a far end that is given up: what each job came to, or none where it was at fault
+abbrev pub gives_up : List CameTo → EndState → Step
+gives_up came l = GivesUp (record { came = came; llc = l })
 
--- what a call is behind an exchange
-abbrev pub step_of : Turn → EndState → Step
-step_of (Ended e) l = Ends (alone (Over e)) l
-step_of (Went job idle) l = Goes (record { llc = l; jobs = alone job; idle = idle })
-step_of (GaveUp came) l = gives_up came l
+-- what a call of one job is behind an exchange
+abbrev pub step_of : ℕ → Turn → EndState → Step
+step_of sap (Ended e) l = Ends (one_on sap (Over e)) l
+step_of sap (Went job idle) l = Goes (record { llc = l; jobs = one_on sap job; idle = idle })
+step_of sap (GaveUp came) l = gives_up (record { sap = sap; job = came } ∷ []) l
 
 module _ {C A : Type 0} (seen : C → CarrierView) (swaps : C → List ℕ → List FarStep → C → Type 0) (steps : A → List ℕ → List ℕ → A → Type 0)
     (stops : A → List ℕ → A → Type 0) where
@@ -75,23 +75,23 @@ module _ {C A : Type 0} (seen : C → CarrierView) (swaps : C → List ℕ → L
     pub swapped : BySwaps swaps did link now
     pub far_moved : FarMoved steps stops did far after
 
-  -- one exchange: the next payload, with so many PDUs, was answered, and the reply taken
-  pub record Exchanged (count : ℕ) (old : EndState) (link : C) (far : A) (passed : Passed) (new : EndState) (now : C) (after : A) : Type 0 where
+  -- One exchange: the next payload, with so many PDUs, was answered, and the reply taken. It showed this on the connection from a SAP.
+  pub record Exchanged (count sap : ℕ) (old : EndState) (link : C) (far : A) (passed : Passed) (new : EndState) (now : C) (after : A) : Type 0 where
     pub reply : List ℕ
     pub swap : SwapDone steps (seen link) (seen now) (given silent count old) reply far after
     pub swapped : Swapped swaps steps stops link (given silent count old) far now after
         (λ did. did ≡ Stepped (given silent count old) reply ∷ [])
     pub took : new ≡ taken_from silent (after_giving silent count old) reply
-    pub something : passed.gave ≡ gave_something (own_of (after_giving silent count old)) (own_of new)
-    pub waiting : passed.waiting ≡ has_waiting_of (own_of (after_giving silent count old))
+    pub something : passed.gave ≡ gave_something (own_of sap (after_giving silent count old)) (own_of sap new)
+    pub waiting : passed.waiting ≡ has_waiting_of (own_of sap (after_giving silent count old))
 
   -- one exchange, and what the call is then
-  pub record Turned (count : ℕ) (w : Working) (link : C) (far : A) (turn : Turn) (new : EndState) (now : C) (after : A) : Type 0 where
+  pub record Turned (count sap : ℕ) (w : Working) (link : C) (far : A) (turn : Turn) (new : EndState) (now : C) (after : A) : Type 0 where
     pub reply : List ℕ
     pub swap : SwapDone steps (seen link) (seen now) (given silent count (ready w).llc) reply far after
     pub swapped : Swapped swaps steps stops link (given silent count (ready w).llc) far now after
         (λ did. did ≡ Stepped (given silent count (ready w).llc) reply ∷ [])
-    pub step : replied count w reply ≡ step_of turn new
+    pub step : replied count w reply ≡ step_of sap turn new
 
   -- Nothing was handed over: memory was wanting before.
   pub record Rests (link : C) (far : A) (e : SnepFault) (now : C) (after : A) : Type 0 where
@@ -143,7 +143,7 @@ module _ {C A : Type 0} (seen : C → CarrierView) (swaps : C → List ℕ → L
   -- A call that failed: the far end was given up, or it was cut off.
   abbrev pub FailsBy : List ℕ → Step → C → A → SnepFault → EndState → C → A → Type 0
   FailsBy numbers from link far e new now after =
-      ((e ≡ BadPeer) × (came : Option Job) × Talks numbers from link far (gives_up came new) now after) ⊎ Breaks numbers from link far e new now after
+      ((e ≡ BadPeer) × (came : List CameTo) × Talks numbers from link far (gives_up came new) now after) ⊎ Breaks numbers from link far e new now after
 
   -- A call whose request was refused.
   pub record IsRefused (numbers : List ℕ) (from : Step) (link : C) (far : A) (e : SnepFault) (new : EndState) (now : C) (after : A) : Type 0 where

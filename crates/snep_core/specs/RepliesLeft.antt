@@ -1,14 +1,14 @@
 -- How many replies a call of a client may still hear, whatever a far end sends, and that it comes to an end (NFC Forum
 -- LLCP 1.3 and SNEP 1.0; when a far end is given up is this project's own).
-use Rattle.std.specs.Prelude.{◌≡◌, ◌<◌, ◌≤◌, ℕ, ◌+◌, ◌-◌, ◌*◌, List, [], ◌∷◌, length, Option, Some, None}
-use Rattle.std.specs.List.{AllByRecursion}
+use Rattle.std.specs.Prelude.{◌≡◌, ◌<◌, ◌≤◌, ℕ, ◌+◌, ◌-◌, ◌*◌, eqb, List, [], ◌∷◌, length, Option, Some, None}
+use Rattle.std.specs.List.{AllByRecursion, IsDistinct}
 use Rattle.nfc_base.specs.Links.{FarStep}
 use Rattle.llcp_conn.specs.Conn.{count_end}
 use Rattle.llcp_link.specs.Asking.{acked_of}
 use Rattle.llcp_link.specs.State.{OwnState, own_from}
 use Rattle.llcp_link.specs.Waning.{pending}
 use Rattle.snep_core.specs.Jobs.{Job, Begins, Waits, Sends, Asks, Collects, Looks, Closes, Over}
-use Rattle.snep_core.specs.Talk.{AreApart, EndState, Goes, OnSap, Step, Task, Told, Working, begins, client_sap, most_idle, replied, saps}
+use Rattle.snep_core.specs.Talk.{AreApart, EndState, Goes, OnSap, Step, TaskOn, Told, Working, begins_all, most_idle, replied, saps}
 
 -- an answer, or the first unit of a value, the continue that asks for the rest, and its bytes
 abbrev pub answer_left : Option ℕ → ℕ
@@ -50,9 +50,16 @@ pub record IsUnderWay (w : Working) : Type 0 where
   pub counted : AllByRecursion (IsCounted w.llc) (saps w.jobs)
   pub idle : w.idle < most_idle
 
--- each call begins under way
+-- the SAPs of tasks
+abbrev pub task_saps : List TaskOn → List ℕ
+task_saps [] = []
+task_saps (x ∷ xs) = x.sap ∷ task_saps xs
+
+-- A call of any number of tasks, each on a connection of its own, begins under way.
 abbrev pub CallsBegin : Type 0
-CallsBegin = (l : EndState) (task : Task) (w : Working) → IsCounted l client_sap → begins l task ≡ Goes w → IsUnderWay w
+CallsBegin =
+    (l : EndState) (tasks : List TaskOn) (w : Working) → IsDistinct eqb (task_saps tasks)
+    → AllByRecursion (IsCounted l) (task_saps tasks) → begins_all l tasks ≡ Goes w → IsUnderWay w
 
 -- Whatever is replied: where the call goes on, fewer replies are left.
 abbrev pub RepliesFall : Type 0

@@ -56,6 +56,11 @@ pub record OnSap : Type 0 where
   pub sap : ℕ
   pub job : Job
 
+-- a task, on the connection from a SAP
+pub record TaskOn : Type 0 where
+  pub sap : ℕ
+  pub task : Task
+
 -- What a call is about that goes on: its end, its jobs, each on a connection of its own, and how many replies in a row
 -- gave nothing.
 pub record Working : Type 0 where
@@ -87,13 +92,39 @@ pub data Step : Type 0 where
   Ends : List OnSap → EndState → Step
   GivesUp : GivenUp → Step
 
--- one job alone
-abbrev pub alone : Job → List OnSap
-alone job = record { sap = client_sap; job = job } ∷ []
+-- one job, and that of the client's own SAP
+abbrev pub one_on : ℕ → Job → List OnSap
+one_on sap job = record { sap = sap; job = job } ∷ []
 
--- where a call begins
-abbrev pub begun : EndState → Job → Step
-begun l job = Goes (record { llc = l; jobs = alone job; idle = 0 })
+abbrev pub alone : Job → List OnSap
+alone job = one_on client_sap job
+
+-- where a call of these jobs begins
+abbrev pub begun : EndState → List OnSap → Step
+begun l jobs = Goes (record { llc = l; jobs = jobs; idle = 0 })
+
+-- an end, and a job that goes on there; an end, and all jobs
+pub record Ready : Type 0 where
+  pub llc : EndState
+  pub job : Job
+
+pub record AllReady : Type 0 where
+  pub llc : EndState
+  pub jobs : List OnSap
+
+abbrev pub ready_so : EndState → Job → Ready
+ready_so l job = record { llc = l; job = job }
+
+abbrev pub with_job : ℕ → Ready → (EndState → AllReady) → AllReady
+with_job sap r more = record { llc = (more r.llc).llc; jobs = record { sap = sap; job = r.job } ∷ (more r.llc).jobs }
+
+abbrev pub is_over : Job → Bool
+is_over (Over e) = true
+is_over _ = false
+
+abbrev pub all_over : List OnSap → Bool
+all_over [] = true
+all_over (x ∷ xs) = is_over x.job && all_over xs
 
 -- a connection to the server is asked for, unless one is there
 abbrev pub connected : EndState → ℕ → EndState
@@ -114,15 +145,38 @@ get_bytes most key = message_of_code get_code (four_bytes most ++ key)
 abbrev pub continue_bytes : List ℕ
 continue_bytes = message_of_code continue_code []
 
--- its connection
-abbrev pub own_of : EndState → Option OwnState
-own_of l = own_from client_sap l.own
+-- the connection from a SAP
+abbrev pub own_of : ℕ → EndState → Option OwnState
+own_of sap l = own_from sap l.own
 
+-- it is ended, where it is open
+abbrev pub leaving : EndState → ℕ → Bool → Ready
+leaving l sap true = ready_so (disconnected_by l (own_of sap l)) Closes
+leaving l sap false = ready_so l (Over Done)
+
+-- What a task puts into the queue before any payload, and its job: a connection is asked for, a name is looked up, or the
+-- connection is ended.
+abbrev pub opening : EndState → ℕ → Task → Ready
+opening l sap (Puts message) = ready_so (connected l sap) (Begins None (put_bytes message))
+opening l sap (Gets most key) = ready_so (connected l sap) (Begins (Some most) (get_bytes most key))
+opening l sap (Finds name) = ready_so (looked_up l name) (Looks l.asked)
+opening l sap Leaves = leaving l sap (is_open_by (own_of sap l))
+
+-- Of several tasks all this is put there at once, in their order, before a unit of any is submitted.
+abbrev pub all_opening : List TaskOn → EndState → AllReady
+all_opening [] l = record { llc = l; jobs = [] }
+all_opening (x ∷ xs) l = with_job x.sap (opening l x.sap x.task) (all_opening xs)
+
+-- The call begins, or is over where nothing is to be done.
+abbrev pub beginning : AllReady → Step
+beginning r = if all_over r.jobs then Ends r.jobs r.llc else begun r.llc r.jobs
+
+abbrev pub begins_all : EndState → List TaskOn → Step
+begins_all l tasks = beginning (all_opening tasks l)
+
+-- a call of one task, on the connection from the client's own SAP
 abbrev pub begins : EndState → Task → Step
-begins l (Puts message) = begun (connected l client_sap) (Begins None (put_bytes message))
-begins l (Gets most key) = begun (connected l client_sap) (Begins (Some most) (get_bytes most key))
-begins l (Finds name) = begun (looked_up l name) (Looks l.asked)
-begins l Leaves = if is_open_by (own_of l) then begun (disconnected_by l (own_of l)) Closes else Ends (alone (Over Done)) l
+begins l task = begins_all l (record { sap = client_sap; task = task } ∷ [])
 
 -- a unit may be submitted on the connection from a SAP, and is
 abbrev pub takes_more : EndState → ℕ → List ℕ → Bool
@@ -136,14 +190,6 @@ abbrev pub miu_of : Standing → Option ℕ
 miu_of (stands.Open zero) = None
 miu_of (stands.Open (suc n)) = Some (suc n)
 miu_of _ = None
-
--- an end, and a job that goes on there
-pub record Ready : Type 0 where
-  pub llc : EndState
-  pub job : Job
-
-abbrev pub ready_so : EndState → Job → Ready
-ready_so l job = record { llc = l; job = job }
 
 -- the first unit of a request goes out alone, until a continue comes, where it isn't all
 abbrev pub behind_first : Option ℕ → List ℕ → Job
@@ -181,14 +227,6 @@ readied l sap (Begins most bytes) = begins_on l sap most bytes (miu_of (standing
 readied l sap (Sends most rest) = sends_on l sap most rest (miu_of (standing_of (own_from sap l.own)))
 readied l sap (Asks size have) = asks_on l sap size have
 readied l sap job = ready_so l job
-
--- an end, and all jobs
-pub record AllReady : Type 0 where
-  pub llc : EndState
-  pub jobs : List OnSap
-
-abbrev pub with_job : ℕ → Ready → (EndState → AllReady) → AllReady
-with_job sap r more = record { llc = (more r.llc).llc; jobs = record { sap = sap; job = r.job } ∷ (more r.llc).jobs }
 
 abbrev pub all_readied : List OnSap → EndState → AllReady
 all_readied [] l = record { llc = l; jobs = [] }
@@ -282,14 +320,6 @@ as_they_came (x ∷ xs) = record { sap = x.sap; job = Some x.job } ∷ as_they_c
 abbrev pub all_emptied : List OnSap → EndState → EndState
 all_emptied [] l = l
 all_emptied (x ∷ xs) l = all_emptied xs (emptied l x.sap)
-
-abbrev pub is_over : Job → Bool
-is_over (Over e) = true
-is_over _ = false
-
-abbrev pub all_over : List OnSap → Bool
-all_over [] = true
-all_over (x ∷ xs) = is_over x.job && all_over xs
 
 -- a reply gave something to one of them: on its connection, or a unit with a byte
 abbrev pub gave_any : EndState → EndState → List OnSap → Bool

@@ -3,7 +3,7 @@ use Rattle.std.specs.Prelude.{◌≡◌, ◌<◌, ◌≤◌, ℕ, Bool, true, fa
 use Rattle.llcp_link.specs.State.{OwnState}
 use Rattle.llcp_link.specs.Waning.{pending}
 use Rattle.snep_core.specs.Jobs.{Job, Begins, Waits, Sends, Asks, Collects, Looks, Closes, Over, Ending, Done, Value, Sap, Refused}
-use Rattle.snep_core.specs.Talk.{EndState, Working, alone, most_idle}
+use Rattle.snep_core.specs.Talk.{EndState, Working, most_idle, one_on}
 use Rattle.snep_core.specs.RepliesLeft.{replies_left}
 use Rattle.snep_core.specs.declared.job.Turn.{Turn}
 use Rattle.snep_core.specs.declared.job.Turn.TheVariants.{Ended, Went, GaveUp}
@@ -17,13 +17,13 @@ abbrev pub Lessens : Bool → Option OwnState → Option OwnState → Type 0
 Lessens gave old new = LessensTo gave (pending old) (pending new)
 
 -- a call of one job
-abbrev pub one_job : EndState → Job → ℕ → Working
-one_job l job idle = record { llc = l; jobs = alone job; idle = idle }
+abbrev pub one_job : EndState → ℕ → Job → ℕ → Working
+one_job l sap job idle = record { llc = l; jobs = one_on sap job; idle = idle }
 
 -- it has fewer replies left where it goes on
-abbrev pub Falls : Working → Turn → EndState → Type 0
-Falls w (Went now n) new = (n < most_idle) × (replies_left (one_job new now n) < replies_left w)
-Falls w _ new = Unit {0}
+abbrev pub Falls : ℕ → Working → Turn → EndState → Type 0
+Falls sap w (Went now n) new = (n < most_idle) × (replies_left (one_job new sap now n) < replies_left w)
+Falls sap w _ new = Unit {0}
 
 -- one that goes on does so with this job, after so many replies that gave nothing, and its end is as it was
 abbrev pub GoesAs : Job → ℕ → EndState → Turn → EndState → Type 0

@@ -5,7 +5,7 @@ ghost use Rattle.llcp_link.specs.Asking.{is_open_by};
 ghost use Rattle.snep_core.specs.Accord.{Accords, AsideFails, AtPeers, GetFails, IsBegun, IsClosed, IsFound, IsGot, IsTaken, PeerState, PutFails};
 ghost use Rattle.snep_core.specs.Calling.{FailsBy, RequestFails, Talks, is_memory};
 ghost use Rattle.snep_core.specs.Jobs.{Done, Over, Sap, Value};
-ghost use Rattle.snep_core.specs.Talk.{Ends, Finds, Gets, Leaves, Puts, alone, begins, begun, client_sap, connected, gave_between as gave, is_waiting as awaits, own_of, stands_of};
+ghost use Rattle.snep_core.specs.Talk.{Ends, Finds, Gets, Leaves, Puts, alone, begins, begun, connected, gave_between as gave, is_waiting as awaits, one_on, own_of, stands_of};
 ghost use Rattle.snep_core.specs.Waning.{IsOf, aim_by};
 ghost use Rattle.snep_core.specs.declared.fault.SnepFault.{SnepFault};
 ghost use Rattle.snep_core.specs.declared.job.Job.{Job};
@@ -96,70 +96,73 @@ impl Client {
         SnepFault::Memory
     }
 
-    /// Its connection is open.
-    fn is_open(&self) -> bool
-        ensures { result ≡ is_open_by (own_of self.now.llc) }
+    /// The connection from a SAP is open.
+    fn is_open(&self, sap: u8) -> bool
+        ensures { result ≡ is_open_by (own_of sap self.now.llc) }
     {
-        match self.llc.standing(CLIENT_SAP) {
+        match self.llc.standing(sap) {
             Standing::Open { .. } => true,
             _ => false,
         }
     }
 
-    /// How its connection stands.
-    pub(crate) fn stands(&self) -> Stands
-        ensures { result ≡ stands_of (own_of self.now.llc) }
+    /// How the connection from a SAP stands.
+    pub(crate) fn stands(&self, sap: u8) -> Stands
+        ensures { result ≡ stands_of (own_of sap self.now.llc) }
     {
-        let standing = self.llc.standing(CLIENT_SAP);
+        let standing = self.llc.standing(sap);
         Stands {
             waiting: is_waiting(standing),
-            open_: self.is_open(),
-            acked: self.llc.acked(CLIENT_SAP),
+            open_: self.is_open(sap),
+            acked: self.llc.acked(sap),
         }
     }
 
-    /// Asks for a connection, unless one is there.
-    fn connect(&mut self) -> Result<(), SnepFault>
-        ensures ok { OnOk result (self.new.llc ≡ connected self.old.llc client_sap) }
+    /// Asks for a connection from a SAP, unless one is there.
+    fn connect(&mut self, sap: u8) -> Result<(), SnepFault>
+        requires sap { (32 ≤ sap) × (sap ≤ 39) }
+        ensures ok { OnOk result (self.new.llc ≡ connected self.old.llc sap) }
         ensures going { OnOk result (self.new.spent ≡ self.old.spent) }
         ensures err { IfErr result (λ e. e ≡ SnepFault.Memory) }
         ensures spent { IfErr result (λ e. self.new.spent ≡ true) }
     {
-        match self.llc.connect(SNEP_SAP) {
+        match self.llc.connect_from(sap, SNEP_SAP) {
             Ok(()) => Ok(()),
             Err(LlcFault::Busy) => Ok(()),
             Err(LlcFault::Memory | LlcFault::NameTaken | LlcFault::SapTaken) => Err(self.spend()),
         }
     }
 
-    /// Asks for a connection where none is there, and exchanges until the request was answered.
+    /// Asks for a connection from a SAP where none is there, and exchanges until the request was answered on it.
     fn ask<C: Carrier, A: Answerer>(
         &mut self,
         carrier: &mut C,
         far: &mut A,
         counts: Counts,
+        sap: u8,
         most: Option<u32>,
         request: Bytes,
     ) -> Result<Ending, SnepFault>
+        requires sap { (32 ≤ sap) × (sap ≤ 39) }
         requires ready { C.ready carrier.old }
         requires going { self.old.spent ≡ false }
         ensures ok { IfOk result (λ ending. Talks C.seen C.swaps A.steps A.stops counts
-            (begun (connected self.old.llc client_sap) (Job.Begins most request))
-            carrier.old far.old (Ends (alone (Over ending)) self.new.llc) carrier.new far.new) }
+            (begun (connected self.old.llc sap) (one_on sap (Job.Begins most request)))
+            carrier.old far.old (Ends (one_on sap (Over ending)) self.new.llc) carrier.new far.new) }
         ensures aim { IfOk result (λ ending. IsOf (aim_by most) ending) }
         ensures going { OnOk result (self.new.spent ≡ false) }
         ensures err { IfErr result (λ e. FailsBy C.seen C.swaps A.steps A.stops counts
-            (begun (connected self.old.llc client_sap) (Job.Begins most request))
+            (begun (connected self.old.llc sap) (one_on sap (Job.Begins most request)))
             carrier.old far.old e self.new.llc carrier.new far.new) }
         ensures spent { IfErr result (λ e. self.new.spent ≡ is_memory e) }
         ensures ready { C.ready carrier.new }
         ensures same { C.lenders carrier.new ≡ C.lenders carrier.old }
     {
-        match self.connect() {
+        match self.connect(sap) {
             Err(fault) => return Err(fault),
             Ok(()) => {}
         }
-        match self.converse(carrier, far, counts, Job::Begins(most, request)) {
+        match self.converse(carrier, far, counts, sap, Job::Begins(most, request)) {
             Err(fault) => Err(fault),
             Ok(ending) => Ok(ending),
         }
@@ -198,7 +201,7 @@ impl Client {
             Err(_) => return Err(self.spend()),
             Ok(request) => request,
         };
-        match self.ask(carrier, far, counts, None, request) {
+        match self.ask(carrier, far, counts, CLIENT_SAP, None, request) {
             Err(fault) => Err(fault),
             Ok(Ending::Done) => Ok(()),
             Ok(Ending::Refused(refusal)) => Err(refusal.fault()),
@@ -240,7 +243,7 @@ impl Client {
             Err(_) => return Err(self.spend()),
             Ok(request) => request,
         };
-        match self.ask(carrier, far, counts, Some(acceptable), request) {
+        match self.ask(carrier, far, counts, CLIENT_SAP, Some(acceptable), request) {
             Err(fault) => Err(fault),
             Ok(Ending::Value(value)) => Ok(value.into_vec()),
             Ok(Ending::Refused(refusal)) => Err(refusal.fault()),
@@ -281,7 +284,7 @@ impl Client {
             Err(_) => return Err(self.spend()),
             Ok(tid) => tid,
         };
-        match self.converse(carrier, far, counts, Job::Looks(tid)) {
+        match self.converse(carrier, far, counts, CLIENT_SAP, Job::Looks(tid)) {
             Err(fault) => Err(fault),
             Ok(Ending::Sap(sap)) => Ok(sap),
             Ok(Ending::Done | Ending::Value(_) | Ending::Refused(_)) => unreachable!(),
@@ -315,14 +318,14 @@ impl Client {
         if self.spent {
             return Err(SnepFault::Memory);
         }
-        if !self.is_open() {
+        if !self.is_open(CLIENT_SAP) {
             return Ok(());
         }
         match self.llc.disconnect(CLIENT_SAP) {
             Err(_) => return Err(self.spend()),
             Ok(()) => {}
         }
-        match self.converse(carrier, far, counts, Job::Closes) {
+        match self.converse(carrier, far, counts, CLIENT_SAP, Job::Closes) {
             Err(fault) => Err(fault),
             Ok(Ending::Done) => Ok(()),
             Ok(Ending::Value(_) | Ending::Sap(_) | Ending::Refused(_)) => unreachable!(),

@@ -3,10 +3,10 @@
 ghost use Rattle.std.specs.Prelude.{◌≡◌, ◌||◌, [], ◌∷◌, true, IfOk, IfErr, OnOk};
 ghost use Rattle.snep_core.specs.Jobs.{has_byte};
 ghost use Rattle.snep_core.specs.Listening.{Hears, HearsUnits};
-ghost use Rattle.snep_core.specs.Talk.{client_sap, finished as finished_by, is_lost as lost_by, is_there as there_by};
+ghost use Rattle.snep_core.specs.Talk.{finished as finished_by, is_lost as lost_by, is_there as there_by};
 ghost use Rattle.snep_core.specs.declared.fault.SnepFault.{SnepFault};
 
-use crate::client::{CLIENT_SAP, Client, is_waiting};
+use crate::client::{Client, is_waiting};
 use crate::fault::SnepFault;
 use crate::hearing::hear_unit;
 use crate::job::{Ending, Heard, Job};
@@ -36,17 +36,17 @@ fn gives_more(some: bool, bytes: &[u8]) -> bool
 }
 
 impl Client {
-    /// The units that were handed up, each taken away. None where one of them puts the far end at fault, or comes while one
-    /// of this end's waits to be given.
-    fn hear_units(&mut self, first: Job, waiting: bool) -> Result<Option<Heard>, SnepFault>
-        ensures ok { IfOk result (λ heard. HearsUnits waiting self.old.llc first heard self.new.llc) }
+    /// The units that were handed up on the connection from a SAP, each taken away. None where one of them puts the far end
+    /// at fault, or comes while one of this end's waits to be given.
+    fn hear_units(&mut self, sap: u8, first: Job, waiting: bool) -> Result<Option<Heard>, SnepFault>
+        ensures ok { IfOk result (λ heard. HearsUnits sap waiting self.old.llc first heard self.new.llc) }
         ensures going { OnOk result (self.new.spent ≡ self.old.spent) }
         ensures err { IfErr result (λ e. e ≡ SnepFault.Memory) }
         ensures spent { IfErr result (λ e. self.new.spent ≡ true) }
     {
         let mut job = first;
         let mut some = false;
-        'units: while let Some(unit) = self.llc.unit(CLIENT_SAP) {
+        'units: while let Some(unit) = self.llc.unit(sap) {
             if waiting {
                 return Ok(None);
             }
@@ -62,19 +62,19 @@ impl Client {
     }
 
     /// The job needs its connection, and the far end refused or closed this.
-    fn is_lost(&self, job: &Job) -> bool
-        ensures { result ≡ lost_by self.now.llc client_sap job.now }
+    fn is_lost(&self, sap: u8, job: &Job) -> bool
+        ensures { result ≡ lost_by self.now.llc sap job.now }
     {
         match job {
             Job::Looks(_) | Job::Closes | Job::Over(_) => false,
             Job::Begins(..) | Job::Waits(..) | Job::Sends(..) | Job::Asks(..) | Job::Collects(..) =>
-                { !is_there(self.llc.standing(CLIENT_SAP)) }
+                { !is_there(self.llc.standing(sap)) }
         }
     }
 
     /// A lookup that was told is over, and the end of a connection whose DM came.
-    fn finished(&self, job: Job) -> Job
-        ensures { result ≡ finished_by self.now.llc client_sap job }
+    fn finished(&self, sap: u8, job: Job) -> Job
+        ensures { result ≡ finished_by self.now.llc sap job }
     {
         match job {
             Job::Looks(tid) => match self.llc.found(tid) {
@@ -82,7 +82,7 @@ impl Client {
                 Some(sap) => Job::Over(Ending::Sap(sap)),
             },
             Job::Closes => {
-                if is_waiting(self.llc.standing(CLIENT_SAP)) {
+                if is_waiting(self.llc.standing(sap)) {
                     Job::Closes
                 } else {
                     Job::Over(Ending::Done)
@@ -97,29 +97,34 @@ impl Client {
         }
     }
 
-    /// What was heard makes of its job, where a unit of this end waits to be given or none does. None where the far end is at
-    /// fault: the connection is forgotten.
-    pub(crate) fn hear(&mut self, job: Job, waiting: bool) -> Result<Option<Heard>, SnepFault>
-        ensures ok { IfOk result (λ heard. Hears waiting self.old.llc job heard self.new.llc) }
+    /// What was heard makes of the job on the connection from a SAP, where a unit of this end waits to be given or none does.
+    /// None where the far end is at fault: the connection is forgotten.
+    pub(crate) fn hear(
+        &mut self,
+        sap: u8,
+        job: Job,
+        waiting: bool,
+    ) -> Result<Option<Heard>, SnepFault>
+        ensures ok { IfOk result (λ heard. Hears sap waiting self.old.llc job heard self.new.llc) }
         ensures going { OnOk result (self.new.spent ≡ self.old.spent) }
         ensures err { IfErr result (λ e. e ≡ SnepFault.Memory) }
         ensures spent { IfErr result (λ e. self.new.spent ≡ true) }
     {
-        let heard = match self.hear_units(job, waiting) {
+        let heard = match self.hear_units(sap, job, waiting) {
             Err(fault) => return Err(fault),
             Ok(heard) => heard,
         };
         let Some(heard) = heard else {
-            self.llc.forget(CLIENT_SAP);
+            self.llc.forget(sap);
             return Ok(None);
         };
-        if self.is_lost(&heard.job) {
-            self.llc.forget(CLIENT_SAP);
+        if self.is_lost(sap, &heard.job) {
+            self.llc.forget(sap);
             return Ok(None);
         }
         let Heard { job, some } = heard;
         Ok(Some(Heard {
-            job: self.finished(job),
+            job: self.finished(sap, job),
             some,
         }))
     }

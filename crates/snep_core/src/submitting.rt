@@ -3,12 +3,12 @@
 ghost use Rattle.std.specs.Prelude.{◌≡◌, ◌≤◌, ◌<◌, true, take, drop, if◌then◌else◌, IfOk, IfErr, IfSome, OnOk};
 ghost use Rattle.llcp_link.specs.Asking.{standing_of};
 ghost use Rattle.snep_core.specs.Listening.{Offered};
-ghost use Rattle.snep_core.specs.Talk.{asks_on, begins_on, client_sap, miu_of, own_of, readied, ready_so, sends_on};
+ghost use Rattle.snep_core.specs.Talk.{asks_on, begins_on, miu_of, own_of, readied, ready_so, sends_on};
 ghost use Rattle.snep_core.specs.Waning.{Aim, Serves};
 ghost use Rattle.snep_core.specs.declared.fault.SnepFault.{SnepFault};
 ghost use Rattle.snep_core.specs.declared.job.Job.{Job};
 
-use crate::client::{CLIENT_SAP, Client};
+use crate::client::Client;
 use crate::fault::SnepFault;
 use crate::job::Job;
 use bytes::Bytes;
@@ -31,14 +31,14 @@ fn miu_by(standing: Standing) -> Option<u16>
 }
 
 impl Client {
-    /// Submits a unit, if it may be submitted now.
-    fn offer(&mut self, unit: &[u8]) -> Result<bool, SnepFault>
-        ensures ok { IfOk result (λ taken. Offered self.old.llc unit.now taken self.new.llc) }
+    /// Submits a unit on the connection from a SAP, if it may be submitted now.
+    fn offer(&mut self, sap: u8, unit: &[u8]) -> Result<bool, SnepFault>
+        ensures ok { IfOk result (λ taken. Offered sap self.old.llc unit.now taken self.new.llc) }
         ensures going { OnOk result (self.new.spent ≡ self.old.spent) }
         ensures err { IfErr result (λ e. e ≡ SnepFault.Memory) }
         ensures spent { IfErr result (λ e. self.new.spent ≡ true) }
     {
-        match self.llc.submit(CLIENT_SAP, unit) {
+        match self.llc.submit(sap, unit) {
             Ok(()) => Ok(true),
             Err(ConnFault::Memory) => Err(self.spend()),
             Err(ConnFault::WindowFull | ConnFault::TooLong | ConnFault::NotOpen) => Ok(false),
@@ -46,15 +46,15 @@ impl Client {
     }
 
     /// Submits the first of these bytes as a unit, if it may be submitted now, and takes them away.
-    fn offer_front(&mut self, bytes: &mut Bytes, miu: u16) -> Result<bool, SnepFault>
-        ensures ok { IfOk result (λ taken. Offered self.old.llc (take miu bytes.old) taken self.new.llc) }
+    fn offer_front(&mut self, sap: u8, bytes: &mut Bytes, miu: u16) -> Result<bool, SnepFault>
+        ensures ok { IfOk result (λ taken. Offered sap self.old.llc (take miu bytes.old) taken self.new.llc) }
         ensures rest { IfOk result (λ taken. bytes.new ≡ (if taken then drop miu bytes.old else bytes.old)) }
         ensures going { OnOk result (self.new.spent ≡ self.old.spent) }
         ensures err { IfErr result (λ e. e ≡ SnepFault.Memory) }
         ensures spent { IfErr result (λ e. self.new.spent ≡ true) }
     {
         let size = bytes.len().min(miu as usize);
-        let taken = self.offer(&bytes.as_slice()[..size])?;
+        let taken = self.offer(sap, &bytes.as_slice()[..size])?;
         if taken {
             bytes.advance(size);
         }
@@ -62,18 +62,18 @@ impl Client {
     }
 
     /// The first unit of a request, alone.
-    fn begin_on(&mut self, most: Option<u32>, bytes: Bytes) -> Result<Job, SnepFault>
+    fn begin_on(&mut self, sap: u8, most: Option<u32>, bytes: Bytes) -> Result<Job, SnepFault>
         ensures ok { IfOk result (λ job.
-            begins_on self.old.llc client_sap most bytes (miu_of (standing_of (own_of self.old.llc))) ≡ ready_so self.new.llc job) }
+            begins_on self.old.llc sap most bytes (miu_of (standing_of (own_of sap self.old.llc))) ≡ ready_so self.new.llc job) }
         ensures going { OnOk result (self.new.spent ≡ self.old.spent) }
         ensures err { IfErr result (λ e. e ≡ SnepFault.Memory) }
         ensures spent { IfErr result (λ e. self.new.spent ≡ true) }
     {
-        let Some(miu) = miu_by(self.llc.standing(CLIENT_SAP)) else {
+        let Some(miu) = miu_by(self.llc.standing(sap)) else {
             return Ok(Job::Begins(most, bytes));
         };
         let mut rest = bytes;
-        let taken = self.offer_front(&mut rest, miu)?;
+        let taken = self.offer_front(sap, &mut rest, miu)?;
         if !taken {
             return Ok(Job::Begins(most, rest));
         }
@@ -84,19 +84,19 @@ impl Client {
     }
 
     /// What is left of a request, as far as the window allows.
-    fn send_on(&mut self, most: Option<u32>, bytes: Bytes) -> Result<Job, SnepFault>
+    fn send_on(&mut self, sap: u8, most: Option<u32>, bytes: Bytes) -> Result<Job, SnepFault>
         ensures ok { IfOk result (λ job.
-            sends_on self.old.llc client_sap most bytes (miu_of (standing_of (own_of self.old.llc))) ≡ ready_so self.new.llc job) }
+            sends_on self.old.llc sap most bytes (miu_of (standing_of (own_of sap self.old.llc))) ≡ ready_so self.new.llc job) }
         ensures going { OnOk result (self.new.spent ≡ self.old.spent) }
         ensures err { IfErr result (λ e. e ≡ SnepFault.Memory) }
         ensures spent { IfErr result (λ e. self.new.spent ≡ true) }
     {
-        let Some(miu) = miu_by(self.llc.standing(CLIENT_SAP)) else {
+        let Some(miu) = miu_by(self.llc.standing(sap)) else {
             return Ok(Job::Sends(most, bytes));
         };
         let mut rest = bytes;
         'units: while !rest.is_empty() {
-            let taken = self.offer_front(&mut rest, miu)?;
+            let taken = self.offer_front(sap, &mut rest, miu)?;
             if !taken {
                 return Ok(Job::Sends(most, rest));
             }
@@ -105,13 +105,13 @@ impl Client {
     }
 
     /// A continue for the rest of a value.
-    fn ask_on(&mut self, size: u32, have: Items<u8>) -> Result<Job, SnepFault>
-        ensures ok { IfOk result (λ job. asks_on self.old.llc client_sap size have ≡ ready_so self.new.llc job) }
+    fn ask_on(&mut self, sap: u8, size: u32, have: Items<u8>) -> Result<Job, SnepFault>
+        ensures ok { IfOk result (λ job. asks_on self.old.llc sap size have ≡ ready_so self.new.llc job) }
         ensures going { OnOk result (self.new.spent ≡ self.old.spent) }
         ensures err { IfErr result (λ e. e ≡ SnepFault.Memory) }
         ensures spent { IfErr result (λ e. self.new.spent ≡ true) }
     {
-        let taken = self.offer(&CONTINUE_BYTES)?;
+        let taken = self.offer(sap, &CONTINUE_BYTES)?;
         if taken {
             Ok(Job::Collects(size, have))
         } else {
@@ -119,17 +119,17 @@ impl Client {
         }
     }
 
-    /// What its job submits before a payload is given.
-    pub(crate) fn ready(&mut self, job: Job) -> Result<Job, SnepFault>
-        ensures ok { IfOk result (λ now. readied self.old.llc client_sap job ≡ ready_so self.new.llc now) }
+    /// What a job submits on the connection from its SAP before a payload is given.
+    pub(crate) fn ready(&mut self, sap: u8, job: Job) -> Result<Job, SnepFault>
+        ensures ok { IfOk result (λ now. readied self.old.llc sap job ≡ ready_so self.new.llc now) }
         ensures going { OnOk result (self.new.spent ≡ self.old.spent) }
         ensures err { IfErr result (λ e. e ≡ SnepFault.Memory) }
         ensures spent { IfErr result (λ e. self.new.spent ≡ true) }
     {
         match job {
-            Job::Begins(most, bytes) => self.begin_on(most, bytes),
-            Job::Sends(most, rest) => self.send_on(most, rest),
-            Job::Asks(size, have) => self.ask_on(size, have),
+            Job::Begins(most, bytes) => self.begin_on(sap, most, bytes),
+            Job::Sends(most, rest) => self.send_on(sap, most, rest),
+            Job::Asks(size, have) => self.ask_on(sap, size, have),
             Job::Waits(most, rest) => Ok(Job::Waits(most, rest)),
             Job::Collects(size, have) => Ok(Job::Collects(size, have)),
             Job::Looks(tid) => Ok(Job::Looks(tid)),

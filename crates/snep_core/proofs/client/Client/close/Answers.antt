@@ -1,9 +1,9 @@
-use Rattle.std.proofs.Common.{rules, ◌≡◌, IfErr, OnOk, true, false, refl, sym, ap, subst, inl, inr, if◌then◌else◌}
+use Rattle.std.proofs.Common.{rules, ◌≡◌, IfErr, OnOk, true, false, refl, sym, ap, subst, inl, inr, []}
 use Rattle.std.proofs.lemmas.Result.{IfErr-weaker, on_ok_weaker}
 use Rattle.llcp_link.specs.Asking.{disconnected_by, is_open_by}
 use Rattle.snep_core.specs.Calling.{FailsBy, Talks}
 use Rattle.snep_core.specs.Jobs.{Closes, Done, Over}
-use Rattle.snep_core.specs.Talk.{Ends, Leaves, Step, alone, begins, begun, own_of}
+use Rattle.snep_core.specs.Talk.{Ends, Leaves, Step, all_opening, alone, beginning, begins, begun, client_sap, leaving, own_of, with_job}
 use Rattle.snep_core.specs.Accord.{AsideFails}
 use Rattle.snep_core.proofs.CloseEnds.{close_ends, close_fails}
 use Rattle.snep_core.proofs.Talking.{talks_none}
@@ -12,11 +12,11 @@ use Rattle.snep_core.proofs.client.Client.close.Goals as goal
 pub returns-in-Err-clause-err : goal.returns-in-Err-clause-err
 returns-in-Err-clause-err g c =
     let l = c.args.self.now.llc in
-    let open_ : is_open_by (own_of l) ≡ true = search rules in
-    let from : begins l Leaves ≡ begun (disconnected_by l (own_of l)) Closes =
-    ap (λ b. if b then begun (disconnected_by l (own_of l)) Closes else Ends (alone (Over Done)) l) open_ in
+    let open_ : is_open_by (own_of client_sap l) ≡ true = search rules in
+    let from : begins l Leaves ≡ begun (disconnected_by l (own_of client_sap l)) (alone Closes) =
+    ap (λ b. beginning (with_job client_sap (leaving l client_sap b) (all_opening []))) open_ in
     λ going. inr (record {
-      at = record { llc = disconnected_by l (own_of l); jobs = alone Closes; idle = 0 };
+      at = record { llc = disconnected_by l (own_of client_sap l); jobs = alone Closes; idle = 0 };
       mid = c.args.carrier.now;
       mid_far = c.args.far.now;
       talks = subst (λ (s : Step). Talks g.C.Carrier.seen g.C.Carrier.swaps g.A.Answerer.steps g.A.Answerer.stops c.args.counts (begins l Leaves)
@@ -29,9 +29,9 @@ returns-in-Err-clause-err g c =
 pub returns-then-not-is_open-clause-ok : goal.returns-then-not-is_open-clause-ok
 returns-then-not-is_open-clause-ok g c =
     let l = c.args.self.now.llc in
-    let shut : is_open_by (own_of l) ≡ false = search rules in
+    let shut : is_open_by (own_of client_sap l) ≡ false = search rules in
     let from : Ends (alone (Over Done)) l ≡ begins l Leaves =
-    sym (ap (λ b. if b then begun (disconnected_by l (own_of l)) Closes else Ends (alone (Over Done)) l) shut) in
+    sym (ap (λ b. beginning (with_job client_sap (leaving l client_sap b) (all_opening []))) shut) in
     subst (λ (s : Step). Talks g.C.Carrier.seen g.C.Carrier.swaps g.A.Answerer.steps g.A.Answerer.stops c.args.counts s
     c.args.carrier.now c.args.far.now (Ends (alone (Over Done)) l) c.args.carrier.now c.args.far.now) from
     (talks_none g.C.Carrier.seen g.C.Carrier.swaps g.A.Answerer.steps g.A.Answerer.stops c.args.counts

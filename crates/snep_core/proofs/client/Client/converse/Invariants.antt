@@ -1,5 +1,5 @@
 use Rattle.std.proofs.Common.{◌≡◌, ◌<◌, false}
-use Rattle.snep_core.specs.Talk.{Goes, alone, begun, most_idle}
+use Rattle.snep_core.specs.Talk.{Goes, begun, most_idle, one_on}
 use Rattle.snep_core.specs.RepliesLeft.{replies_left}
 use Rattle.snep_core.specs.Waning.{Aim, Serves, one_job}
 use Rattle.snep_core.proofs.Talking.{TalksTo}
@@ -12,9 +12,9 @@ invariant-turns g l = record {
   ready : g.C.Carrier.ready l.carrier;
   same : g.C.Carrier.lenders l.carrier ≡ g.C.Carrier.lenders l.fn.carrier;
   serves : (aim : Aim) → Serves aim l.fn.first → Serves aim l.job;
-  talks : TalksTo g.C.Carrier.seen g.C.Carrier.swaps g.A.Answerer.steps g.A.Answerer.stops l.fn.counts (begun l.fn.self.llc l.fn.first) l.fn.carrier
-      l.fn.far l.left (Goes (record { llc = l.self.llc; jobs = alone l.job; idle = l.idle })) l.carrier l.far;
+  talks : TalksTo g.C.Carrier.seen g.C.Carrier.swaps g.A.Answerer.steps g.A.Answerer.stops l.fn.counts (begun l.fn.self.llc (one_on l.fn.sap l.fn.first)) l.fn.carrier
+      l.fn.far l.left (Goes (record { llc = l.self.llc; jobs = one_on l.fn.sap l.job; idle = l.idle })) l.carrier l.far;
 }
 
 abbrev pub decreases-turns : goal.decreases-turns
-decreases-turns g l = replies_left (one_job l.self.llc l.job l.idle)
+decreases-turns g l = replies_left (one_job l.self.llc l.fn.sap l.job l.idle)

@@ -34,10 +34,10 @@ returns-clause-ok g c =
     let took : c.take.new.self ≡ taken_from silent c.give.new.self c.deref-in-Ok.result.now = search rules in
     let read : c.take.new.self ≡ taken_from silent c.give.new.self c.in-Ok.reply.items =
     took ∙ ap (taken_from silent c.give.new.self) c.deref-in-Ok.ensures.value in
-    let gave : c.gave_between.result ≡ gave_something (own_of c.give.new.self) (own_of c.take.new.self) = search rules in
-    let waiting : c.has_waiting-waiting.result ≡ has_waiting_of (own_of c.give.new.self) = search rules in
+    let gave : c.gave_between.result ≡ gave_something (own_of c.args.sap c.give.new.self) (own_of c.args.sap c.take.new.self) = search rules in
+    let waiting : c.has_waiting-waiting.result ≡ has_waiting_of (own_of c.args.sap c.give.new.self) = search rules in
     exchanged g.C.Carrier.seen g.C.Carrier.swaps g.A.Answerer.steps g.A.Answerer.stops c.args.carrier.now c.args.far.now c.swap.new.self
-    c.swap.new.far c.args.self.now.llc c.give.new.self c.args.count c.deref.result.now sent c.in-Ok.reply.items
+    c.swap.new.far c.args.self.now.llc c.give.new.self c.args.count c.deref.result.now sent c.args.sap c.in-Ok.reply.items
     (record { gave = c.gave_between.result; waiting = c.has_waiting-waiting.result }) c.take.new.self
     c.in-Ok.ensures.ok c.in-Ok.ensures.swapped read gave waiting
 
@@ -45,9 +45,9 @@ pub returns-clause-falls : goal.returns-clause-falls
 returns-clause-falls g c =
     let gives : Gives silent c.args.count c.args.self.now.llc c.give.new.target.items c.give.new.self = search rules in
     let took : c.take.new.self ≡ taken_from silent c.give.new.self c.deref-in-Ok.result.now = search rules in
-    let gave : c.gave_between.result ≡ gave_something (own_of c.give.new.self) (own_of c.take.new.self) = search rules in
-    let acked : c.stands-before.result.acked ≡ acked_of (own_of c.give.new.self) = ap (λ s. s.acked) c.stands-before.ensures in
+    let gave : c.gave_between.result ≡ gave_something (own_of c.args.sap c.give.new.self) (own_of c.args.sap c.take.new.self) = search rules in
+    let acked : c.stands-before.result.acked ≡ acked_of (own_of c.args.sap c.give.new.self) = ap (λ s. s.acked) c.stands-before.ensures in
     let fits : c.stands-before.result.acked < 4294967296 = search rules in
-    let few : acked_of (own_of c.give.new.self) < 4294967296 = subst (λ n. n < 4294967296) acked fits in
-    exchange_falls c.args.self.now.llc c.give.new.self c.take.new.self c.args.count c.deref-in-Ok.result.now c.gave_between.result gives.left took
+    let few : acked_of (own_of c.args.sap c.give.new.self) < 4294967296 = subst (λ n. n < 4294967296) acked fits in
+    exchange_falls c.args.sap c.args.self.now.llc c.give.new.self c.take.new.self c.args.count c.deref-in-Ok.result.now c.gave_between.result gives.left took
     few gave

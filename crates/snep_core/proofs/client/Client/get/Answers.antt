@@ -26,7 +26,7 @@ returns-in-Err-ask-clause-err g c =
     let e : c.in-Ok.request ≡ get_bytes c.args.acceptable c.args.key.now = search rules in
     λ going. inr
     (subst (λ (b : List ℕ). FailsBy g.C.Carrier.seen g.C.Carrier.swaps g.A.Answerer.steps g.A.Answerer.stops c.args.counts
-    (begun (connected c.args.self.now.llc client_sap) (Begins (Some c.args.acceptable) b)) c.args.carrier.now c.args.far.now c.in-Err-ask.fault
+    (begun (connected c.args.self.now.llc client_sap) (alone (Begins (Some c.args.acceptable) b))) c.args.carrier.now c.args.far.now c.in-Err-ask.fault
     c.ask.new.self.llc c.ask.new.carrier c.ask.new.far) e c.in-Err-ask.ensures.err)
 
 pub returns-in-Ok-Value-clause-ok : goal.returns-in-Ok-Value-clause-ok
@@ -35,14 +35,14 @@ returns-in-Ok-Value-clause-ok g c =
     let v : c.in-Ok-Value.value ≡ c.into_vec.result.items = search rules in
     let t =
     subst (λ (o : Ending). Talks g.C.Carrier.seen g.C.Carrier.swaps g.A.Answerer.steps g.A.Answerer.stops c.args.counts
-    (begun (connected c.args.self.now.llc client_sap) (Begins (Some c.args.acceptable) c.in-Ok.request)) c.args.carrier.now c.args.far.now
+    (begun (connected c.args.self.now.llc client_sap) (alone (Begins (Some c.args.acceptable) c.in-Ok.request))) c.args.carrier.now c.args.far.now
     (Ends (alone (Over o)) c.ask.new.self.llc) c.ask.new.carrier c.ask.new.far) c.in-Ok-Value.field-0-is c.in-Ok-Value.ensures.ok in
     let u =
     subst (λ (b : List ℕ). Talks g.C.Carrier.seen g.C.Carrier.swaps g.A.Answerer.steps g.A.Answerer.stops c.args.counts
-    (begun (connected c.args.self.now.llc client_sap) (Begins (Some c.args.acceptable) b)) c.args.carrier.now c.args.far.now
+    (begun (connected c.args.self.now.llc client_sap) (alone (Begins (Some c.args.acceptable) b))) c.args.carrier.now c.args.far.now
     (Ends (alone (Over (Value c.in-Ok-Value.value))) c.ask.new.self.llc) c.ask.new.carrier c.ask.new.far) e t in
     subst (λ (x : List ℕ). Talks g.C.Carrier.seen g.C.Carrier.swaps g.A.Answerer.steps g.A.Answerer.stops c.args.counts
-    (begun (connected c.args.self.now.llc client_sap) (Begins (Some c.args.acceptable) (get_bytes c.args.acceptable c.args.key.now)))
+    (begun (connected c.args.self.now.llc client_sap) (alone (Begins (Some c.args.acceptable) (get_bytes c.args.acceptable c.args.key.now))))
     c.args.carrier.now c.args.far.now (Ends (alone (Over (Value x))) c.ask.new.self.llc) c.ask.new.carrier c.ask.new.far) v u
 
 pub returns-in-Ok-Refused-clause-err : goal.returns-in-Ok-Refused-clause-err
@@ -50,13 +50,13 @@ returns-in-Ok-Refused-clause-err g c =
     let e : c.in-Ok.request ≡ get_bytes c.args.acceptable c.args.key.now = search rules in
     let t =
     subst (λ (o : Ending). Talks g.C.Carrier.seen g.C.Carrier.swaps g.A.Answerer.steps g.A.Answerer.stops c.args.counts
-    (begun (connected c.args.self.now.llc client_sap) (Begins (Some c.args.acceptable) c.in-Ok.request)) c.args.carrier.now c.args.far.now
+    (begun (connected c.args.self.now.llc client_sap) (alone (Begins (Some c.args.acceptable) c.in-Ok.request))) c.args.carrier.now c.args.far.now
     (Ends (alone (Over o)) c.ask.new.self.llc) c.ask.new.carrier c.ask.new.far) c.in-Ok-Refused.field-0-is c.in-Ok-Refused.ensures.ok in
     λ going. inl (record {
       why = c.in-Ok-Refused.refusal;
       fault = c.fault.ensures;
       talks = subst (λ (b : List ℕ). Talks g.C.Carrier.seen g.C.Carrier.swaps g.A.Answerer.steps g.A.Answerer.stops c.args.counts
-          (begun (connected c.args.self.now.llc client_sap) (Begins (Some c.args.acceptable) b)) c.args.carrier.now c.args.far.now
+          (begun (connected c.args.self.now.llc client_sap) (alone (Begins (Some c.args.acceptable) b))) c.args.carrier.now c.args.far.now
           (Ends (alone (Over (Refused c.in-Ok-Refused.refusal))) c.ask.new.self.llc) c.ask.new.carrier c.ask.new.far) e t;
     })
 

@@ -20,30 +20,30 @@ returns-in-Err-clause-err g c = λ going. inr (inr (record {
 pub returns-in-Err-ask-clause-err : goal.returns-in-Err-ask-clause-err
 returns-in-Err-ask-clause-err g c = λ going. inr
     (subst (λ (b : List ℕ). FailsBy g.C.Carrier.seen g.C.Carrier.swaps g.A.Answerer.steps g.A.Answerer.stops c.args.counts
-    (begun (connected c.args.self.now.llc client_sap) (Begins None b)) c.args.carrier.now c.args.far.now c.in-Err-ask.fault c.ask.new.self.llc
+    (begun (connected c.args.self.now.llc client_sap) (alone (Begins None b))) c.args.carrier.now c.args.far.now c.in-Err-ask.fault c.ask.new.self.llc
     c.ask.new.carrier c.ask.new.far) c.in-Ok.ensures c.in-Err-ask.ensures.err)
 
 pub returns-in-Ok-Done-clause-ok : goal.returns-in-Ok-Done-clause-ok
 returns-in-Ok-Done-clause-ok g c =
     let t =
     subst (λ (o : Ending). Talks g.C.Carrier.seen g.C.Carrier.swaps g.A.Answerer.steps g.A.Answerer.stops c.args.counts
-    (begun (connected c.args.self.now.llc client_sap) (Begins None c.in-Ok.request)) c.args.carrier.now c.args.far.now
+    (begun (connected c.args.self.now.llc client_sap) (alone (Begins None c.in-Ok.request))) c.args.carrier.now c.args.far.now
     (Ends (alone (Over o)) c.ask.new.self.llc) c.ask.new.carrier c.ask.new.far) c.in-Ok-Done.field-0-is c.in-Ok-Done.ensures.ok in
     subst (λ (b : List ℕ). Talks g.C.Carrier.seen g.C.Carrier.swaps g.A.Answerer.steps g.A.Answerer.stops c.args.counts
-    (begun (connected c.args.self.now.llc client_sap) (Begins None b)) c.args.carrier.now c.args.far.now
+    (begun (connected c.args.self.now.llc client_sap) (alone (Begins None b))) c.args.carrier.now c.args.far.now
     (Ends (alone (Over Done)) c.ask.new.self.llc) c.ask.new.carrier c.ask.new.far) c.in-Ok.ensures t
 
 pub returns-in-Ok-Refused-clause-err : goal.returns-in-Ok-Refused-clause-err
 returns-in-Ok-Refused-clause-err g c =
     let t =
     subst (λ (o : Ending). Talks g.C.Carrier.seen g.C.Carrier.swaps g.A.Answerer.steps g.A.Answerer.stops c.args.counts
-    (begun (connected c.args.self.now.llc client_sap) (Begins None c.in-Ok.request)) c.args.carrier.now c.args.far.now
+    (begun (connected c.args.self.now.llc client_sap) (alone (Begins None c.in-Ok.request))) c.args.carrier.now c.args.far.now
     (Ends (alone (Over o)) c.ask.new.self.llc) c.ask.new.carrier c.ask.new.far) c.in-Ok-Refused.field-0-is c.in-Ok-Refused.ensures.ok in
     λ going. inl (record {
       why = c.in-Ok-Refused.refusal;
       fault = c.fault.ensures;
       talks = subst (λ (b : List ℕ). Talks g.C.Carrier.seen g.C.Carrier.swaps g.A.Answerer.steps g.A.Answerer.stops c.args.counts
-          (begun (connected c.args.self.now.llc client_sap) (Begins None b)) c.args.carrier.now c.args.far.now
+          (begun (connected c.args.self.now.llc client_sap) (alone (Begins None b))) c.args.carrier.now c.args.far.now
           (Ends (alone (Over (Refused c.in-Ok-Refused.refusal))) c.ask.new.self.llc) c.ask.new.carrier c.ask.new.far) c.in-Ok.ensures t;
     })
 
