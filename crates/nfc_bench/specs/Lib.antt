@@ -1,4 +1,5 @@
 pub mod Limits
 pub mod Made
+pub mod Reading
 pub mod Run
 pub mod Stops
