@@ -61,8 +61,9 @@ Exchange = World InitState TargetState Signal
 abbrev pub pieces : ℕ → List ℕ → ℕ
 pieces most xs = 1 + (length xs - 1) / most
 
--- Between two exchanges both ends are in step: the target expects the initiator's PNI, has no piece of a payload, and no byte and
--- no piece of a reply that isn't sent, and each cuts what it sends into pieces that a frame holds. How much more time the target asks for is in its range.
+-- Between two exchanges both ends are in step: the target expects the initiator's PNI, has no piece of a payload, and no
+-- byte and no piece of a reply that isn't sent, and each cuts what it sends into pieces that a frame holds. How much
+-- more time the target asks for is in its range.
 pub record InStep (i : InitState) (t : TargetState) : Type 0 where
   pub heeds : t.mute ≡ false
   pub number : i.core.number < 4
