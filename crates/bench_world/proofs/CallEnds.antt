@@ -147,5 +147,5 @@ module _ (air : Air Device) (ends : FarEnds) (peers : Peers) (l : OpenLink) (set
               let P = plain air ends peers l settled c task is f.mid j f.half joins f.standing t in
               halted air ends peers l settled N P c joins f.mid f.half t.notes t.going is.still is.accepts is.asks (is.takes joins)
               (same air ends peers l settled c task is f.mid j f.half joins f.standing t) h.sent h.payload h.listeners b (ap call_due_at t.stands ∙ h.asked) h.passes h.heard h.left
-              after.end more cut.setting adds (of_end air ends peers l settled (λ e. HaltAdds c e more) fits))
+              after.end more cut.setting adds (of_end (λ e. HaltAdds c e more) fits))
         ]
