@@ -1,5 +1,5 @@
 -- The writes of a message that a store takes are such as the tag can do.
-use Rattle.std.proofs.Common.{◌≡◌, ℕ, zero, suc, ◌+◌, ◌-◌, ◌*◌, ◌/◌, ◌%◌, ◌<◌, ◌≤◌, inl, inr, ◌==◌, Bool, true, false, nat_lt, nat_le, List, [], ◌∷◌, ◌++◌, length, map, take, drop, take-append-drop, Option, Some, None, refl, sym, ◌∙◌, ap, subst, arith}
+use Rattle.std.proofs.Common.{◌≡◌, ℕ, ◌+◌, ◌-◌, ◌*◌, ◌/◌, ◌%◌, ◌<◌, ◌≤◌, inl, inr, ◌==◌, Bool, true, nat_lt, nat_le, List, [], ◌∷◌, ◌++◌, length, map, take, drop, take-append-drop, Option, Some, None, refl, sym, ◌∙◌, ap, subst, arith}
 use Rattle.std.specs.Prelude.{Result, Ok, Err}
 use Rattle.std.specs.List.{AllByRecursion, list_all, flat_map}
 use Rattle.std.proofs.lemmas.Bool.{cases_Bool, cases_lt, and_parts, ltb-true, leb-true}
@@ -9,7 +9,6 @@ use Rattle.std.proofs.lemmas.Nat.{div-add-mod'}
 use Rattle.std.proofs.Math.Nat.{min-le_right, div-mul-le_self, mul-le-mul_right}
 use Rattle.nfc_base.specs.Blocks.{block_of}
 use Rattle.t4t_tag.specs.Store.{file_size}
-use Rattle.t5t_tag.specs.Store.{IsT5Store}
 use Rattle.t5t_tag.proofs.Stores.{size_of_block}
 use Rattle.tlv_area.specs.declared.container.ContainerFault.{ContainerFault}
 use Rattle.tlv_area.specs.declared.container.FileMap.{FileMap}
@@ -24,13 +23,13 @@ use Rattle.tlv_area.proofs.Steps.{free_below}
 use Rattle.tlv_area.proofs.Stepping.{block_of-size}
 use Rattle.tag_reader.specs.declared.how.How.{How}
 use Rattle.tag_reader.specs.declared.how.How.TheVariants.{T2, T4, T5}
-use Rattle.tag_reader.specs.Files.{container_in, file_in, message_length, IsFileStore}
+use Rattle.tag_reader.specs.Files.{container_in, IsFileStore}
 use Rattle.tag_reader.specs.Kinds.{IsStore}
 use Rattle.tag_reader.specs.Survey.{block_size}
 use Rattle.tag_reader.proofs.Areas.{t2_area}
 use Rattle.tag_reader.proofs.Files.{Named, named}
 use Rattle.tag_writer.specs.Place.{Place, Takes, tail_place}
-use Rattle.tag_writer.specs.Puts.{block_put, block_puts, file_close, file_fill, file_last}
+use Rattle.tag_writer.specs.Puts.{block_put, block_puts, file_close, file_fill}
 use Rattle.tag_writer.specs.Puttings.{IsPutOf, IsBlockPut}
 use Rattle.tag_writer.specs.Phases.{file_parts}
 use Rattle.tag_writer.specs.WriteAsked.{Parts, all_puts, AreAreaPuts, AreFilePuts, ArePuts}

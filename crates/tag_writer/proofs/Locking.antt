@@ -1,5 +1,5 @@
 -- A tag refuses the writes of a message that it takes exactly where one of them goes to a locked block.
-use Rattle.std.proofs.Common.{◌≡◌, ◌⊎◌, ℕ, ◌+◌, ◌*◌, ◌/◌, ◌<◌, ◌≤◌, ◌==◌, nat_le, nat_lt, ◌&&◌, ◌||◌, not, Bool, true, false, if◌then◌else◌, List, [], ◌∷◌, length, Option, Some, None, refl, sym, ◌∙◌, ap, subst, arith}
+use Rattle.std.proofs.Common.{◌≡◌, ℕ, ◌+◌, ◌*◌, ◌/◌, ◌<◌, ◌≤◌, ◌==◌, nat_le, nat_lt, ◌&&◌, ◌||◌, not, Bool, true, false, if◌then◌else◌, List, [], ◌∷◌, length, Option, Some, None, refl, sym, ◌∙◌, ap, subst, arith}
 use Rattle.std.specs.Prelude.{is_some, get_or, Ok, Err}
 use Rattle.std.specs.List.{AllByRecursion}
 use Rattle.std.proofs.Math.Nat.{mul-div_cancel_left}
@@ -16,7 +16,6 @@ use Rattle.t4t_tag.specs.Store.{IsT4Store}
 use Rattle.t5t_tag.specs.Store.{IsT5Shape, T5State, block_count, is_locked}
 use Rattle.t5t_tag.specs.Spelling as t5
 use Rattle.t5t_tag.specs.declared.command.T5Command.TheVariants as t5_command
-use Rattle.t5t_tag.specs.Step as t5_step
 use Rattle.t5t_tag.specs.Step.{T5Turn, refuses, no_block, not_supported, block_locked, write_turn, sent}
 use Rattle.t5t_tag.proofs.Steps.{write_turns, write_wide_turns}
 use Rattle.t5t_tag.proofs.Stores.{size_of_block}
@@ -34,7 +33,7 @@ use Rattle.tag_writer.specs.Phases.{IsNear}
 use Rattle.tag_writer.specs.Place.{Place, Takes}
 use Rattle.tag_writer.specs.Puts.{Put, put_into, block_put, block_command, update_put, commands_of}
 use Rattle.tag_writer.specs.Puttings.{IsPutOf, IsUpdatePut, AnswersAs}
-use Rattle.tag_writer.specs.WriteAsked.{Parts, ArePuts, Writes, all_puts, refusal_in, refusal_of, refused_by}
+use Rattle.tag_writer.specs.WriteAsked.{Parts, ArePuts, all_puts, refusal_in, refusal_of, refused_by}
 use Rattle.tag_writer.proofs.Doing.{Does, t2_does, t5_does, t5_may}
 use Rattle.tag_writer.proofs.DoablePuts.{doable_puts}
 use Rattle.tag_writer.proofs.FileDoing.{t4_does, t4_may}
