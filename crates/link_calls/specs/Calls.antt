@@ -20,10 +20,9 @@ use Rattle.llcp_link.specs.Counting.{StopsCounted}
 use Rattle.snep_core.specs.Accord.{PeerState}
 use Rattle.snep_core.specs.Server.{serving}
 use Rattle.snep_core.specs.Calling.{gives_up, refused_by}
-use Rattle.snep_core.specs.declared.job.Job.{Job}
 use Rattle.snep_core.specs.declared.job.Job.TheVariants.{Over}
 use Rattle.snep_core.specs.declared.job.Ending.TheVariants.{Refused}
-use Rattle.snep_core.specs.Talk.{EndState, Step, Ends, alone}
+use Rattle.snep_core.specs.Talk.{CameTo, EndState, Step, Ends, alone}
 use Rattle.link_calls.specs.CallDue.{CallStanding, BrokenBy, Comes}
 use Rattle.link_calls.specs.CallTurns.{CallTurns, CallFront}
 use Rattle.link_calls.specs.Arriving.{Arrives, IsCounted}
@@ -90,7 +89,7 @@ module _ {L : Type 0} (k : Ghosts L) (target : L → TargetState) where
 
     -- It failed: the far end was given up, with what the job came to, or it was cut off.
     abbrev pub CallFails : EndState → SnepFault → Type 0
-    CallFails client e = ((e ≡ BadPeer) × (came : Option Job) × IsMade (gives_up came client)) ⊎ IsCutOff e
+    CallFails client e = ((e ≡ BadPeer) × (came : List CameTo) × IsMade (gives_up came client)) ⊎ IsCutOff e
 
     -- A request failed: it was refused, the far end was given up, or it was cut off.
     abbrev pub RequestFails : EndState → SnepFault → Type 0

@@ -27,8 +27,7 @@ use Rattle.snep_core.specs.declared.fault.SnepFault.TheVariants.{BadPeer, LinkEn
 use Rattle.snep_core.specs.Accord.{PeerState}
 use Rattle.snep_core.specs.Server.{serving}
 use Rattle.snep_core.specs.Calling.{gives_up}
-use Rattle.snep_core.specs.declared.job.Job.{Job}
-use Rattle.snep_core.specs.Talk.{EndState, Step}
+use Rattle.snep_core.specs.Talk.{CameTo, EndState, Step}
 use Rattle.link_calls.specs.CallDue.{BrokenBy, Comes}
 use Rattle.link_calls.specs.Arriving.{Arrives}
 use Rattle.link_calls.specs.CallTurns.{HaltsAt}
@@ -105,7 +104,7 @@ module _ {L : Type 0} (k : Ghosts L) (target : L → TargetState) where
 
     -- It failed: the far end was given up, the link ended, or memory was wanting.
     abbrev pub ClosingFails : EndState → InitState → SnepFault → Type 0
-    ClosingFails client j BadPeer = (came : Option Job) × ClosingComes (Calls (Comes (gives_up came client) j))
+    ClosingFails client j BadPeer = (came : List CameTo) × ClosingComes (Calls (Comes (gives_up came client) j))
     ClosingFails client j (LinkEnded cause.FieldLost) = IsLost j cause.FieldLost
     ClosingFails client j (LinkEnded cause.SixBad) = IsLost j cause.SixBad
     ClosingFails client j (LinkEnded cause.Protocol) = ⊥
