@@ -1,4 +1,4 @@
--- Behind a search by rounds that ended well each Type 5 tag stands in the light and isn't quiet.
+-- Behind a search by rounds that ended well each Type 5 tag stands in the light, isn't quiet and is in no round.
 use Rattle.std.proofs.Common.{◌≡◌, List, [], ◌∷◌, map, if◌then◌else◌, None, refl, sym, subst, arith}
 use Rattle.std.specs.List.{AllByRecursion}
 use Rattle.nfc_base.specs.declared.event.Event.{Event}
@@ -32,7 +32,7 @@ woken [] = tt
 woken (T2 d ∷ ds) = (tt, woken ds)
 woken (T4 d ∷ ds) = (tt, woken ds)
 woken (Peer d ∷ ds) = (tt, woken ds)
-woken (T5 p ∷ ds) = ((refl, refl), woken ds)
+woken (T5 p ∷ ds) = ((refl, refl, refl), woken ds)
 
 -- a frame of NFC-A leaves each as it was
 step_leaves : (f : Signal) (d : Device) → f.tech ≡ A → IsAwake d → IsAwake (stepped_by devices d f None)

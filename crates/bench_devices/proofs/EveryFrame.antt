@@ -29,7 +29,7 @@ use Rattle.t2t_tag.specs.Store.{T2Memory, IsT2Store}
 use Rattle.t2t_tag.proofs.Spellings.{exact_by}
 use Rattle.t4t_tag.specs.Store.{T4State, IsSameTag, IsT4Store, store_of}
 use Rattle.t5t_tag.specs.Store.{T5State}
-use Rattle.t5t_tag.specs.Step.{T5Turn, t5_after}
+use Rattle.t5t_tag.specs.Step.{T5Turn, out_of_round, t5_after}
 use Rattle.t5t_tag.proofs.Stores.{still_store}
 use Rattle.t5t_tag.proofs.Steps.{same_tag as same_five, other_silent}
 use Rattle.tlv_area.proofs.Stepping.{length-with_block, block_before}
@@ -285,7 +285,7 @@ pub images_stay : ImagesStay
 images_stay w es id s = images_sound w es id (first_sound id w.listeners s)
 
 -- A device that is aside: a whole frame of NFC-A finds it at rest, and what is addressed to another identifier it passes over.
-five_aside : (lit : Bool) (p : Powered) (f : Signal) → t5_after p.tag f ≡ p.tag → kept (if lit then T5 (record { tag = t5_after p.tag f; lit = true }) else T5 p) ≡ kept (T5 p)
+five_aside : (lit : Bool) (p : Powered) (f : Signal) → t5_after p.tag f ≡ out_of_round p.tag → kept (if lit then T5 (record { tag = t5_after p.tag f; lit = true }) else T5 p) ≡ kept (T5 p)
 five_aside true p f same = ap (λ t. kept (T5 (record { tag = t; lit = true }))) same
 five_aside false p f same = refl
 

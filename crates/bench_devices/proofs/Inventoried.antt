@@ -33,18 +33,18 @@ use Rattle.bench_devices.specs.Device.{devices}
 use Rattle.bench_devices.specs.Crowded.{v_if, inventory_of}
 use Rattle.bench_devices.specs.Device.{air}
 use Rattle.bench_devices.specs.Keeping.{Kept, kept, IsApart, AreSound}
-use Rattle.bench_devices.proofs.Ours.{stays_at_all}
+use Rattle.bench_devices.proofs.Ours.{stays_at_all, kept_unrounded, unrounded_same}
 use Rattle.bench_devices.proofs.Following.{HasEnded, Closes}
 use Rattle.air_core.proofs.Following.{same_asked, light_is_no_request, over_is_no_request, over_is_no_light}
 use Rattle.bench_devices.proofs.Unmoved.{OnlyAsks, AllHeard, all_heard}
 use Rattle.bench_devices.proofs.SelectingKept.{IsHarmless}
 
--- A Type 5 tag in the light that isn't quiet. A tag of NFC-A hears no inventory.
+-- A Type 5 tag in the light that isn't quiet, and in no round. A tag of NFC-A hears no inventory.
 abbrev pub IsAwake : Device → Type 0
 IsAwake (T2 d) = Unit {0}
 IsAwake (T4 d) = Unit {0}
 IsAwake (Peer d) = Unit {0}
-IsAwake (T5 p) = (p.lit ≡ true) × (p.tag.quiet ≡ false)
+IsAwake (T5 p) = (p.lit ≡ true) × (p.tag.quiet ≡ false) × (p.tag.round ≡ None)
 
 abbrev pub says : Device → Option Signal
 says d = answered_by devices d inventory_all None
@@ -239,16 +239,20 @@ harmless : IsHarmless inventory_all
 harmless (T2 d) = refl
 harmless (T4 d) = refl
 harmless (Peer d) = refl
-harmless (T5 p) = ap kept (stays_at_all p)
+harmless (T5 p) = ap kept (stays_at_all p) ∙ kept_unrounded p
 
 pub inventory_harmless : (ns : List Note) (f : Signal) → enquiring inventory ns ≡ Asks f → IsHarmless f
 inventory_harmless ns f e = subst IsHarmless (sym (due_only (progress inventory (Tries 0 false) ns) f e)) harmless
 
-stays_at : (d : Device) → stepped_by devices d inventory_all None ≡ d
-stays_at (T2 d) = refl
-stays_at (T4 d) = refl
-stays_at (Peer d) = refl
-stays_at (T5 p) = stays_at_all p
+stays_at : (d : Device) → IsAwake d → stepped_by devices d inventory_all None ≡ d
+stays_at (T2 d) h = refl
+stays_at (T4 d) h = refl
+stays_at (Peer d) h = refl
+stays_at (T5 p) h = stays_at_all p ∙ unrounded_same p h.2
+
+stay_all : (ds : List Device) → AllByRecursion IsAwake ds → Each (λ d. stepped_by devices d inventory_all None ≡ d) ds
+stay_all [] h = tt
+stay_all (d ∷ ds) h = (stays_at d h.0, stay_all ds h.1)
 
 pub all_of : (P : Device → Type 0) → ((d : Device) → P d) → (ds : List Device) → Each P ds
 all_of P h [] = tt
@@ -261,7 +265,7 @@ inventory_comes a b ns g awake sound =
     let ds : List Device = a.world.listeners in
     let made = g.turns.made in
     let heard : AllHeard (joint (filter_map says ds)) (receptions (trace_of air a.world g.turns.moves)) =
-    all_heard inventory_all ds (all_of (λ d. stepped_by devices d inventory_all None ≡ d) stays_at ds) g.turns.moves a.world refl (subst (OnlyAsks inventory_all) made (only_due [] g.events g.each)) in
+    all_heard inventory_all ds (stay_all ds awake) g.turns.moves a.world refl (subst (OnlyAsks inventory_all) made (only_due [] g.events g.each)) in
     let known : AllHeard (joint (filter_map says ds)) ns = subst (AllHeard (joint (filter_map says ds))) (ap receptions (sym made) ∙ g.known) heard in
     let tells : Tells (joint (filter_map says ds)) (inventory_of (filter_map v_if ds)) = subst (λ gs. Tells (joint gs) (inventory_of (filter_map v_if ds))) (sym (all_answer ds awake)) (tells_of (filter_map v_if ds) (own_ids ds sound)) in
     tries_come (inventory_of (filter_map v_if ds)) (joint (filter_map says ds)) tells ns 0 false known

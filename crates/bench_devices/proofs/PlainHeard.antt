@@ -25,7 +25,7 @@ use Rattle.t2t_tag.specs.Store.{T2Memory}
 use Rattle.t5t_tag.specs.declared.answer.T5Answer.{T5Answer}
 use Rattle.t5t_tag.specs.Store.{T5State, IsT5Shape}
 use Rattle.t5t_tag.specs.Spelling.{quiet_code}
-use Rattle.t5t_tag.specs.Step.{T5Turn, sent, obeyed, t5_turn, t5_answer, t5_after}
+use Rattle.t5t_tag.specs.Step.{T5Turn, sent, obeyed, out_of_round, t5_turn, t5_answer, t5_after}
 use Rattle.t5t_tag.proofs.Turns.{hushes, on_obeyed}
 use Rattle.t5t_tag.proofs.Steps.{same_tag, stays_shape, addressed_turn}
 use Rattle.isodep_link.specs.Sizes.{limit}
@@ -87,9 +87,10 @@ obeyed_tells t code rest = on_obeyed t Tells (record {
 
 addressed_tells : (t : T5State) → IsT5Shape t → (code : ℕ) (rest : List ℕ) → (code == quiet_code) ≡ false → Tells (t5_turn t (addressed t.id code rest))
 addressed_tells t is code rest other =
-    let turn : t5_turn t (addressed t.id code rest) ≡ obeyed t code rest =
-    addressed_turn t is code rest ∙ ap (λ v. if v && (length rest == 0) then hushes t else obeyed t code rest) other in
-    subst Tells (sym turn) (obeyed_tells t code rest)
+    let u : T5State = out_of_round t in
+    let turn : t5_turn t (addressed t.id code rest) ≡ obeyed u code rest =
+    addressed_turn t is code rest ∙ ap (λ v. if v && (length rest == 0) then hushes u else obeyed u code rest) other in
+    subst Tells (sym turn) (obeyed_tells u code rest)
 
 five_replies : (how : How) (p : Powered) (f : Signal) → how ≡ hows.T5 p.tag.id → p.lit ≡ true → IsT5Shape p.tag → Tells (t5_turn p.tag f) → Replies how (T5 p) f
 five_replies how p f is lit sound tells = record {

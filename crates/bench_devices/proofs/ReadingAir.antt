@@ -14,7 +14,7 @@ use Rattle.t5t_tag.specs.Spelling.{quiet_code, read_code, read_many_code, read_w
 use Rattle.t5t_tag.specs.Mask as t5_mask
 use Rattle.t5t_tag.specs.declared.command.T5Command.TheVariants as t5_command
 use Rattle.t5t_tag.specs.declared.answer.T5Answer.TheVariants.{Content}
-use Rattle.t5t_tag.specs.Step.{silent, tells, refuses, not_supported, no_block, blocks_of, read_turn, read_many_turn, wide_number, Asked, Reads, ReadsMany, Unknown, asked_turn, obeyed, names, addressed, t5_after}
+use Rattle.t5t_tag.specs.Step.{silent, tells, refuses, not_supported, no_block, blocks_of, read_turn, read_many_turn, wide_number, Asked, Reads, ReadsMany, Unknown, asked_turn, obeyed, names, addressed, out_of_round, t5_after}
 use Rattle.tag_reader.specs.declared.ask.Ask.{Ask}
 use Rattle.tag_reader.specs.declared.ask.Ask.TheVariants.{One, Many}
 use Rattle.tag_reader.specs.Blocks.{ask_frame, ask_at, progress_at}
@@ -33,7 +33,7 @@ use Rattle.bench_devices.proofs.CardKept.{four_keeps, spells_none}
 use Rattle.air_core.proofs.DueWaits.{due_all}
 use Rattle.bench_devices.proofs.SelectingKept.{IsHarmless}
 
--- what is read leaves a Type 5 tag as it is
+-- what is read leaves a Type 5 tag as it is, but for a round that it was in
 read_leaves_it : (t : T5State) (block : ℕ) → (read_turn t block).after ≡ t
 read_leaves_it t block = by_end (nat_le (block_count t) block)
   where
@@ -76,12 +76,12 @@ read_addressed t code rest other leaves = by_names (names t rest)
     by_names true = rw other (leaves (drop id_size rest))
     by_names false = refl
 
-number_leaves : (t : T5State) (id : List ℕ) (block : ℕ) (v : Bool) → t5_after t (t5.command_frame (if v then t5_command.Read (Some id) block else t5_command.ReadWide (Some id) block)) ≡ t
-number_leaves t id block true = read_addressed t read_code (t5_mask.low_first id ++ block ∷ []) refl (single_leaves t)
-number_leaves t id block false = read_addressed t read_wide_code (t5_mask.low_first id ++ t5.wide block) refl (wide_leaves t)
+number_leaves : (t : T5State) (id : List ℕ) (block : ℕ) (v : Bool) → t5_after t (t5.command_frame (if v then t5_command.Read (Some id) block else t5_command.ReadWide (Some id) block)) ≡ out_of_round t
+number_leaves t id block true = read_addressed (out_of_round t) read_code (t5_mask.low_first id ++ block ∷ []) refl (single_leaves (out_of_round t))
+number_leaves t id block false = read_addressed (out_of_round t) read_wide_code (t5_mask.low_first id ++ t5.wide block) refl (wide_leaves (out_of_round t))
 
-several_leave : (t : T5State) (id : List ℕ) (block more : ℕ) → t5_after t (t5.command_frame (t5_command.ReadMany (Some id) block more)) ≡ t
-several_leave t id block more = read_addressed t read_many_code (t5_mask.low_first id ++ block ∷ more ∷ []) refl (many_leaves t)
+several_leave : (t : T5State) (id : List ℕ) (block more : ℕ) → t5_after t (t5.command_frame (t5_command.ReadMany (Some id) block more)) ≡ out_of_round t
+several_leave t id block more = read_addressed (out_of_round t) read_many_code (t5_mask.low_first id ++ block ∷ more ∷ []) refl (many_leaves (out_of_round t))
 
 -- so does one of each kind of device, whichever it hears
 read_two : (id : List ℕ) (front : Front) (u : T2Memory) (size : ℕ) (store : List ℕ) (k : ℕ)
@@ -92,7 +92,7 @@ read_two id Sleep u size store k = refl
 read_two id (Ready level starred) u size store k = refl
 read_two id (Active starred) u size store k = refl
 
-five_keeps : (p : Powered) (f : Signal) → t5_after p.tag f ≡ p.tag → kept (device_after (T5 p) f None) ≡ kept (T5 p)
+five_keeps : (p : Powered) (f : Signal) → t5_after p.tag f ≡ out_of_round p.tag → kept (device_after (T5 p) f None) ≡ kept (T5 p)
 five_keeps p f leaves = by_light p.lit
   where
     by_light : (v : Bool) → kept (if v then T5 (record { tag = t5_after p.tag f; lit = true }) else T5 p) ≡ kept (T5 p)

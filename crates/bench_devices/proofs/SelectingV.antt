@@ -45,7 +45,7 @@ use Rattle.bench_devices.specs.Keeping.{kept, IsSound, AreSound, AreTame, ghosts
 use Rattle.bench_devices.specs.Phases.{IsUnasked, Asked, Selects, SelectsAt, SelectionCut}
 use Rattle.bench_devices.specs.Polling as followed
 use Rattle.bench_devices.specs.Polling.{Followed, follows, kind_by, pick_v, selecting, asks}
-use Rattle.bench_devices.proofs.Ours.{steady_at, stays_at_own, answers_own}
+use Rattle.bench_devices.proofs.Ours.{steady_at, stays_at_own, kept_unrounded, answers_own}
 use Rattle.bench_devices.proofs.Inventoried.{fewer, whole_silent, collided_silent, damaged_silent, is_whole, tries_ask, tries_light, all_of}
 use Rattle.bench_devices.proofs.Following.{HasEnded, Closes, seen_by, kind_told, kind_asks, seen_lost, asks_same, told_same}
 use Rattle.air_core.proofs.Following.{light_is_no_request, over_is_no_request, over_is_no_light}
@@ -161,7 +161,7 @@ module _ (id : List ℕ) where
   harmless (T2 d) = refl
   harmless (T4 d) = refl
   harmless (Peer d) = refl
-  harmless (T5 p) = ap kept (stays_at_own id p)
+  harmless (T5 p) = ap kept (stays_at_own id p) ∙ kept_unrounded p
 
   abbrev next : List Note → Next
   next ns = asks (selecting (ids.V id) ns)
@@ -307,12 +307,16 @@ none_named id (d ∷ ds) none = by_name (pointwise nat_eq (device_id d) id) refl
     by_name true is e more = absurd cc
     by_name false is e more = ((λ h. (let k : true ≡ false = sym (pointwise_self id) ∙ ap (λ x. pointwise nat_eq x id) (sym h.1) ∙ is in cc)), more e)
 
--- a device of either kind stays as it is at an inventory
-stays_at : (id : List ℕ) (d : Device) → stepped_by devices d (inventory_of id) None ≡ d
+-- a device of either kind stays as a reset left it at an inventory
+stays_at : (id : List ℕ) (d : Device) → stepped_by devices (relit d) (inventory_of id) None ≡ relit d
 stays_at id (T2 d) = refl
 stays_at id (T4 d) = refl
 stays_at id (Peer d) = refl
-stays_at id (T5 p) = stays_at_own id p
+stays_at id (T5 p) = stays_at_own id (record { tag = darkened p.tag; lit = true })
+
+stay_all : (id : List ℕ) (ds : List Device) → AllStay (inventory_of id) (map relit ds)
+stay_all id [] = tt
+stay_all id (d ∷ ds) = (stays_at id d, stay_all id ds)
 
 -- a device as a reset leaves it
 abbrev IsRelit : Device → Type 0
@@ -417,7 +421,7 @@ module _ (id : List ℕ) (eight : length id ≡ 8) (old mid new : Air Device) (r
   only = only_due id [] later turns.going.each
 
   stay : AllStay (inventory_of id) (map relit old.listeners)
-  stay = all_of (λ d. stepped_by devices d (inventory_of id) None ≡ d) (stays_at id) (map relit old.listeners)
+  stay = stay_all id old.listeners
 
   abbrev heard_joint : Joint
   heard_joint = joint (answers_in id (map relit old.listeners))

@@ -5,16 +5,17 @@ use Rattle.nfc_base.specs.Blocks.{block_of}
 use Rattle.nfc_base.specs.Signal.{Signal}
 use Rattle.nfc_base.specs.TagLinks.{Type5, plain_state, MayAsk, addressed as addressed_to}
 use Rattle.air_core.specs.PlainTags.{Takes, PassesOver, IsPlainTag}
+use Rattle.t5t_tag.specs.declared.round.Round.{Round}
 use Rattle.t5t_tag.specs.declared.answer.T5Answer.{T5Answer}
 use Rattle.t5t_tag.specs.declared.answer.T5Answer.TheVariants.{Content, Error}
 use Rattle.t5t_tag.specs.Store.{T5State, id_size, blocks_in, block_count, is_locked}
 use Rattle.t5t_tag.specs.Spelling.{quiet_code, most_content}
-use Rattle.t5t_tag.specs.Step.{T5Turn, silent, tells, refuses, not_supported, no_block, block_locked, blocks_of, read_turn, read_many_turn, write_turn, Asked, Reads, ReadsMany, Writes, Unknown, asked, asked_turn, obeyed, names, addressed, t5_turn, sent, t5_answer, t5_after}
+use Rattle.t5t_tag.specs.Step.{T5Turn, silent, tells, refuses, not_supported, no_block, block_locked, blocks_of, read_turn, read_many_turn, write_turn, Asked, Reads, ReadsMany, Writes, Unknown, asked, asked_turn, obeyed, names, addressed, out_of_round, t5_turn, sent, t5_answer, t5_after}
 use Rattle.t5t_tag.proofs.Turns.{writes, hushes, on_obeyed}
 use Rattle.t5t_tag.proofs.Stores.{length_with_block}
 use Rattle.t5t_tag.proofs.Steps.{IsSameTag, same_tag, IsUntouched, read_leaves, read_many_leaves}
 use Rattle.t5t_tag.proofs.Again.{heard_again}
-use Rattle.t5t_tag.proofs.Hushed.{with_quiet, IsAlike, addressed_alike}
+use Rattle.t5t_tag.proofs.Hushed.{in_state, IsAlike, addressed_alike, frame_alike}
 use Rattle.bench_devices.specs.Powered.{Powered}
 use Rattle.bench_devices.specs.declared.device.Device.{Device}
 use Rattle.bench_devices.specs.declared.device.Device.TheVariants.{T2, T4, Peer, T5}
@@ -156,13 +157,13 @@ pub record HasHeard (t : T5State) (f : Signal) (u : T5State) : Type 0 where
   pub locked : u.locked ≡ t.locked
   pub store : (u.store ≡ t.store) ⊎ (u.store ≡ (t5_after t f).store)
 
-abbrev state : List ℕ → ℕ → List ℕ → List Bool → Bool → T5State
-state id size store locked quiet = record { id = id; size = size; store = store; locked = locked; quiet = quiet }
+abbrev state : List ℕ → ℕ → List ℕ → List Bool → Bool → Option Round → T5State
+state id size store locked quiet round = record { id = id; size = size; store = store; locked = locked; quiet = quiet; round = round }
 
-same_state : (t u : T5State) → u.id ≡ t.id → u.size ≡ t.size → u.store ≡ t.store → u.locked ≡ t.locked → u ≡ with_quiet u.quiet t
+same_state : (t u : T5State) → u.id ≡ t.id → u.size ≡ t.size → u.store ≡ t.store → u.locked ≡ t.locked → u ≡ in_state u.quiet u.round t
 same_state t u a b c d =
-    ap (λ x. state x u.size u.store u.locked u.quiet) a ∙ ap (λ x. state t.id x u.store u.locked u.quiet) b
-    ∙ ap (λ x. state t.id t.size x u.locked u.quiet) c ∙ ap (λ x. state t.id t.size t.store x u.quiet) d
+    ap (λ x. state x u.size u.store u.locked u.quiet u.round) a ∙ ap (λ x. state t.id x u.store u.locked u.quiet u.round) b
+    ∙ ap (λ x. state t.id t.size x u.locked u.quiet u.round) c ∙ ap (λ x. state t.id t.size t.store x u.quiet u.round) d
 
 module _ (t : T5State) (own : List ℕ) (code : ℕ) (rest : List ℕ) where
   abbrev pub frame : Signal
@@ -172,17 +173,19 @@ module _ (t : T5State) (own : List ℕ) (code : ℕ) (rest : List ℕ) where
   abbrev behind : List ℕ
   behind = code ∷ (reverse own ++ rest)
 
-  -- whether it is quiet or not
-  alike : (q : Bool) (s : T5State) → IsAlike (t5_turn (with_quiet q s) frame) (t5_turn s frame)
-  alike q s = addressed_alike s q behind
+  -- whether it is quiet or not, and in whatever round
+  alike : (q : Bool) (r : Option Round) (s : T5State) → IsAlike (t5_turn (in_state q r s) frame) (t5_turn s frame)
+  alike q r s = frame_alike s q r behind
 
   answer_again : t5_answer (t5_after t frame) frame ≡ t5_answer t frame
-  answer_again = ap sent (addressed_said t behind)
+  answer_again =
+      let left : T5State = t5_after t frame in
+      ap sent ((addressed_alike left left.quiet None behind).answer ∙ addressed_said (out_of_round t) behind)
 
-  as_old : (u : T5State) → HasHeard t frame u → u.store ≡ t.store → u ≡ with_quiet u.quiet t
+  as_old : (u : T5State) → HasHeard t frame u → u.store ≡ t.store → u ≡ in_state u.quiet u.round t
   as_old u is e = same_state t u is.id is.size e is.locked
 
-  as_new : (u : T5State) → HasHeard t frame u → u.store ≡ (t5_after t frame).store → u ≡ with_quiet u.quiet (t5_after t frame)
+  as_new : (u : T5State) → HasHeard t frame u → u.store ≡ (t5_after t frame).store → u ≡ in_state u.quiet u.round (t5_after t frame)
   as_new u is e =
       let same : IsSameTag t (t5_after t frame) = same_tag t frame in
       same_state (t5_after t frame) u (is.id ∙ sym same.id) (is.size ∙ sym same.size) e (is.locked ∙ sym same.locked)
@@ -191,15 +194,15 @@ module _ (t : T5State) (own : List ℕ) (code : ℕ) (rest : List ℕ) where
   heard_says u is = by_store is.store
     where
       by_store : (u.store ≡ t.store) ⊎ (u.store ≡ (t5_after t frame).store) → t5_answer u frame ≡ t5_answer t frame
-      by_store (inl e) = ap (λ s. t5_answer s frame) (as_old u is e) ∙ ap sent (alike u.quiet t).answer
-      by_store (inr e) = ap (λ s. t5_answer s frame) (as_new u is e) ∙ ap sent (alike u.quiet (t5_after t frame)).answer ∙ answer_again
+      by_store (inl e) = ap (λ s. t5_answer s frame) (as_old u is e) ∙ ap sent (alike u.quiet u.round t).answer
+      by_store (inr e) = ap (λ s. t5_answer s frame) (as_new u is e) ∙ ap sent (alike u.quiet u.round (t5_after t frame)).answer ∙ answer_again
 
   pub heard_holds : (u : T5State) → HasHeard t frame u → (t5_after u frame).store ≡ (t5_after t frame).store
   heard_holds u is = by_store is.store
     where
       by_store : (u.store ≡ t.store) ⊎ (u.store ≡ (t5_after t frame).store) → (t5_after u frame).store ≡ (t5_after t frame).store
-      by_store (inl e) = ap (λ s. (t5_after s frame).store) (as_old u is e) ∙ (alike u.quiet t).store
-      by_store (inr e) = ap (λ s. (t5_after s frame).store) (as_new u is e) ∙ (alike u.quiet (t5_after t frame)).store ∙ heard_again t frame
+      by_store (inl e) = ap (λ s. (t5_after s frame).store) (as_old u is e) ∙ (alike u.quiet u.round t).store
+      by_store (inr e) = ap (λ s. (t5_after s frame).store) (as_new u is e) ∙ (alike u.quiet u.round (t5_after t frame)).store ∙ heard_again t frame
 
   pub heard_stays : (u : T5State) → HasHeard t frame u → HasHeard t frame (t5_after u frame)
   heard_stays u is =
@@ -208,7 +211,7 @@ module _ (t : T5State) (own : List ℕ) (code : ℕ) (rest : List ℕ) where
 
 -- the tag as its step sees it
 abbrev unhushed : T5State → T5State
-unhushed t = with_quiet false t
+unhushed t = in_state false None t
 
 -- a Type 5 tag, and no other device
 abbrev is_five : Device → Bool
@@ -226,7 +229,7 @@ module _ (p : Powered) (own : List ℕ) (code : ℕ) (rest : List ℕ) where
 
   -- the tag as its step left it
   abbrev left : T5State
-  left = record { id = t.id; size = t.size; store = (t5_after t f).store; locked = t.locked; quiet = false }
+  left = record { id = t.id; size = t.size; store = (t5_after t f).store; locked = t.locked; quiet = false; round = None }
 
   left_heard : HasHeard t f left
   left_heard = record { id = refl; size = refl; locked = refl; store = inr refl }

@@ -134,6 +134,103 @@ fn hears_flags_and_masks(rt: HostRuntime) -> Result<(), Fail> {
     Ok(())
 }
 
+/// A tag with this identifier, of four zero bytes.
+fn named(alloc: Global, id: [u8; 8]) -> Result<T5Tag, Fail> {
+    Ok(T5Tag::new(id, vec![in alloc; 0u8; 4]?, 4)?)
+}
+
+/// The slot of a tag in the round that this frame begins, 99 where it answers in none: behind it come sixteen empty
+/// frames, one more than a round has.
+fn slot(tag: &mut T5Tag, begin: &[u8]) -> Result<u8, Fail> {
+    if tag.obey(&Frame::whole(Tech::V, begin)?).is_some() {
+        return Ok(0);
+    }
+    let next = Frame::whole(Tech::V, &[])?;
+    for at in 1..17u8 {
+        if tag.obey(&next).is_some() {
+            return Ok(at);
+        }
+    }
+    Ok(99)
+}
+
+#[test]
+fn answers_in_the_slot_of_its_low_nibble(rt: HostRuntime) -> Result<(), Fail> {
+    for nibble in 0..16u8 {
+        let id = [0xE0, 4, 1, 2, 3, 4, 5, 0x70 + nibble];
+        let told = slot(&mut named(rt.alloc(), id)?, &[6, 1, 0])?;
+        assert_eq!(rt; told, nibble);
+    }
+    Ok(())
+}
+
+/// What begins a round, and the slot in which the tag `E004010203040506` answers.
+const ROUNDS: [(&[u8], u8); 12] = [
+    (&[6, 1, 0], 6),
+    (&[6, 1, 4, 6], 0),
+    (&[6, 1, 5, 6], 8),
+    (&[6, 1, 8, 6], 5),
+    (&[6, 1, 10, 6, 1], 1),
+    (&[6, 1, 60, 6, 5, 4, 3, 2, 1, 4, 0], 14),
+    (&[6, 1, 61, 6, 5, 4, 3, 2, 1, 4, 0], 99),
+    (&[6, 1, 4, 5], 99),
+    (&[6, 1, 4, 0x16], 99),
+    (&[6, 1, 4], 99),
+    (&[6, 2, 0], 99),
+    (&[], 99),
+];
+
+#[test]
+fn its_slot_is_the_nibble_above_the_mask(rt: HostRuntime) -> Result<(), Fail> {
+    for (begin, own) in ROUNDS {
+        let told = slot(&mut named(rt.alloc(), ID)?, begin)?;
+        assert_eq!(rt; told, own, "at {begin:?}");
+    }
+    Ok(())
+}
+
+/// A frame that comes into a round of the tag `..0502` right behind the first slot, and how many empty frames come then
+/// before the one at which it answers: 99 where it answers at none.
+const INTERRUPTED: [(&[u8], u8); 9] = [
+    (&[0x26, 1, 0], 99),
+    (&[0x26, 1, 4, 7], 99),
+    (&[0x22, 0x20, 6, 5, 4, 3, 2, 1, 4, 0xE0, 0], 99),
+    (&[0x22, 0x20, 2, 5, 4, 3, 2, 1, 4, 0xE0, 0], 99),
+    (&[2, 0x20, 0], 99),
+    (&[0x55], 99),
+    (&[6, 1, 4, 7], 99),
+    (&[6, 1, 0], 1),
+    (&[], 0),
+];
+
+fn slot_behind(tag: &mut T5Tag, frame: &[u8]) -> Result<u8, Fail> {
+    tag.obey(&Frame::whole(Tech::V, &[6, 1, 0])?);
+    tag.obey(&Frame::whole(Tech::V, frame)?);
+    slot(tag, &[])
+}
+
+#[test]
+fn any_other_frame_ends_a_round(rt: HostRuntime) -> Result<(), Fail> {
+    let id = [0xE0, 4, 1, 2, 3, 4, 5, 2];
+    for (frame, answer) in INTERRUPTED {
+        let told = slot_behind(&mut named(rt.alloc(), id)?, frame)?;
+        assert_eq!(rt; told, answer, "at {frame:?}");
+    }
+    Ok(())
+}
+
+#[test]
+fn a_quiet_tag_is_in_no_round(rt: HostRuntime) -> Result<(), Fail> {
+    let mut tag = named(rt.alloc(), ID)?;
+    hears(&rt, &mut tag, &[0x22, 2, 6, 5, 4, 3, 2, 1, 4, 0xE0], &[])?;
+    assert_eq!(rt; slot(&mut tag, &[6, 1, 0])?, 99);
+    tag.dark();
+    assert_eq!(rt; slot(&mut tag, &[6, 1, 0])?, 6);
+    tag.dark();
+    assert_eq!(rt; slot(&mut tag, &[])?, 99);
+    Ok(())
+}
+
 /// A tag of 256 blocks, two of which are locked.
 fn locked_tag(alloc: Global) -> Result<T5Tag, Fail> {
     let mut tag = T5Tag::new(ID, vec![in alloc; 0u8; 1024]?, 4)?;
@@ -317,11 +414,20 @@ fn command_comes_back(
 
 #[test]
 fn commands_come_back(rt: HostRuntime) -> Result<(), Fail> {
-    let rows: [(&[u8], &str); 8] = [
+    let rows: [(&[u8], &str); 11] = [
         (
             &[0x26, 1, 10, 6, 1],
             "Inventory { mask_bits: 10, mask: [6, 1, 0, 0, 0, 0, 0, 0] }",
         ),
+        (
+            &[6, 1, 60, 6, 5, 4, 3, 2, 1, 4, 0],
+            "Slots { mask_bits: 60, mask: [6, 5, 4, 3, 2, 1, 4, 0] }",
+        ),
+        (
+            &[6, 1, 0],
+            "Slots { mask_bits: 0, mask: [0, 0, 0, 0, 0, 0, 0, 0] }",
+        ),
+        (&[], "NextSlot"),
         (
             &[0x22, 2, 6, 5, 4, 3, 2, 1, 4, 0xE0],
             "Quiet { id: [224, 4, 1, 2, 3, 4, 5, 6] }",
@@ -356,8 +462,9 @@ fn commands_come_back(rt: HostRuntime) -> Result<(), Fail> {
 
 #[test]
 fn other_frames_spell_no_command(rt: HostRuntime) -> Result<(), Fail> {
-    let rows: [&[u8]; 15] = [
-        &[],
+    let rows: [&[u8]; 16] = [
+        &[6, 1, 61, 6, 5, 4, 3, 2, 1, 4, 0],
+        &[6, 1, 4, 0x16],
         &[2],
         &[2, 2],
         &[2, 0x20],

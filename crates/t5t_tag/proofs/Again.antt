@@ -1,14 +1,16 @@
 -- A frame that is heard again leaves the store that its first hearing left.
-use Rattle.std.proofs.Common.{◌≡◌, ℕ, ◌/◌, List, [], ◌∷◌, length, drop, Bool, true, false, not, nat_le, ◌==◌, ◌&&◌, if◌then◌else◌, refl, sym, ◌∙◌, ap}
+use Rattle.std.proofs.Common.{◌≡◌, ℕ, ◌/◌, List, [], ◌∷◌, length, drop, Bool, true, false, not, nat_le, ◌==◌, ◌&&◌, if◌then◌else◌, Some, None, refl, sym, ◌∙◌, ap}
 use Rattle.nfc_base.specs.Signal.{Signal}
 use Rattle.t5t_tag.specs.declared.answer.T5Answer.TheVariants.{Present}
 use Rattle.t5t_tag.specs.Store.{T5State, id_size, block_count, is_locked}
 use Rattle.t5t_tag.specs.Mask.{asks_for}
-use Rattle.t5t_tag.specs.Spelling.{addressed_flags, plain_flags, inventory_flags, inventory_code, quiet_code}
-use Rattle.t5t_tag.specs.Step.{T5Turn, silent, tells, refuses, not_supported, no_block, block_locked, read_turn, read_many_turn, write_turn, Asked, Reads, ReadsMany, Writes, Unknown, asked, asked_turn, obeyed, names, addressed, plain, inventory, bytes_turn, is_nfc_v, t5_after}
+use Rattle.t5t_tag.specs.Slots.{slot_of, asks_in_slots, begun}
+use Rattle.t5t_tag.specs.Spelling.{addressed_flags, plain_flags, inventory_flags, slots_flags, inventory_code, quiet_code}
+use Rattle.t5t_tag.specs.Step.{T5Turn, silent, tells, refuses, not_supported, no_block, block_locked, read_turn, read_many_turn, write_turn, Asked, Reads, ReadsMany, Writes, Unknown, asked, asked_turn, obeyed, names, addressed, plain, inventory, out_of_round, in_slot, slots, bytes_turn, is_nfc_v, t5_after}
 use Rattle.t5t_tag.proofs.Stores.{length_with_block, with_block_again}
 use Rattle.t5t_tag.proofs.Turns.{writes, hushes, by_test, less_of, same_of, on_write, on_obeyed}
 use Rattle.t5t_tag.proofs.Steps.{read_leaves, read_many_leaves}
+use Rattle.t5t_tag.proofs.Hushed.{addressed_alike, plain_alike}
 
 -- a step whose second time leaves the store of its first
 abbrev pub IsOnce : (T5State → T5Turn) → T5State → Type 0
@@ -131,18 +133,35 @@ inventory_keeps t (code ∷ []) = refl
 inventory_keeps t (code ∷ bits ∷ mask) =
     by_test (λ r. r.after.store ≡ t.store) ((code == inventory_code) && not t.quiet && asks_for t.id bits mask) (tells t (Present t.id)) (silent t) (λ h. refl) (λ h. refl)
 
+-- nor does an inventory of sixteen slots change the store
+slots_keep : (t : T5State) (rest : List ℕ) → (slots t rest).after.store ≡ t.store
+slots_keep t [] = refl
+slots_keep t (code ∷ []) = refl
+slots_keep t (code ∷ bits ∷ mask) =
+    by_test (λ r. r.after.store ≡ t.store) ((code == inventory_code) && not t.quiet && asks_in_slots t.id bits mask) (in_slot t (Some (begun (slot_of t.id bits)))) (silent t)
+    (λ h. refl)
+    (λ h. refl)
+
+-- A step that ends a round first, where it doesn't go by the round.
+once_out : (step : T5State → T5Turn) (t : T5State) → ((s : T5State) → (step (out_of_round s)).after.store ≡ (step s).after.store) → IsOnce step (out_of_round t)
+    → IsOnce (λ s. step (out_of_round s)) t
+once_out step t alike once = alike (step (out_of_round t)).after ∙ once
+
 bytes_once : (t : T5State) (bytes : List ℕ) → IsOnce (λ s. bytes_turn s bytes) t
 bytes_once t [] = refl
 bytes_once t (flags ∷ rest) =
-    let third : T5State → T5Turn = λ s. if flags == inventory_flags then inventory s rest else silent s in
-    let other : T5State → T5Turn = λ s. if flags == plain_flags then plain s rest else third s in
-    once_of t (flags == addressed_flags) (λ s. addressed s rest) other
-    (addressed_once t rest)
-    (once_of t (flags == plain_flags) (λ s. plain s rest) third
-    (plain_once t rest)
-    (once_of t (flags == inventory_flags) (λ s. inventory s rest) silent
-    (once_kept (λ s. inventory s rest) t (λ s. inventory_keeps s rest))
-    refl))
+    let fourth : T5State → T5Turn = λ s. if flags == slots_flags then slots (out_of_round s) rest else silent (out_of_round s) in
+    let third : T5State → T5Turn = λ s. if flags == inventory_flags then inventory (out_of_round s) rest else fourth s in
+    let other : T5State → T5Turn = λ s. if flags == plain_flags then plain (out_of_round s) rest else third s in
+    once_of t (flags == addressed_flags) (λ s. addressed (out_of_round s) rest) other
+    (once_out (λ s. addressed s rest) t (λ s. (addressed_alike s s.quiet None rest).store) (addressed_once (out_of_round t) rest))
+    (once_of t (flags == plain_flags) (λ s. plain (out_of_round s) rest) third
+    (once_out (λ s. plain s rest) t (λ s. (plain_alike s None rest).store) (plain_once (out_of_round t) rest))
+    (once_of t (flags == inventory_flags) (λ s. inventory (out_of_round s) rest) fourth
+    (once_kept (λ s. inventory (out_of_round s) rest) t (λ s. inventory_keeps (out_of_round s) rest))
+    (once_of t (flags == slots_flags) (λ s. slots (out_of_round s) rest) (λ s. silent (out_of_round s))
+    (once_kept (λ s. slots (out_of_round s) rest) t (λ s. slots_keep (out_of_round s) rest))
+    refl)))
 
 pub heard_again : (t : T5State) (f : Signal) → (t5_after (t5_after t f) f).store ≡ (t5_after t f).store
 heard_again t f = once_of t (is_nfc_v f.tech && (f.tail == 0)) (λ s. bytes_turn s f.bytes) silent (bytes_once t f.bytes) refl

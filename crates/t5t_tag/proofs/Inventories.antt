@@ -9,7 +9,7 @@ use Rattle.t5t_tag.specs.declared.answer.T5Answer.TheVariants.{Present}
 use Rattle.t5t_tag.specs.Store.{T5State, IsT5Shape, id_size}
 use Rattle.t5t_tag.specs.Mask.{low_first, most_bits, kept, mask_of}
 use Rattle.t5t_tag.specs.Spelling.{inventory_flags, inventory_code}
-use Rattle.t5t_tag.specs.Step.{silent, tells, t5_turn}
+use Rattle.t5t_tag.specs.Step.{silent, tells, out_of_round, t5_turn}
 use Rattle.t5t_tag.proofs.Bytes.{equal_bytes, bytes_self}
 
 -- all bits of bytes are kept
@@ -49,14 +49,15 @@ whole_mask t is =
     ap (λ x. take id_size x) all ∙ ap (λ n. take n low) (sym long) ∙ take-length low
 
 -- an inventory with a whole identifier: the tag that has it answers, where it isn't quiet
-pub picked : (t : T5State) → IsT5Shape t → t.quiet ≡ false → t5_turn t (whole_v (inventory_flags ∷ inventory_code ∷ most_bits ∷ low_first t.id)) ≡ tells t (Present t.id)
+pub picked : (t : T5State) → IsT5Shape t → t.quiet ≡ false → t5_turn t (whole_v (inventory_flags ∷ inventory_code ∷ most_bits ∷ low_first t.id)) ≡ tells (out_of_round t) (Present t.id)
 picked t is loud =
-    ap (λ v. if not v && pointwise nat_eq (low_first t.id) (mask_of t.id most_bits) then tells t (Present t.id) else silent t) loud
-    ∙ ap (λ x. if pointwise nat_eq (low_first t.id) x then tells t (Present t.id) else silent t) (whole_mask t is)
-    ∙ ap (λ v. if v then tells t (Present t.id) else silent t) (bytes_self (low_first t.id))
+    let u : T5State = out_of_round t in
+    ap (λ v. if not v && pointwise nat_eq (low_first t.id) (mask_of t.id most_bits) then tells u (Present t.id) else silent u) loud
+    ∙ ap (λ x. if pointwise nat_eq (low_first t.id) x then tells u (Present t.id) else silent u) (whole_mask t is)
+    ∙ ap (λ v. if v then tells u (Present t.id) else silent u) (bytes_self (low_first t.id))
 
 -- every other tag is silent
-pub unpicked : (t : T5State) → IsT5Shape t → (id : List ℕ) → id ≢ t.id → t5_turn t (whole_v (inventory_flags ∷ inventory_code ∷ most_bits ∷ low_first id)) ≡ silent t
+pub unpicked : (t : T5State) → IsT5Shape t → (id : List ℕ) → id ≢ t.id → t5_turn t (whole_v (inventory_flags ∷ inventory_code ∷ most_bits ∷ low_first id)) ≡ silent (out_of_round t)
 unpicked t is id other = by_mask t.quiet (pointwise nat_eq (low_first id) (mask_of t.id most_bits)) refl
   where
     same_id : pointwise nat_eq (low_first id) (mask_of t.id most_bits) ≡ true → id ≡ t.id
@@ -64,7 +65,7 @@ unpicked t is id other = by_mask t.quiet (pointwise nat_eq (low_first id) (mask_
         let low : low_first id ≡ low_first t.id = equal_bytes (low_first id) (mask_of t.id most_bits) h ∙ whole_mask t is in
         sym (reverse-reverse id) ∙ ap low_first low ∙ reverse-reverse t.id
 
-    by_mask : (quiet v : Bool) → pointwise nat_eq (low_first id) (mask_of t.id most_bits) ≡ v → (if not quiet && v then tells t (Present t.id) else silent t) ≡ silent t
+    by_mask : (quiet v : Bool) → pointwise nat_eq (low_first id) (mask_of t.id most_bits) ≡ v → (if not quiet && v then tells (out_of_round t) (Present t.id) else silent (out_of_round t)) ≡ silent (out_of_round t)
     by_mask true v h = refl
     by_mask false false h = refl
     by_mask false true h = absurd (other (same_id h))
@@ -74,7 +75,8 @@ take_none [] = refl
 take_none (x ∷ xs) = refl
 
 -- an inventory without a mask: every tag that isn't quiet answers
-pub counted : (t : T5State) → t.quiet ≡ false → t5_turn t (whole_v (inventory_flags ∷ inventory_code ∷ 0 ∷ [])) ≡ tells t (Present t.id)
+pub counted : (t : T5State) → t.quiet ≡ false → t5_turn t (whole_v (inventory_flags ∷ inventory_code ∷ 0 ∷ [])) ≡ tells (out_of_round t) (Present t.id)
 counted t loud =
-    ap (λ v. if not v && pointwise nat_eq [] (mask_of t.id 0) then tells t (Present t.id) else silent t) loud
-    ∙ ap (λ x. if pointwise nat_eq [] x then tells t (Present t.id) else silent t) (take_none (kept 0 (low_first t.id)))
+    let u : T5State = out_of_round t in
+    ap (λ v. if not v && pointwise nat_eq [] (mask_of t.id 0) then tells u (Present t.id) else silent u) loud
+    ∙ ap (λ x. if pointwise nat_eq [] x then tells u (Present t.id) else silent u) (take_none (kept 0 (low_first t.id)))

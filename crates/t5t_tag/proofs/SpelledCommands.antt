@@ -7,11 +7,12 @@ use Rattle.nfc_base.specs.declared.frame.Tech.{Tech}
 use Rattle.nfc_base.specs.declared.frame.Tech.TheVariants.{A, V}
 use Rattle.nfc_base.specs.Signal.{Signal, signal, whole_v}
 use Rattle.t5t_tag.specs.declared.command.T5Command.{T5Command}
-use Rattle.t5t_tag.specs.declared.command.T5Command.TheVariants.{Inventory, Quiet, Read, Write, ReadMany, ReadWide, WriteWide}
+use Rattle.t5t_tag.specs.declared.command.T5Command.TheVariants.{Inventory, Slots, NextSlot, Quiet, Read, Write, ReadMany, ReadWide, WriteWide}
 use Rattle.t5t_tag.specs.Store.{id_size}
 use Rattle.t5t_tag.specs.Mask.{low_first, most_bits, mask_size, kept}
-use Rattle.t5t_tag.specs.Spelling.{addressed_flags, plain_flags, inventory_flags, inventory_code, quiet_code, read_code, write_code, read_many_code, read_wide_code, write_wide_code, most_written, wide, head, IsAddress, IsT5Command, command_frame, T5Spelling}
-use Rattle.t5t_tag.specs.Reading.{filled, read_quiet, read_write, read_write_wide, read_pair, read_command, read_addressed, read_inventory, read_bits, command_of, spelled_command}
+use Rattle.t5t_tag.specs.Slots.{most_slot_bits}
+use Rattle.t5t_tag.specs.Spelling.{addressed_flags, plain_flags, inventory_flags, slots_flags, inventory_code, quiet_code, read_code, write_code, read_many_code, read_wide_code, write_wide_code, most_written, wide, head, IsAddress, IsMask, IsT5Command, command_frame, T5Spelling}
+use Rattle.t5t_tag.specs.Reading.{filled, is_mask, read_quiet, read_write, read_write_wide, read_pair, read_command, read_addressed, read_inventory, read_slots, read_bits, command_of, spelled_command}
 use Rattle.t5t_tag.specs.Step.{wide_number}
 use Rattle.t5t_tag.proofs.Bytes.{equal_of, at_most, is_at_most, left_of, right_of, equal_bytes, bytes_self, same_number, by_if}
 use Rattle.t5t_tag.proofs.Masks.{length_filled, kept_of_filled, take_filled, filled_take, length_front, kept_front}
@@ -115,21 +116,47 @@ addressed_told code rest c small =
     subst P whole (command_told (Some id) code (drop id_size rest) c size behind e))
     (λ h e. cc)
 
-inventory_told : (rest : List ℕ) (c : T5Command) → read_bits rest ≡ Some c → T5Spelling c (whole_v (inventory_flags ∷ inventory_code ∷ rest))
-inventory_told [] c e = cc
-inventory_told (bits ∷ mask) c e =
-    let few : Bool = nat_le bits most_bits in
+-- a mask that is read is in range, and its first bytes are those that were sent
+pub record MaskTold (most bits : ℕ) (mask : List ℕ) : Type 0 where
+  pub range : IsMask most bits (filled mask)
+  pub front : take (mask_size bits) (filled mask) ≡ mask
+
+mask_told : (most bits : ℕ) (mask : List ℕ) → most ≤ most_bits → is_mask most bits mask ≡ true → MaskTold most bits mask
+mask_told most bits mask least h =
+    let few : Bool = nat_le bits most in
     let long : Bool = length mask == mask_size bits in
     let same : Bool = pointwise nat_eq (kept bits mask) mask in
-    by_if (few && long && same) (Some (Inventory bits (filled mask))) None c (T5Spelling c (whole_v (inventory_flags ∷ inventory_code ∷ bits ∷ mask)))
-    (λ h e.
     let both : (few && long) ≡ true = left_of (few && long) same h in
-    let bound : bits ≤ most_bits = at_most bits most_bits (left_of few long both) in
+    let bound : bits ≤ most = at_most bits most (left_of few long both) in
     let size : length mask ≡ mask_size bits = equal_of (length mask) (mask_size bits) (right_of few long both) in
     let clean : kept bits mask ≡ mask = equal_bytes (kept bits mask) mask (right_of (few && long) same h) in
+    record {
+      range = (bound, length_filled mask (omega (arith, bound, size, least)), kept_of_filled bits mask clean);
+      front = take_filled (mask_size bits) mask size;
+    }
+
+inventory_told : (rest : List ℕ) (c : T5Command) → read_bits read_inventory rest ≡ Some c → T5Spelling c (whole_v (inventory_flags ∷ inventory_code ∷ rest))
+inventory_told [] c e = cc
+inventory_told (bits ∷ mask) c e =
+    by_if (is_mask most_bits bits mask) (Some (Inventory bits (filled mask))) None c (T5Spelling c (whole_v (inventory_flags ∷ inventory_code ∷ bits ∷ mask)))
+    (λ h e.
+    let m : MaskTold most_bits bits mask = mask_told most_bits bits mask (omega arith) h in
     told (Inventory bits (filled mask)) c (whole_v (inventory_flags ∷ inventory_code ∷ bits ∷ mask)) (record {
-      range = (bound, length_filled mask (omega (arith, bound, size)), kept_of_filled bits mask clean);
-      frame = ap (λ t. whole_v (inventory_flags ∷ inventory_code ∷ bits ∷ t)) (sym (take_filled (mask_size bits) mask size));
+      range = m.range;
+      frame = ap (λ t. whole_v (inventory_flags ∷ inventory_code ∷ bits ∷ t)) (sym m.front);
+    }) e)
+    (λ h e. cc)
+    e
+
+slots_told : (rest : List ℕ) (c : T5Command) → read_bits read_slots rest ≡ Some c → T5Spelling c (whole_v (slots_flags ∷ inventory_code ∷ rest))
+slots_told [] c e = cc
+slots_told (bits ∷ mask) c e =
+    by_if (is_mask most_slot_bits bits mask) (Some (Slots bits (filled mask))) None c (T5Spelling c (whole_v (slots_flags ∷ inventory_code ∷ bits ∷ mask)))
+    (λ h e.
+    let m : MaskTold most_slot_bits bits mask = mask_told most_slot_bits bits mask (omega arith) h in
+    told (Slots bits (filled mask)) c (whole_v (slots_flags ∷ inventory_code ∷ bits ∷ mask)) (record {
+      range = m.range;
+      frame = ap (λ t. whole_v (slots_flags ∷ inventory_code ∷ bits ∷ t)) (sym m.front);
     }) e)
     (λ h e. cc)
     e
@@ -145,20 +172,28 @@ second flags code n rest c h is =
     let P : ℕ → Type 0 = λ m. T5Spelling c (whole_v (flags ∷ m ∷ rest)) in
     subst P (sym (equal_of code n h)) is
 
+headed : (flags n code : ℕ) (rest : List ℕ) (c : T5Command) → ((flags == n) && (code == inventory_code)) ≡ true → T5Spelling c (whole_v (n ∷ inventory_code ∷ rest))
+    → T5Spelling c (whole_v (flags ∷ code ∷ rest))
+headed flags n code rest c h is =
+    flagged flags n (code ∷ rest) c (left_of (flags == n) (code == inventory_code) h) (second n code inventory_code rest c (right_of (flags == n) (code == inventory_code) h) is)
+
 bytes_told : (bytes : List ℕ) (c : T5Command) → AreBytes bytes → command_of bytes ≡ Some c → T5Spelling c (whole_v bytes)
-bytes_told [] c small e = cc
+bytes_told [] c small e = told NextSlot c (whole_v []) (record { range = tt; frame = refl }) e
 bytes_told (flags ∷ []) c small e = cc
 bytes_told (flags ∷ code ∷ rest) c small e =
     let behind : AreBytes rest = λ i. small (suc (suc i)) in
     let G : Type 0 = T5Spelling c (whole_v (flags ∷ code ∷ rest)) in
-    let third : Option T5Command = if (flags == inventory_flags) && (code == inventory_code) then read_bits rest else None in
+    let fourth : Option T5Command = if (flags == slots_flags) && (code == inventory_code) then read_bits read_slots rest else None in
+    let third : Option T5Command = if (flags == inventory_flags) && (code == inventory_code) then read_bits read_inventory rest else fourth in
     by_if (flags == addressed_flags) (read_addressed code rest) (if flags == plain_flags then read_command None code rest else third) c G
     (λ h e. flagged flags addressed_flags (code ∷ rest) c h (addressed_told code rest c behind e))
     (λ g. by_if (flags == plain_flags) (read_command None code rest) third c G
     (λ h e. flagged flags plain_flags (code ∷ rest) c h (command_told None code rest c tt behind e))
-    (λ k. by_if ((flags == inventory_flags) && (code == inventory_code)) (read_bits rest) None c G
-    (λ h e. flagged flags inventory_flags (code ∷ rest) c (left_of (flags == inventory_flags) (code == inventory_code) h) (second inventory_flags code inventory_code rest c (right_of (flags == inventory_flags) (code == inventory_code) h) (inventory_told rest c e)))
-    (λ h e. cc)))
+    (λ k. by_if ((flags == inventory_flags) && (code == inventory_code)) (read_bits read_inventory rest) fourth c G
+    (λ h e. headed flags inventory_flags code rest c h (inventory_told rest c e))
+    (λ l. by_if ((flags == slots_flags) && (code == inventory_code)) (read_bits read_slots rest) None c G
+    (λ h e. headed flags slots_flags code rest c h (slots_told rest c e))
+    (λ h e. cc))))
     e
 
 whole_told : (bytes : List ℕ) (tail : ℕ) (v : Bool) → (tail == 0) ≡ v → (c : T5Command) → AreBytes bytes → (if v then command_of bytes else None) ≡ Some c → T5Spelling c (signal V bytes tail)
@@ -193,17 +228,25 @@ write_reads id block [] few = refl
 write_reads id block (b ∷ items) few =
     ap (λ v. if v then Some (Write id block (record { items = b ∷ items })) else None) (is_at_most (length (b ∷ items)) most_written few)
 
-inventory_reads : (bits : ℕ) (mask : List ℕ) → bits ≤ most_bits → length mask ≡ id_size → kept bits mask ≡ mask → read_inventory bits (take (mask_size bits) mask) ≡ Some (Inventory bits mask)
-inventory_reads bits mask few size is =
+-- a mask in range is read from its first bytes
+mask_reads : (most bits : ℕ) (mask : List ℕ) → most ≤ most_bits → IsMask most bits mask → is_mask most bits (take (mask_size bits) mask) ≡ true
+mask_reads most bits mask least is =
     let n : ℕ = mask_size bits in
     let front : List ℕ = take n mask in
-    let a : nat_le bits most_bits ≡ true = is_at_most bits most_bits few in
-    let b : (length front == n) ≡ true = ap (λ k. k == n) (length_front bits mask few size) ∙ same_number n in
-    let d : pointwise nat_eq (kept bits front) front ≡ true = ap (λ t. pointwise nat_eq t front) (kept_front n bits mask is) ∙ bytes_self front in
-    ap (λ v. if v && (length front == n) && pointwise nat_eq (kept bits front) front then Some (Inventory bits (filled front)) else None) a
-    ∙ ap (λ v. if true && v && pointwise nat_eq (kept bits front) front then Some (Inventory bits (filled front)) else None) b
-    ∙ ap (λ v. if true && true && v then Some (Inventory bits (filled front)) else None) d
-    ∙ ap (λ t. Some (Inventory bits t)) (filled_take bits mask few size is)
+    let a : nat_le bits most ≡ true = is_at_most bits most is.0 in
+    let b : (length front == n) ≡ true = ap (λ k. k == n) (length_front bits mask (omega (arith, is.0, least)) is.1) ∙ same_number n in
+    let d : pointwise nat_eq (kept bits front) front ≡ true = ap (λ t. pointwise nat_eq t front) (kept_front n bits mask is.2) ∙ bytes_self front in
+    ap (λ v. v && (length front == n) && pointwise nat_eq (kept bits front) front) a ∙ ap (λ v. v && pointwise nat_eq (kept bits front) front) b ∙ d
+
+inventory_reads : (bits : ℕ) (mask : List ℕ) → IsMask most_bits bits mask → read_inventory bits (take (mask_size bits) mask) ≡ Some (Inventory bits mask)
+inventory_reads bits mask is =
+    ap (λ v. if v then Some (Inventory bits (filled (take (mask_size bits) mask))) else None) (mask_reads most_bits bits mask (omega arith) is)
+    ∙ ap (λ t. Some (Inventory bits t)) (filled_take bits mask is.0 is.1 is.2)
+
+slots_reads : (bits : ℕ) (mask : List ℕ) → IsMask most_slot_bits bits mask → read_slots bits (take (mask_size bits) mask) ≡ Some (Slots bits mask)
+slots_reads bits mask is =
+    ap (λ v. if v then Some (Slots bits (filled (take (mask_size bits) mask))) else None) (mask_reads most_slot_bits bits mask (omega arith) is)
+    ∙ ap (λ t. Some (Slots bits t)) (filled_take bits mask (omega (arith, is.0)) is.1 is.2)
 
 wide_back : (block : ℕ) → wide_number (block % 256) (block / 256) ≡ block
 wide_back block = omega arith
@@ -216,7 +259,9 @@ write_wide_reads id block items few =
 
 -- a command is read from its frame
 pub command_reads : (c : T5Command) → IsT5Command c → spelled_command (command_frame c) ≡ Some c
-command_reads (Inventory bits mask) is = inventory_reads bits mask is.0 is.1 is.2
+command_reads (Inventory bits mask) is = inventory_reads bits mask is
+command_reads (Slots bits mask) is = slots_reads bits mask is
+command_reads NextSlot is = refl
 command_reads (Quiet id) is =
     ap (λ t. read_addressed quiet_code t) (sym (append-nil (low_first id))) ∙ addressed_reads quiet_code id [] is
 command_reads (Read id block) is = headed_reads id read_code (block ∷ []) is

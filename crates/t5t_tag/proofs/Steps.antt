@@ -11,10 +11,12 @@ use Rattle.nfc_base.specs.Blocks.{with_block, block_of}
 use Rattle.t5t_tag.specs.declared.command.T5Command.TheVariants.{Read, Write, ReadMany, ReadWide, WriteWide}
 use Rattle.t5t_tag.specs.declared.answer.T5Answer.{T5Answer}
 use Rattle.t5t_tag.specs.declared.answer.T5Answer.TheVariants.{Present, Content, Error}
+use Rattle.t5t_tag.specs.declared.round.Round.{Round}
 use Rattle.t5t_tag.specs.Store.{T5State, IsT5Shape, IsT5State, id_size, block_count}
 use Rattle.t5t_tag.specs.Mask.{low_first}
+use Rattle.t5t_tag.specs.Slots.{is_own}
 use Rattle.t5t_tag.specs.Spelling.{quiet_code, read_code, write_code, read_many_code, read_wide_code, write_wide_code, most_content, wide, head, command_frame, answer_frame, IsT5Answer, T5AnswerSpelling}
-use Rattle.t5t_tag.specs.Step.{T5Turn, silent, tells, refuses, not_supported, no_block, blocks_of, read_turn, read_many_turn, write_turn, wide_number, Writes, asked, asked_turn, obeyed, names, t5_turn, sent, t5_answer, t5_after}
+use Rattle.t5t_tag.specs.Step.{T5Turn, silent, tells, refuses, not_supported, no_block, blocks_of, read_turn, read_many_turn, write_turn, wide_number, Writes, asked, asked_turn, obeyed, names, addressed, out_of_round, own_answer, t5_turn, sent, t5_answer, t5_after}
 use Rattle.t5t_tag.proofs.Bytes.{equal_bytes, bytes_self}
 use Rattle.t5t_tag.proofs.Stores.{length_block, length_blocks, length_with_block, still_store, size_of_block}
 use Rattle.t5t_tag.proofs.Turns.{hushes, by_test, on_turn}
@@ -22,20 +24,28 @@ use Rattle.t5t_tag.proofs.Turns.{hushes, by_test, on_turn}
 -- A tag keeps its identifier, and its store is still one that a tag may have.
 pub stays_shape : (t : T5State) → IsT5Shape t → (f : Signal) → IsT5Shape (t5_after t f)
 stays_shape t is = on_turn t (λ r. IsT5Shape r.after) (record {
-  commands = record {
-    error = λ code. is;
-    read = λ block within. is;
-    many = λ first more within few. is;
-    written = λ block content within long. record {
-      id = is.id;
-      bytes = is.bytes;
-      store = still_store t.size t.store (with_block t.size t.store block content) (length_with_block t.size t.store block content within long) is.store;
+  flagged = record {
+    commands = record {
+      error = λ code. same;
+      read = λ block within. same;
+      many = λ first more within few. same;
+      written = λ block content within long. record {
+        id = is.id;
+        bytes = is.bytes;
+        store = still_store t.size t.store (with_block t.size t.store block content) (length_with_block t.size t.store block content within long) is.store;
+      };
     };
+    none = same;
+    hushed = same;
+    present = same;
+    begins = λ r. same;
   };
-  none = is;
-  hushed = record { id = is.id; bytes = is.bytes; store = is.store };
-  present = is;
+  unheard = is;
+  moves = λ r. same;
 })
+  where
+    same : {quiet : Bool} {round : Option Round} → IsT5Shape (record t { quiet = quiet; round = round })
+    same = record { id = is.id; bytes = is.bytes; store = is.store }
 
 -- what no frame changes of a tag
 pub record IsSameTag (t u : T5State) : Type 0 where
@@ -44,20 +54,25 @@ pub record IsSameTag (t u : T5State) : Type 0 where
   pub locked : u.locked ≡ t.locked
   pub length : length u.store ≡ length t.store
 
-itself : (t : T5State) → IsSameTag t t
+itself : {quiet : Bool} {round : Option Round} (t : T5State) → IsSameTag t (record t { quiet = quiet; round = round })
 itself t = record { id = refl; size = refl; locked = refl; length = refl }
 
 pub same_tag : (t : T5State) (f : Signal) → IsSameTag t (t5_after t f)
 same_tag t = on_turn t (λ r. IsSameTag t r.after) (record {
-  commands = record {
-    error = λ code. itself t;
-    read = λ block within. itself t;
-    many = λ first more within few. itself t;
-    written = λ block content within long. record { id = refl; size = refl; locked = refl; length = length_with_block t.size t.store block content within long };
+  flagged = record {
+    commands = record {
+      error = λ code. itself t;
+      read = λ block within. itself t;
+      many = λ first more within few. itself t;
+      written = λ block content within long. record { id = refl; size = refl; locked = refl; length = length_with_block t.size t.store block content within long };
+    };
+    none = itself t;
+    hushed = itself t;
+    present = itself t;
+    begins = λ r. itself t;
   };
-  none = itself t;
-  hushed = record { id = refl; size = refl; locked = refl; length = refl };
-  present = itself t;
+  unheard = itself t;
+  moves = λ r. itself t;
 })
 
 -- So a tag stays one that can be.
@@ -75,24 +90,37 @@ IsTold (Some a) = IsT5Answer a
 
 pub told_in_range : (t : T5State) → IsT5Shape t → (f : Signal) → IsTold (t5_turn t f).answer
 told_in_range t is = on_turn t (λ r. IsTold r.answer) (record {
-  commands = record {
-    error = λ code. tt;
-    read = λ block within.
-        let long : length (block_of t.size t.store block) ≡ t.size = length_block t.size t.store block within in
-        let sized : (t.size ≤ 32) × (t.size % 4 ≡ 0) × (4 ≤ t.size) = size_of_block t.size is.store.sized in
-        (omega (arith, long, sized.0), ap (λ n. n % 4) long ∙ sized.1);
-    many = λ first more within few.
-        let long : length (blocks_of t.size t.store first (more + 1)) ≡ t.size * (more + 1) = length_blocks t.size t.store first (more + 1) (omega (arith, within)) in
-        let sized : (t.size ≤ 32) × (t.size % 4 ≡ 0) × (4 ≤ t.size) = size_of_block t.size is.store.sized in
-        (omega (arith, long, few), ap (λ n. n % 4) long ∙ fours t.size (more + 1) sized.1);
-    written = λ block content within long. (omega arith, refl);
+  flagged = record {
+    commands = record {
+      error = λ code. tt;
+      read = λ block within.
+          let long : length (block_of t.size t.store block) ≡ t.size = length_block t.size t.store block within in
+          let sized : (t.size ≤ 32) × (t.size % 4 ≡ 0) × (4 ≤ t.size) = size_of_block t.size is.store.sized in
+          (omega (arith, long, sized.0), ap (λ n. n % 4) long ∙ sized.1);
+      many = λ first more within few.
+          let long : length (blocks_of t.size t.store first (more + 1)) ≡ t.size * (more + 1) = length_blocks t.size t.store first (more + 1) (omega (arith, within)) in
+          let sized : (t.size ≤ 32) × (t.size % 4 ≡ 0) × (4 ≤ t.size) = size_of_block t.size is.store.sized in
+          (omega (arith, long, few), ap (λ n. n % 4) long ∙ fours t.size (more + 1) sized.1);
+      written = λ block content within long. (omega arith, refl);
+    };
+    none = tt;
+    hushed = tt;
+    present = is.id;
+    begins = λ r. own_in_range (Some r);
   };
-  none = tt;
-  hushed = tt;
-  present = is.id;
+  unheard = tt;
+  moves = own_in_range;
 })
+  where
+    told_if : (v : Bool) → IsTold (if v then Some (Present t.id) else None)
+    told_if true = is.id
+    told_if false = tt
 
--- What a frame leaves that writes nothing and quiets nobody.
+    own_in_range : (round : Option Round) → IsTold (own_answer t round)
+    own_in_range None = tt
+    own_in_range (Some r) = told_if (is_own r)
+
+-- What a frame leaves that writes nothing and quiets nobody. It may end a round.
 pub record IsUntouched (t u : T5State) : Type 0 where
   pub id : u.id ≡ t.id
   pub size : u.size ≡ t.size
@@ -100,21 +128,26 @@ pub record IsUntouched (t u : T5State) : Type 0 where
   pub locked : u.locked ≡ t.locked
   pub quiet : u.quiet ≡ t.quiet
 
-untouched : (t : T5State) → IsUntouched t t
+untouched : {round : Option Round} (t : T5State) → IsUntouched t (record t { round = round })
 untouched t = record { id = refl; size = refl; store = refl; locked = refl; quiet = refl }
 
 -- a refusal leaves that
 pub refusal_keeps : (t : T5State) (f : Signal) (code : ℕ) → (t5_turn t f).answer ≡ Some (Error code) → IsUntouched t (t5_after t f)
 refusal_keeps t f code = on_turn t (λ r. r.answer ≡ Some (Error code) → IsUntouched t r.after) (record {
-  commands = record {
-    error = λ c e. untouched t;
-    read = λ block within e. untouched t;
-    many = λ first more within few e. untouched t;
-    written = λ block content within long e. absurd cc;
+  flagged = record {
+    commands = record {
+      error = λ c e. untouched t;
+      read = λ block within e. untouched t;
+      many = λ first more within few e. untouched t;
+      written = λ block content within long e. absurd cc;
+    };
+    none = λ e. untouched t;
+    hushed = λ e. absurd cc;
+    present = λ e. untouched t;
+    begins = λ r e. untouched t;
   };
-  none = λ e. untouched t;
-  hushed = λ e. absurd cc;
-  present = λ e. untouched t;
+  unheard = λ e. untouched t;
+  moves = λ r e. untouched t;
 }) f
 
 spelled_of : (o : Option T5Answer) (g : Signal) → IsTold o → sent o ≡ Some g → (a : T5Answer) × ((o ≡ Some a) × T5AnswerSpelling a g)
@@ -145,10 +178,10 @@ none_behind : (k : ℕ) → (8 + k == 8) ≡ (k == 0)
 none_behind k = grind arith
 
 -- a tag hears what is addressed to it, quiet or not
-pub addressed_turn : (t : T5State) → IsT5Shape t → (code : ℕ) (rest : List ℕ) → t5_turn t (whole_v (head (Some t.id) code ++ rest)) ≡ (if (code == quiet_code) && (length rest == 0) then hushes t else obeyed t code rest)
-addressed_turn t is code rest =
+own_turn : (t : T5State) → length t.id ≡ id_size → (code : ℕ) (rest : List ℕ) → addressed t (code ∷ (low_first t.id ++ rest)) ≡ (if (code == quiet_code) && (length rest == 0) then hushes t else obeyed t code rest)
+own_turn t eight code rest =
     let low : List ℕ = low_first t.id in
-    let long : length low ≡ id_size = length-reverse t.id ∙ is.id in
+    let long : length low ≡ id_size = length-reverse t.id ∙ eight in
     let named : names t (low ++ rest) ≡ true = ap (λ x. pointwise nat_eq x low) (front_of low rest long) ∙ bytes_self low in
     let sum : length (low ++ rest) ≡ 8 + length rest = length-append low rest ∙ ap (λ n. n + length rest) long in
     let ended : (length (low ++ rest) == id_size) ≡ (length rest == 0) = ap (λ n. n == 8) sum ∙ none_behind (length rest) in
@@ -156,29 +189,34 @@ addressed_turn t is code rest =
     ∙ ap (λ v. if (code == quiet_code) && v then hushes t else obeyed t code (drop id_size (low ++ rest))) ended
     ∙ ap (λ x. if (code == quiet_code) && (length rest == 0) then hushes t else obeyed t code x) (behind_of low rest long)
 
+-- and ends its round at it
+pub addressed_turn : (t : T5State) → IsT5Shape t → (code : ℕ) (rest : List ℕ)
+    → t5_turn t (whole_v (head (Some t.id) code ++ rest)) ≡ (if (code == quiet_code) && (length rest == 0) then hushes (out_of_round t) else obeyed (out_of_round t) code rest)
+addressed_turn t is code rest = own_turn (out_of_round t) is.id code rest
+
 -- READ SINGLE BLOCK and WRITE SINGLE BLOCK that are addressed to the tag
-pub read_turns : (t : T5State) → IsT5Shape t → (block : ℕ) → t5_turn t (command_frame (Read (Some t.id) block)) ≡ read_turn t block
+pub read_turns : (t : T5State) → IsT5Shape t → (block : ℕ) → t5_turn t (command_frame (Read (Some t.id) block)) ≡ read_turn (out_of_round t) block
 read_turns t is block = addressed_turn t is read_code (block ∷ [])
 
 asked_write : (block : ℕ) (content : List ℕ) → asked write_code (block ∷ content) ≡ Writes block content
 asked_write block [] = refl
 asked_write block (byte ∷ content) = refl
 
-pub write_turns : (t : T5State) → IsT5Shape t → (block : ℕ) (content : List ℕ) → t5_turn t (command_frame (Write (Some t.id) block (record { items = content }))) ≡ write_turn t block content
-write_turns t is block content = addressed_turn t is write_code (block ∷ content) ∙ ap (asked_turn t) (asked_write block content)
+pub write_turns : (t : T5State) → IsT5Shape t → (block : ℕ) (content : List ℕ) → t5_turn t (command_frame (Write (Some t.id) block (record { items = content }))) ≡ write_turn (out_of_round t) block content
+write_turns t is block content = addressed_turn t is write_code (block ∷ content) ∙ ap (asked_turn (out_of_round t)) (asked_write block content)
 
 -- READ MULTIPLE BLOCKS, and both with a block number of two bytes
-pub read_many_turns : (t : T5State) → IsT5Shape t → (first more : ℕ) → t5_turn t (command_frame (ReadMany (Some t.id) first more)) ≡ read_many_turn t first more
+pub read_many_turns : (t : T5State) → IsT5Shape t → (first more : ℕ) → t5_turn t (command_frame (ReadMany (Some t.id) first more)) ≡ read_many_turn (out_of_round t) first more
 read_many_turns t is first more = addressed_turn t is read_many_code (first ∷ more ∷ [])
 
 number_of_wide : (block : ℕ) → wide_number (block % 256) (block / 256) ≡ block
 number_of_wide block = omega arith
 
-pub read_wide_turns : (t : T5State) → IsT5Shape t → (block : ℕ) → t5_turn t (command_frame (ReadWide (Some t.id) block)) ≡ read_turn t block
-read_wide_turns t is block = addressed_turn t is read_wide_code (wide block) ∙ ap (λ n. read_turn t n) (number_of_wide block)
+pub read_wide_turns : (t : T5State) → IsT5Shape t → (block : ℕ) → t5_turn t (command_frame (ReadWide (Some t.id) block)) ≡ read_turn (out_of_round t) block
+read_wide_turns t is block = addressed_turn t is read_wide_code (wide block) ∙ ap (λ n. read_turn (out_of_round t) n) (number_of_wide block)
 
-pub write_wide_turns : (t : T5State) → IsT5Shape t → (block : ℕ) (content : List ℕ) → t5_turn t (command_frame (WriteWide (Some t.id) block (record { items = content }))) ≡ write_turn t block content
-write_wide_turns t is block content = addressed_turn t is write_wide_code (wide block ++ content) ∙ ap (λ n. write_turn t n content) (number_of_wide block)
+pub write_wide_turns : (t : T5State) → IsT5Shape t → (block : ℕ) (content : List ℕ) → t5_turn t (command_frame (WriteWide (Some t.id) block (record { items = content }))) ≡ write_turn (out_of_round t) block content
+write_wide_turns t is block content = addressed_turn t is write_wide_code (wide block ++ content) ∙ ap (λ n. write_turn (out_of_round t) n content) (number_of_wide block)
 
 is_less : (m n : ℕ) → n < m → nat_le m n ≡ false
 is_less m n h = grind arith
@@ -188,7 +226,7 @@ pub read_gives : (t : T5State) → IsT5Shape t → (block : ℕ) → block < blo
     → t5_answer t (command_frame (Read (Some t.id) block)) ≡ Some (answer_frame (Content (record { items = block_of t.size t.store block })))
 read_gives t is block within =
     ap (λ (r : T5Turn). sent r.answer) (read_turns t is block)
-    ∙ ap (λ v. sent (if v then refuses t no_block else tells t (Content (record { items = block_of t.size t.store block }))).answer) (is_less (block_count t) block within)
+    ∙ ap (λ v. sent (if v then refuses (out_of_round t) no_block else tells (out_of_round t) (Content (record { items = block_of t.size t.store block }))).answer) (is_less (block_count t) block within)
 
 -- a read leaves the tag untouched
 pub read_leaves : (t : T5State) (block : ℕ) → IsUntouched t (read_turn t block).after
@@ -206,11 +244,18 @@ read_many_leaves t first more =
     (λ h. by_test (λ r. IsUntouched t r.after) large (refuses t not_supported) told (λ k. untouched t) (λ k. untouched t))
 
 pub read_keeps : (t : T5State) → IsT5Shape t → (block : ℕ) → IsUntouched t (t5_after t (command_frame (Read (Some t.id) block)))
-read_keeps t is block = subst (λ r. IsUntouched t r.after) (sym (read_turns t is block)) (read_leaves t block)
+read_keeps t is block =
+    let leaves : IsUntouched (out_of_round t) (read_turn (out_of_round t) block).after = read_leaves (out_of_round t) block in
+    subst (λ r. IsUntouched t r.after) (sym (read_turns t is block)) (record {
+      id = leaves.id;
+      size = leaves.size;
+      store = leaves.store;
+      locked = leaves.locked;
+      quiet = leaves.quiet;
+    })
 
--- A frame for another identifier is silent and changes nothing.
-pub other_silent : (t : T5State) (id : List ℕ) → length id ≡ id_size → id ≢ t.id → (code : ℕ) (rest : List ℕ) → t5_turn t (whole_v (head (Some id) code ++ rest)) ≡ silent t
-other_silent t id size other code rest = by_names (names t (low_first id ++ rest)) refl
+unnamed : (t : T5State) (id : List ℕ) → length id ≡ id_size → id ≢ t.id → (code : ℕ) (rest : List ℕ) → addressed t (code ∷ (low_first id ++ rest)) ≡ silent t
+unnamed t id size other code rest = by_names (names t (low_first id ++ rest)) refl
   where
     same_id : names t (low_first id ++ rest) ≡ true → id ≡ t.id
     same_id h =
@@ -222,3 +267,7 @@ other_silent t id size other code rest = by_names (names t (low_first id ++ rest
         → (if not v then silent t else if (code == quiet_code) && (length (low_first id ++ rest) == id_size) then hushes t else obeyed t code (drop id_size (low_first id ++ rest))) ≡ silent t
     by_names false h = refl
     by_names true h = absurd (other (same_id h))
+
+-- To a frame for another identifier it is silent, and it keeps all but its round.
+pub other_silent : (t : T5State) (id : List ℕ) → length id ≡ id_size → id ≢ t.id → (code : ℕ) (rest : List ℕ) → t5_turn t (whole_v (head (Some id) code ++ rest)) ≡ silent (out_of_round t)
+other_silent t id size other code rest = unnamed (out_of_round t) id size other code rest

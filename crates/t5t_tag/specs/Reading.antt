@@ -1,25 +1,31 @@
 -- What a frame is read as, as a function: the command or the answer that it spells, where it spells one.
-use Rattle.std.specs.Prelude.{ℕ, ◌-◌, ◌%◌, List, [], ◌∷◌, ◌++◌, length, take, drop, replicate, ◌==◌, ◌&&◌, nat_eq, nat_le, if◌then◌else◌, Option, Some, None}
+use Rattle.std.specs.Prelude.{ℕ, ◌+◌, ◌-◌, ◌*◌, ◌%◌, List, [], ◌∷◌, ◌++◌, length, take, drop, replicate, Bool, ◌==◌, ◌&&◌, nat_eq, nat_le, if◌then◌else◌, Option, Some, None}
 use Rattle.std.specs.Cmp.Lexicographic.{pointwise}
 use Rattle.nfc_base.specs.Signal.{Signal}
 use Rattle.t5t_tag.specs.declared.command.T5Command.{T5Command}
-use Rattle.t5t_tag.specs.declared.command.T5Command.TheVariants.{Inventory, Quiet, Read, Write, ReadMany, ReadWide, WriteWide}
+use Rattle.t5t_tag.specs.declared.command.T5Command.TheVariants.{Inventory, Slots, NextSlot, Quiet, Read, Write, ReadMany, ReadWide, WriteWide}
 use Rattle.t5t_tag.specs.declared.answer.T5Answer.{T5Answer}
 use Rattle.t5t_tag.specs.declared.answer.T5Answer.TheVariants.{Present, Content, Error}
 use Rattle.t5t_tag.specs.Store.{id_size}
 use Rattle.t5t_tag.specs.Mask.{low_first, most_bits, mask_size, kept}
-use Rattle.t5t_tag.specs.Spelling.{addressed_flags, plain_flags, inventory_flags, inventory_code, quiet_code, read_code, write_code, read_many_code, read_wide_code, write_wide_code, most_written, most_content, no_error, no_dsfid, error}
+use Rattle.t5t_tag.specs.Slots.{most_slot_bits}
+use Rattle.t5t_tag.specs.Spelling.{addressed_flags, plain_flags, inventory_flags, slots_flags, inventory_code, quiet_code, read_code, write_code, read_many_code, read_wide_code, write_wide_code, most_written, most_content, no_error, no_dsfid, error}
 use Rattle.t5t_tag.specs.Step.{is_nfc_v, wide_number}
 
 -- a mask as it is sent, filled up with 0 to eight bytes
 abbrev pub filled : List ℕ → List ℕ
 filled mask = mask ++ replicate (id_size - length mask) 0
 
--- the inventory with a mask of so many bits, whose bytes are as many as these bits need and whose unused bits are 0
+-- a mask of so many bits, and at most of so many: as many bytes as these bits need, and the unused bits 0
+abbrev pub is_mask : ℕ → ℕ → List ℕ → Bool
+is_mask most bits mask = nat_le bits most && (length mask == mask_size bits) && pointwise nat_eq (kept bits mask) mask
+
+-- the inventory of one slot with a mask of so many bits, and that of sixteen
 abbrev pub read_inventory : ℕ → List ℕ → Option T5Command
-read_inventory bits mask =
-    if nat_le bits most_bits && (length mask == mask_size bits) && pointwise nat_eq (kept bits mask) mask then Some (Inventory bits (filled mask))
-    else None
+read_inventory bits mask = if is_mask most_bits bits mask then Some (Inventory bits (filled mask)) else None
+
+abbrev pub read_slots : ℕ → List ℕ → Option T5Command
+read_slots bits mask = if is_mask most_slot_bits bits mask then Some (Slots bits (filled mask)) else None
 
 -- STAY QUIET, which is addressed
 abbrev pub read_quiet : Option (List ℕ) → Option T5Command
@@ -56,18 +62,20 @@ abbrev pub read_addressed : ℕ → List ℕ → Option T5Command
 read_addressed code rest =
     if nat_le id_size (length rest) then read_command (Some (low_first (take id_size rest))) code (drop id_size rest) else None
 
-abbrev pub read_bits : List ℕ → Option T5Command
-read_bits [] = None
-read_bits (bits ∷ mask) = read_inventory bits mask
+-- behind the code of an inventory: how many bits the mask has, and the mask
+abbrev pub read_bits : (ℕ → List ℕ → Option T5Command) → List ℕ → Option T5Command
+read_bits reads [] = None
+read_bits reads (bits ∷ mask) = reads bits mask
 
 -- the command of the bytes of a whole NFC-V frame
 abbrev pub command_of : List ℕ → Option T5Command
-command_of [] = None
+command_of [] = Some NextSlot
 command_of (flags ∷ []) = None
 command_of (flags ∷ code ∷ rest) =
     if flags == addressed_flags then read_addressed code rest
     else if flags == plain_flags then read_command None code rest
-    else if (flags == inventory_flags) && (code == inventory_code) then read_bits rest
+    else if (flags == inventory_flags) && (code == inventory_code) then read_bits read_inventory rest
+    else if (flags == slots_flags) && (code == inventory_code) then read_bits read_slots rest
     else None
 
 abbrev pub spelled_command : Signal → Option T5Command

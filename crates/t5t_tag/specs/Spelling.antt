@@ -2,14 +2,15 @@
 use Rattle.std.specs.Prelude.{◌≡◌, ◌≤◌, ℕ, ◌/◌, ◌%◌, List, [], ◌∷◌, ◌++◌, length, take, Option, Some, None}
 use Rattle.nfc_base.specs.Signal.{Signal, whole_v}
 use Rattle.t5t_tag.specs.declared.command.T5Command.{T5Command}
-use Rattle.t5t_tag.specs.declared.command.T5Command.TheVariants.{Inventory, Quiet, Read, Write, ReadMany, ReadWide, WriteWide}
+use Rattle.t5t_tag.specs.declared.command.T5Command.TheVariants.{Inventory, Slots, NextSlot, Quiet, Read, Write, ReadMany, ReadWide, WriteWide}
 use Rattle.t5t_tag.specs.declared.answer.T5Answer.{T5Answer}
 use Rattle.t5t_tag.specs.declared.answer.T5Answer.TheVariants.{Present, Content, Error}
 use Rattle.t5t_tag.specs.Store.{id_size}
 use Rattle.t5t_tag.specs.Mask.{low_first, most_bits, mask_size, kept}
+use Rattle.t5t_tag.specs.Slots.{most_slot_bits}
 
 -- The flags: of a command to one tag by its identifier, of a command to every tag that isn't quiet, and of an inventory
--- of one slot.
+-- of one slot or of sixteen.
 abbrev pub addressed_flags : ℕ
 addressed_flags = 0x22
 
@@ -18,6 +19,9 @@ plain_flags = 0x02
 
 abbrev pub inventory_flags : ℕ
 inventory_flags = 0x26
+
+abbrev pub slots_flags : ℕ
+slots_flags = 0x06
 
 -- the codes of INVENTORY, STAY QUIET, READ SINGLE BLOCK, WRITE SINGLE BLOCK and READ MULTIPLE BLOCKS
 abbrev pub inventory_code : ℕ
@@ -58,9 +62,12 @@ abbrev pub head : Option (List ℕ) → ℕ → List ℕ
 head None code = plain_flags ∷ code ∷ []
 head (Some id) code = addressed_flags ∷ code ∷ low_first id
 
--- The mask of an inventory is sent in whole bytes.
+-- The mask of an inventory is sent in whole bytes. An empty frame moves a round to its next slot: it stands for a bare end of frame (this
+-- project's own).
 abbrev pub command_frame : T5Command → Signal
 command_frame (Inventory bits mask) = whole_v (inventory_flags ∷ inventory_code ∷ bits ∷ take (mask_size bits) mask)
+command_frame (Slots bits mask) = whole_v (slots_flags ∷ inventory_code ∷ bits ∷ take (mask_size bits) mask)
+command_frame NextSlot = whole_v []
 command_frame (Quiet id) = whole_v (head (Some id) quiet_code)
 command_frame (Read id block) = whole_v (head id read_code ++ block ∷ [])
 command_frame (Write id block content) = whole_v (head id write_code ++ block ∷ content.items)
@@ -73,9 +80,15 @@ abbrev pub IsAddress : Option (List ℕ) → Type 0
 IsAddress None = Unit {0}
 IsAddress (Some id) = length id ≡ id_size
 
--- Which commands are in range. A mask has at most 64 bits, and its unused bits are 0.
+-- a mask of at most so many bits: eight bytes, of which the unused bits are 0
+abbrev pub IsMask : ℕ → ℕ → List ℕ → Type 0
+IsMask most bits mask = (bits ≤ most) × (length mask ≡ id_size) × (kept bits mask ≡ mask)
+
+-- Which commands are in range. A mask has at most 64 bits, and at most 60 where there are slots.
 abbrev pub IsT5Command : T5Command → Type 0
-IsT5Command (Inventory bits mask) = (bits ≤ most_bits) × (length mask ≡ id_size) × (kept bits mask ≡ mask)
+IsT5Command (Inventory bits mask) = IsMask most_bits bits mask
+IsT5Command (Slots bits mask) = IsMask most_slot_bits bits mask
+IsT5Command NextSlot = Unit {0}
 IsT5Command (Quiet id) = length id ≡ id_size
 IsT5Command (Read id block) = IsAddress id
 IsT5Command (Write id block content) = IsAddress id × (length content.items ≤ most_written)

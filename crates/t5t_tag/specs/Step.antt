@@ -9,8 +9,10 @@ use Rattle.nfc_base.specs.Blocks.{with_block, block_of}
 use Rattle.t5t_tag.specs.declared.answer.T5Answer.{T5Answer}
 use Rattle.t5t_tag.specs.declared.answer.T5Answer.TheVariants.{Present, Content, Error}
 use Rattle.t5t_tag.specs.Store.{T5State, id_size, block_count, is_locked}
+use Rattle.t5t_tag.specs.declared.round.Round.{Round}
 use Rattle.t5t_tag.specs.Mask.{low_first, asks_for}
-use Rattle.t5t_tag.specs.Spelling.{addressed_flags, plain_flags, inventory_flags, inventory_code, quiet_code, read_code, write_code, read_many_code, read_wide_code, write_wide_code, most_content, answer_frame}
+use Rattle.t5t_tag.specs.Slots.{slot_of, asks_in_slots, begun, moved_on, is_own}
+use Rattle.t5t_tag.specs.Spelling.{addressed_flags, plain_flags, inventory_flags, slots_flags, inventory_code, quiet_code, read_code, write_code, read_many_code, read_wide_code, write_wide_code, most_content, answer_frame}
 
 -- the error codes: a command that isn't supported or has another length, a block that isn't there, a locked block
 abbrev pub not_supported : ℕ
@@ -133,14 +135,43 @@ inventory t (code ∷ []) = silent t
 inventory t (code ∷ bits ∷ mask) =
     if (code == inventory_code) && not t.quiet && asks_for t.id bits mask then tells t (Present t.id) else silent t
 
--- the bytes of a whole NFC-V frame
-abbrev pub bytes_turn : T5State → List ℕ → T5Turn
-bytes_turn t [] = silent t
-bytes_turn t (flags ∷ rest) =
+-- the tag in no round
+abbrev pub out_of_round : T5State → T5State
+out_of_round t = record t { round = None }
+
+-- the tag in a round, or in none any more: it answers in its own slot
+abbrev pub own_answer : T5State → Option Round → Option T5Answer
+own_answer t None = None
+own_answer t (Some r) = if is_own r then Some (Present t.id) else None
+
+abbrev pub in_slot : T5State → Option Round → T5Turn
+in_slot t round = record { answer = own_answer t round; after = record t { round = round } }
+
+-- Behind the flags of an inventory of sixteen slots: a tag that the mask asks for begins a round in the first slot.
+abbrev pub slots : T5State → List ℕ → T5Turn
+slots t [] = silent t
+slots t (code ∷ []) = silent t
+slots t (code ∷ bits ∷ mask) =
+    if (code == inventory_code) && not t.quiet && asks_in_slots t.id bits mask then in_slot t (Some (begun (slot_of t.id bits))) else silent t
+
+-- the round behind an empty frame: one slot on, where the tag is in a round that has one more
+abbrev pub next_round : Option Round → Option Round
+next_round None = None
+next_round (Some r) = moved_on r
+
+-- the flags of a frame that isn't empty, and what follows, for a tag that is in no round any more
+abbrev pub flagged_turn : T5State → ℕ → List ℕ → T5Turn
+flagged_turn t flags rest =
     if flags == addressed_flags then addressed t rest
     else if flags == plain_flags then plain t rest
     else if flags == inventory_flags then inventory t rest
+    else if flags == slots_flags then slots t rest
     else silent t
+
+-- The bytes of a whole NFC-V frame. Each that isn't empty ends the tag's round, whomever it is for.
+abbrev pub bytes_turn : T5State → List ℕ → T5Turn
+bytes_turn t [] = in_slot t (next_round t.round)
+bytes_turn t (flags ∷ rest) = flagged_turn (out_of_round t) flags rest
 
 abbrev pub is_nfc_v : Tech → Bool
 is_nfc_v A = false

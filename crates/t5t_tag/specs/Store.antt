@@ -1,5 +1,6 @@
 -- What a Type 5 tag holds (NFC Forum Type 5 Tag; ISO/IEC 15693-3).
-use Rattle.std.specs.Prelude.{◌≡◌, ◌⊎◌, ℕ, ◌/◌, ◌%◌, ◌<◌, ◌≤◌, List, length, get_or, slice_index, set, replicate, Bool, true, false}
+use Rattle.std.specs.Prelude.{◌≡◌, ◌⊎◌, ℕ, ◌/◌, ◌%◌, ◌<◌, ◌≤◌, List, length, get_or, slice_index, set, replicate, Bool, true, false, Option, None}
+use Rattle.t5t_tag.specs.declared.round.Round.{Round}
 use Rattle.t5t_tag.specs.declared.tag.StoreFault.{StoreFault}
 use Rattle.t5t_tag.specs.declared.tag.StoreFault.TheVariants.{BadStore}
 
@@ -23,13 +24,14 @@ pub record IsT5Store (size : ℕ) (store : List ℕ) : Type 0 where
   pub most : length store ≤ most_stored
 
 -- A tag: its identifier, high byte first, the size of its blocks, its store, of each block number whether that block
--- is locked, and whether it was told to stay quiet.
+-- is locked, whether it was told to stay quiet, and the round of sixteen slots in which it is, if it is in one.
 pub record T5State : Type 0 where
   pub id : List ℕ
   pub size : ℕ
   pub store : List ℕ
   pub locked : List Bool
   pub quiet : Bool
+  pub round : Option Round
 
 -- how many block numbers a tag can have: those of a full store in blocks of four bytes
 abbrev pub lock_count : ℕ
@@ -61,13 +63,13 @@ is_locked t block = get_or t.locked block false
 abbrev pub locked_too : T5State → ℕ → T5State
 locked_too t block = record t { locked = set t.locked block true }
 
--- a tag that holds a store, has no locked block and isn't quiet
+-- a tag that holds a store, has no locked block, isn't quiet and is in no round
 abbrev pub fresh : List ℕ → ℕ → List ℕ → T5State
-fresh id size store = record { id = id; size = size; store = store; locked = replicate lock_count false; quiet = false }
+fresh id size store = record { id = id; size = size; store = store; locked = replicate lock_count false; quiet = false; round = None }
 
--- the tag behind the dark: it isn't quiet
+-- the tag behind the dark: it isn't quiet, and in no round
 abbrev pub darkened : T5State → T5State
-darkened t = record t { quiet = false }
+darkened t = record t { quiet = false; round = None }
 
 abbrev pub store_fault_number : StoreFault → ℕ
 store_fault_number BadStore = 1

@@ -1,22 +1,25 @@
 //! What a reader asks of a Type 5 tag.
 
-ghost use Rattle.std.specs.Prelude.{◌≡◌, ◌↔◌, ◌≤◌, ◌++◌, length, Some, IsNone};
+ghost use Rattle.std.specs.Prelude.{◌≡◌, ◌↔◌, ◌≤◌, ◌∷◌, ◌++◌, length, take, Some, IsNone};
 ghost use Rattle.nfc_base.specs.Signal.{whole_v};
-ghost use Rattle.t5t_tag.specs.Spelling.{head, command_frame, IsT5Command, T5Spelling};
-ghost use Rattle.t5t_tag.specs.Reading.{filled, read_inventory, read_write, read_write_wide, read_command, read_addressed, command_of, spelled_command};
+ghost use Rattle.t5t_tag.specs.Mask.{mask_size};
+ghost use Rattle.t5t_tag.specs.Spelling.{head, inventory_code, command_frame, IsT5Command, T5Spelling};
+ghost use Rattle.t5t_tag.specs.Reading.{filled, is_mask, read_inventory, read_slots, read_write, read_write_wide, read_command, read_addressed, command_of, spelled_command};
 ghost use Rattle.t5t_tag.specs.declared.command.T5Command.{T5Command};
 
-use crate::identifier::{MOST_BITS, kept, mask_size, turned};
+use crate::identifier::{MOST_BITS, MOST_SLOT_BITS, kept, mask_size, turned};
 use arrayvec::ArrayVec;
 use nfc_base::{Frame, Tech};
 
 /// The flags of a command to one tag by its identifier, of one to every tag that isn't quiet, and of an inventory of one
-/// slot.
+/// slot or of sixteen.
 pub(crate) const ADDRESSED: u8 = 0x22;
 
 pub(crate) const PLAIN: u8 = 0x02;
 
 pub(crate) const ONE_SLOT: u8 = 0x26;
+
+pub(crate) const SIXTEEN_SLOTS: u8 = 0x06;
 
 pub(crate) const INVENTORY: u8 = 0x01;
 
@@ -42,6 +45,14 @@ pub enum T5Command {
         mask_bits: u8,
         mask: [u8; 8],
     },
+    /// The same, and each tag answers in one of sixteen slots, by the next four bits of its identifier: in the first one
+    /// at once. A mask has at most 60 bits.
+    Slots {
+        mask_bits: u8,
+        mask: [u8; 8],
+    },
+    /// The next slot of such a round: an empty frame (this project's own; on the air it is a bare end of frame).
+    NextSlot,
     /// The tag answers only addressed commands from now on.
     Quiet {
         id: [u8; 8],
@@ -87,13 +98,20 @@ impl T5Command {
         read_bytes(frame.view())
     }
 
-    /// The frame that spells it, where a mask has at most 64 bits and its unused bits are 0. It takes no memory.
+    /// The frame that spells it, where a mask has at most 64 bits, or 60 of slots, and its unused bits are 0. It takes no
+    /// memory.
     pub fn to_frame(&self) -> Frame
         ensures frame { result ≡ command_frame self.now }
         ensures exact { IsT5Command self.now → T5Spelling self.now result }
     {
         match self {
-            T5Command::Inventory { mask_bits, mask } => inventory_frame(*mask_bits, *mask),
+            T5Command::Inventory { mask_bits, mask } => {
+                inventory_frame(ONE_SLOT, *mask_bits, *mask)
+            }
+            T5Command::Slots { mask_bits, mask } => {
+                inventory_frame(SIXTEEN_SLOTS, *mask_bits, *mask)
+            }
+            T5Command::NextSlot => Frame::whole(Tech::V, &[]).unwrap(),
             T5Command::Quiet { id } => frame_of(Some(*id), QUIET, &[]),
             T5Command::Read { id, block } => frame_of(*id, READ, &[*block]),
             T5Command::Write { id, block, content } => {
@@ -119,9 +137,11 @@ fn read_bytes(bytes: &[u8]) -> Option<T5Command>
     ensures { result ≡ command_of bytes.now }
 {
     match bytes {
+        [] => Some(T5Command::NextSlot),
         [ADDRESSED, code, rest @ ..] => read_addressed(*code, rest),
         [PLAIN, code, rest @ ..] => read_command(None, *code, rest),
         [ONE_SLOT, INVENTORY, bits, mask @ ..] => read_inventory(*bits, mask),
+        [SIXTEEN_SLOTS, INVENTORY, bits, mask @ ..] => read_slots(*bits, mask),
         _ => None,
     }
 }
@@ -178,16 +198,36 @@ fn read_write_wide(id: Option<[u8; 8]>, block: u16, rest: &[u8]) -> Option<T5Com
 fn read_inventory(bits: u8, mask: &[u8]) -> Option<T5Command>
     ensures { result ≡ read_inventory bits mask.now }
 {
-    if bits > MOST_BITS || mask.len() != mask_size(bits) {
-        return None;
-    }
-    if kept(bits, mask).as_slice() != mask {
+    if !is_mask(MOST_BITS, bits, mask) {
         return None;
     }
     Some(T5Command::Inventory {
         mask_bits: bits,
         mask: filled(mask),
     })
+}
+
+fn read_slots(bits: u8, mask: &[u8]) -> Option<T5Command>
+    ensures { result ≡ read_slots bits mask.now }
+{
+    if !is_mask(MOST_SLOT_BITS, bits, mask) {
+        return None;
+    }
+    Some(T5Command::Slots {
+        mask_bits: bits,
+        mask: filled(mask),
+    })
+}
+
+/// Whether these are the bytes of a mask of so many bits, and at most of so many.
+fn is_mask(most: u8, bits: u8, mask: &[u8]) -> bool
+    requires { most ≤ 64 }
+    ensures { result ≡ is_mask most bits mask.now }
+{
+    if bits > most || mask.len() != mask_size(bits) {
+        return false;
+    }
+    kept(bits, mask).as_slice() == mask
 }
 
 /// A mask filled up with 0 to eight bytes.
@@ -200,11 +240,11 @@ fn filled(mask: &[u8]) -> [u8; 8]
     bytes
 }
 
-fn inventory_frame(bits: u8, mask: [u8; 8]) -> Frame
-    ensures { result ≡ command_frame (T5Command.Inventory bits mask) }
+fn inventory_frame(flags: u8, bits: u8, mask: [u8; 8]) -> Frame
+    ensures { result ≡ whole_v (flags ∷ inventory_code ∷ bits ∷ take (mask_size bits) mask) }
 {
     let mut bytes: ArrayVec<u8, 11> = ArrayVec::new();
-    bytes.push(ONE_SLOT);
+    bytes.push(flags);
     bytes.push(INVENTORY);
     bytes.push(bits);
     let size = mask_size(bits).min(8);

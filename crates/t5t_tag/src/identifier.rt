@@ -8,6 +8,9 @@ use arrayvec::ArrayVec;
 /// How many bits an identifier has, and a mask at most.
 pub(crate) const MOST_BITS: u8 = 64;
 
+/// How many bits a mask of slots has at most: the next four are the slot.
+pub(crate) const MOST_SLOT_BITS: u8 = 60;
+
 /// An identifier low byte first, from one with its high byte first, or back.
 pub(crate) fn turned(id: [u8; 8]) -> [u8; 8]
     ensures { result ≡ low_first id }

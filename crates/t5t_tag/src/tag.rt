@@ -3,14 +3,16 @@
 ghost use Rattle.std.specs.Prelude.{◌≡◌, ◌<◌, ◌≤◌, ◌+◌, ◌*◌, ◌↔◌, ◌∷◌, length, not, nat_le, IfOk, IsOk, Some};
 ghost use Rattle.t5t_tag.specs.Spelling.{inventory_code};
 ghost use Rattle.t5t_tag.specs.Store.{IsT5Store, IsT5State, block_count, fresh, darkened, locked_too, store_fault_number};
-ghost use Rattle.t5t_tag.specs.Step.{blocks_of, read_turn, read_many_turn, write_turn, obeyed, addressed, plain, inventory, bytes_turn, t5_answer, t5_after};
+ghost use Rattle.t5t_tag.specs.Step.{blocks_of, read_turn, read_many_turn, write_turn, obeyed, addressed, plain, inventory, in_slot, slots, bytes_turn, t5_answer, t5_after};
 ghost use Rattle.t5t_tag.specs.declared.answer.T5Answer.TheVariants.{Content};
 
 use crate::answer::T5Answer;
 use crate::command::{
-    ADDRESSED, INVENTORY, ONE_SLOT, PLAIN, QUIET, READ, READ_MANY, READ_WIDE, WRITE, WRITE_WIDE,
+    ADDRESSED, INVENTORY, ONE_SLOT, PLAIN, QUIET, READ, READ_MANY, READ_WIDE, SIXTEEN_SLOTS, WRITE,
+    WRITE_WIDE,
 };
-use crate::identifier::{asks_for, turned};
+use crate::identifier::{MOST_SLOT_BITS, asks_for, turned};
+use crate::round::{Round, slot_of};
 use arrayvec::ArrayVec;
 use nfc_base::{Frame, Locks, Tech};
 use std::marker::Model;
@@ -59,6 +61,7 @@ pub struct T5Tag {
     store: Vec<u8>,
     locks: Locks<LOCK_BYTES>,
     quiet: bool,
+    round: Option<Round>,
 }
 
 impl Model for T5Tag {
@@ -72,10 +75,11 @@ impl Model for T5Tag {
       store = t.store.items;
       locked = t.locks;
       quiet = t.quiet;
+      round = t.round;
     } };
 
     ghost invariant = { λ t. IsT5State
-        (record { id = t.id; size = t.block; store = t.store.items; locked = t.locks; quiet = t.quiet }) };
+        (record { id = t.id; size = t.block; store = t.store.items; locked = t.locks; quiet = t.quiet; round = t.round }) };
 }
 
 impl T5Tag {
@@ -96,6 +100,7 @@ impl T5Tag {
             store,
             locks: Locks::none(),
             quiet: false,
+            round: None,
         })
     }
 
@@ -129,11 +134,12 @@ impl T5Tag {
         self.locks.add(block);
     }
 
-    /// The field is gone, and with it the quiet state.
+    /// The field is gone, and with it the quiet state and the round.
     pub fn dark(&mut self)
         ensures { self.new ≡ darkened self.old }
     {
         self.quiet = false;
+        self.round = None;
     }
 
     /// One step: it obeys what is said to it, and is silent to every other frame. It takes no memory.
@@ -153,12 +159,38 @@ impl T5Tag {
         ensures answer { result ≡ (bytes_turn self.old bytes.now).answer }
         ensures step { self.new ≡ (bytes_turn self.old bytes.now).after }
     {
+        let round = self.round;
+        self.round = None;
         match bytes {
+            [] => self.enter(round?.next()),
             [ADDRESSED, code, rest @ ..] => self.hear_addressed(*code, rest),
             [PLAIN, rest @ ..] => self.hear_plain(rest),
             [ONE_SLOT, INVENTORY, bits, mask @ ..] => self.hear_inventory(*bits, mask),
+            [SIXTEEN_SLOTS, INVENTORY, bits, mask @ ..] => self.hear_slots(*bits, mask),
             _ => None,
         }
+    }
+
+    /// The tag is in this round now, or in none, and answers in its own slot.
+    fn enter(&mut self, round: Option<Round>) -> Option<T5Answer>
+        ensures answer { result ≡ (in_slot self.old round).answer }
+        ensures step { self.new ≡ (in_slot self.old round).after }
+    {
+        self.round = round;
+        if !round?.is_own() {
+            return None;
+        }
+        Some(T5Answer::Present { id: self.id })
+    }
+
+    fn hear_slots(&mut self, bits: u8, mask: &[u8]) -> Option<T5Answer>
+        ensures answer { result ≡ (slots self.old (inventory_code ∷ bits ∷ mask.now)).answer }
+        ensures step { self.new ≡ (slots self.old (inventory_code ∷ bits ∷ mask.now)).after }
+    {
+        if self.quiet || bits > MOST_SLOT_BITS || !asks_for(self.id, bits, mask) {
+            return None;
+        }
+        self.enter(Some(Round::begin(slot_of(self.id, bits))))
     }
 
     fn hear_inventory(&self, bits: u8, mask: &[u8]) -> Option<T5Answer>

@@ -9,7 +9,7 @@ use Rattle.nfc_base.specs.Signal.{Signal}
 use Rattle.nfc_base.specs.Blocks.{block_of}
 use Rattle.nfc_base.specs.TagLinks.{TagState, TagStep, LinkView, MayAsk, Type5}
 use Rattle.t5t_tag.specs.Store.{T5State, IsT5Shape, IsT5Store, block_count, blocks_in}
-use Rattle.t5t_tag.specs.Step.{refuses, tells, not_supported, no_block, blocks_of, read_turn, read_many_turn, sent, t5_answer, t5_after}
+use Rattle.t5t_tag.specs.Step.{refuses, tells, not_supported, no_block, blocks_of, read_turn, read_many_turn, out_of_round, sent, t5_answer, t5_after}
 use Rattle.t5t_tag.specs.Spelling as t5
 use Rattle.t5t_tag.specs.declared.answer.T5Answer.{T5Answer}
 use Rattle.t5t_tag.specs.declared.answer.T5Answer.TheVariants as t5_says
@@ -63,12 +63,12 @@ record Turns (t : T5State) (a : Ask) (f : Signal) : Type 0 where
 
 turns : (t : T5State) (a : Ask) → IsT5Shape t → IsSmall t.size a → Turns t a (ask_frame t.id a)
 turns t (One block) is small = elim (cases_Bool (nat_lt block 256)) [
-  | inl short ↦ rw short (record { answer = ap (λ r. sent r.answer) (read_turns t is block) ∙ one_told t block; store = ap (λ r. r.after.store) (read_turns t is block) ∙ (read_leaves t block).store })
-  | inr wide ↦ rw wide (record { answer = ap (λ r. sent r.answer) (read_wide_turns t is block) ∙ one_told t block; store = ap (λ r. r.after.store) (read_wide_turns t is block) ∙ (read_leaves t block).store })
+  | inl short ↦ rw short (record { answer = ap (λ r. sent r.answer) (read_turns t is block) ∙ one_told (out_of_round t) block; store = ap (λ r. r.after.store) (read_turns t is block) ∙ (read_leaves (out_of_round t) block).store })
+  | inr wide ↦ rw wide (record { answer = ap (λ r. sent r.answer) (read_wide_turns t is block) ∙ one_told (out_of_round t) block; store = ap (λ r. r.after.store) (read_wide_turns t is block) ∙ (read_leaves (out_of_round t) block).store })
 ]
 turns t (Many block more) is small = record {
-  answer = ap (λ r. sent r.answer) (read_many_turns t is block more) ∙ many_told t block more small;
-  store = ap (λ r. r.after.store) (read_many_turns t is block more) ∙ (read_many_leaves t block more).store;
+  answer = ap (λ r. sent r.answer) (read_many_turns t is block more) ∙ many_told (out_of_round t) block more small;
+  store = ap (λ r. r.after.store) (read_many_turns t is block more) ∙ (read_many_leaves (out_of_round t) block more).store;
 }
 
 may_code : (id : List ℕ) (a : Ask) → MayAsk Type5 id (ask_frame id a)

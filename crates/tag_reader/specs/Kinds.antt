@@ -1,7 +1,7 @@
 -- The kinds of tags that a reader knows (NFC Forum Type 2, Type 4 and Type 5 Tag): which stores they have, which area a store
 -- names and what it holds, and which commands ask for its bytes in their order. Files.antt says it of a Type 4 tag.
-use Rattle.std.specs.Prelude.{◌≡◌, ℕ, zero, suc, ◌*◌, List, [], ◌∷◌, ◌++◌, length, Bool, Result, Err, ◌<◌, ◌≤◌, slice_index}
-use Rattle.nfc_base.specs.Signal.{Signal}
+use Rattle.std.specs.Prelude.{◌≡◌, ℕ, zero, suc, ◌*◌, List, [], ◌∷◌, ◌++◌, length, Bool, None, Result, Err, ◌<◌, ◌≤◌, slice_index}
+use Rattle.nfc_base.specs.Signal.{Signal, whole_a}
 use Rattle.nfc_base.specs.TagLinks.{TagKind, Type2, Type4, Type5, TagState, TagStep, LinkView, MayAsk}
 use Rattle.t2t_tag.specs.Store.{IsT2Store, T2Memory}
 use Rattle.t2t_tag.specs.Step.{four_blocks, t2_answer, t2_after}
@@ -68,7 +68,7 @@ t2_step locked s c = record {
 }
 
 abbrev pub t5_memory : List ℕ → ℕ → List Bool → Bool → TagState → T5State
-t5_memory id size locked quiet s = record { id = id; size = size; store = s.store; locked = locked; quiet = quiet }
+t5_memory id size locked quiet s = record { id = id; size = size; store = s.store; locked = locked; quiet = quiet; round = None }
 
 abbrev pub t5_step : List ℕ → ℕ → List Bool → Bool → TagState → Signal → TagStep
 t5_step id size locked quiet s c = record {
@@ -77,7 +77,7 @@ t5_step id size locked quiet s c = record {
 }
 
 -- A tag's step on what it may be asked is the one of its kind. What a Type 5 tag answers to a command with its
--- identifier doesn't depend on whether it was told to stay quiet.
+-- identifier depends neither on whether it was told to stay quiet nor on a round of slots.
 abbrev pub Steps : How → ℕ → LinkView → Type 0
 Steps T2 size v = (locked : List Bool)
     × ((s : TagState) (c : Signal) → IsT2Store s.store → MayAsk Type2 v.identifier c → v.step s c ≡ t2_step locked s c)

@@ -1,4 +1,4 @@
-use Rattle.std.proofs.Common.{rules, ◌≡◌, ap, List, Bool, false, replicate}
+use Rattle.std.proofs.Common.{rules, ◌≡◌, ap, List, Bool, false, None, replicate}
 use Rattle.t5t_tag.specs.Store.{T5State, lock_count}
 use Rattle.t5t_tag.proofs.tag.T5Tag.new.Goals as goal
 
@@ -8,4 +8,4 @@ returns-clause-ok c =
     ap (λ (l : List Bool). the_tag l) none
   where
     the_tag : List Bool → T5State
-    the_tag l = record { id = c.args.id; size = c.args.block; store = c.args.store.items; locked = l; quiet = false }
+    the_tag l = record { id = c.args.id; size = c.args.block; store = c.args.store.items; locked = l; quiet = false; round = None }
