@@ -1,5 +1,5 @@
 -- What asking an activated Type 4 tag comes to, by what its link did.
-use Rattle.std.proofs.Common.{◌≡◌, inl, inr, ◌<◌, List, [], ◌++◌, length, drop, not, true, false, Some, None, refl, sym, ◌∙◌, ap, subst, arith, append-nil}
+use Rattle.std.proofs.Common.{◌≡◌, ◌⊎◌, inl, inr, ◌<◌, List, [], ◌++◌, length, drop, not, true, false, Some, None, refl, sym, ◌∙◌, ap, subst, arith, append-nil}
 use Rattle.std.proofs.lemmas.List.{map-append}
 use Rattle.std.proofs.lemmas.Bool.{cases_lt}
 use Rattle.nfc_base.specs.declared.tag_link.AskFault.{AskFault}
@@ -16,7 +16,7 @@ use Rattle.isodep_link.specs.IsoLinks.{IsoSeen, bytes_of, IsoStandsAt, iso_view,
 use Rattle.tag_reader.specs.Reading.{IsCalm}
 use Rattle.bench_devices.specs.declared.device.Device.{Device}
 use Rattle.bench_devices.specs.Device.{devices, device_card, device_tag}
-use Rattle.bench_devices.specs.Answering.{TellsExchange}
+use Rattle.bench_devices.specs.Answering.{TellsExchange, IsUnbrokenExchange}
 use Rattle.bench_devices.specs.Device.{air}
 use Rattle.bench_devices.proofs.SelectingAir.{events_are}
 use Rattle.bench_devices.specs.Linking.{IsNewLink, AsksOn, AsksSomeOn}
@@ -24,7 +24,7 @@ use Rattle.bench_devices.specs.Keeping.{ghosts, Changes, Leaves}
 use Rattle.bench_devices.proofs.LinkEnds.{LinkEnds}
 use Rattle.bench_devices.proofs.PlainEnds.{none_behind}
 use Rattle.air_core.proofs.BrokenWaits.{stays_lit}
-use Rattle.bench_devices.proofs.CardReadingNotes.{exchange_lost, broken_more, due_front}
+use Rattle.bench_devices.proofs.CardReadingNotes.{exchange_lost, broken_more, unbroken_more, due_front}
 
 -- A command asks all of such a list of a tag, this shows what it tells where all was answered, and this how it fails.
 module _ {X : Type 0} (what : Changes) (IsAll : List Signal → Type 0) (Shows : X → Type 0) (Fails : AskFault → X → Type 0) (p : IsoSeen Device) (is : IsNewLink p) (bright : p.air.lit ≡ true)
@@ -85,13 +85,29 @@ module _ {X : Type 0} (what : Changes) (IsAll : List Signal → Type 0) (Shows :
         known = m.asks.going.known;
       }
 
-  -- It was cut off.
-  cut_told : Kept → (rest : List Signal) → IsLeft rest → AsksSomeOn what IsAll p.reader (moment p.air) (moment q.air)
-  cut_told kept rest left = record {
-    commands = m.asks.asked ++ rest;
-    asks = left;
-    asked = record { notes = m.asks.notes; going = asked_front_of rest; same = kept };
-  }
+  -- It was cut off, with the link as it was, or by the link's own want of memory: no exchange has ended by a fault then.
+  still_waiting : (q.over ≡ None) ⊎ (q.over ≡ Some asking.Memory) → IsUnbrokenExchange end
+  still_waiting (inl open') =
+      let done : end ≡ Rests q.reader = subst (λ o. IsoStandsAt o q.air.lit q.reader end) open' ends_so in
+      subst IsUnbrokenExchange (sym done) tt
+  still_waiting (inr starved) =
+      let ends = subst (λ o. IsoStandsAt o q.air.lit q.reader end) starved ends_so in
+      subst IsUnbrokenExchange (sym ends.1) tt
+
+  cut_told : Kept → (rest : List Signal) → IsLeft rest → (q.over ≡ None) ⊎ (q.over ≡ Some asking.Memory) → AsksSomeOn what IsAll p.reader (moment p.air) (moment q.air)
+  cut_told kept rest left cause =
+      let more : IsUnbrokenExchange (stand (asks p.reader (bytes_of m.asks.asked ++ bytes_of rest)) m.asks.notes) =
+      unbroken_more p.reader (bytes_of m.asks.asked) (bytes_of rest) m.asks.notes (still_waiting cause) in
+      record {
+        commands = m.asks.asked ++ rest;
+        asks = left;
+        asked = record { notes = m.asks.notes; going = asked_front_of rest; same = kept };
+        unbroken = subst (λ cs. IsUnbrokenExchange (stand (asks p.reader cs) m.asks.notes)) (sym (in_blocks rest)) more;
+        unlost = elim (cases_lt 0 (breaks m.asks.going.events)) [
+          | inl some ↦ absurd (subst IsUnbrokenExchange (broken_by some) (still_waiting cause))
+          | inr none ↦ omega (arith, none)
+        ];
+      }
 
   -- What it did, where its exchanges stand so at the end.
   told_by : Kept → (x : X) (rest : List Signal) → IsLeft rest → (s : IsoStanding) → stand (asks p.reader (bytes_of m.asks.asked ++ bytes_of rest)) m.asks.notes ≡ s → due_at s ≡ Over
@@ -159,5 +175,5 @@ module _ {X : Type 0} (what : Changes) (IsAll : List Signal → Type 0) (Shows :
     lost = λ rest left over x fails no_six. lost_told kept rest left over x fails no_six;
     six = λ rest left over loud x fails no_loss. six_told kept rest left over loud x fails no_loss;
     odd = never_odd;
-    some = λ rest left. cut_told kept rest left;
+    some = λ rest left cause. cut_told kept rest left cause;
   }

@@ -26,7 +26,8 @@ use Rattle.tag_reader.specs.declared.how.How.TheVariants as hows
 use Rattle.bench_devices.specs.declared.device.Device.{Device}
 use Rattle.bench_devices.specs.declared.device.Device.TheVariants.{T2, T4, Peer, T5}
 use Rattle.bench_devices.specs.Device.{devices, device_id, device_card, device_tag, how_of, seen_of}
-use Rattle.bench_devices.specs.Answering.{TellsExchange, TellsCard, TellsBy}
+use Rattle.bench_devices.specs.Answering.{TellsExchange, TellsCard, TellsBy, IsUnbrokenCard, GoesOnBy}
+use Rattle.bench_devices.specs.CardAsking as standing
 use Rattle.bench_devices.specs.CardAsking.{Exchanges, card_due, card_stands, card_next, tag_next}
 use Rattle.bench_devices.specs.Device.{air}
 use Rattle.bench_devices.specs.Linking.{Linked, AsksOn, IsNewLink, AsksSomeOn}
@@ -35,7 +36,7 @@ use Rattle.bench_devices.proofs.EveryFrame.{IsSoundFor, leaves_more, leaves_then
 use Rattle.bench_devices.specs.Phases.{Stands, AsksTag, AsksSome}
 use Rattle.air_core.proofs.BrokenWaits.{stays_lit}
 use Rattle.bench_devices.proofs.CardKept.{rats_harmless}
-use Rattle.bench_devices.proofs.CardReadingNotes.{rats_due, rats_told, lost_wait, reading_lost, reading_six}
+use Rattle.bench_devices.proofs.CardReadingNotes.{rats_due, rats_told, rats_waits, lost_wait, reading_lost, reading_six}
 use Rattle.bench_devices.proofs.ReadingTags.{stands_alone, seen}
 use Rattle.bench_devices.proofs.SelectingAir.{events_are}
 use Rattle.bench_devices.proofs.QuietRats.{rats_noise}
@@ -100,7 +101,7 @@ module _ {X : Type 0} (what : Changes) (IsAll : List Signal → Type 0) (Shows :
   AsksCard old new x = AsksTag what IsAll card_next (λ cs ns. TellsCard Shows Fails (card_stands cs ns)) Fails old new x
 
   abbrev pub AsksCardSome : Moment (World Device) → Moment (World Device) → Type 0
-  AsksCardSome old new = AsksSome what IsAll card_next old new
+  AsksCardSome old new = AsksSome what IsAll card_next (λ cs ns. IsUnbrokenCard (card_stands cs ns)) old new
 
   -- so it asks the tag as it is seen
   pub as_told : (old new : Moment (World Device)) (d : Device) (x : X) → how_of d ≡ hows.T4 → AsksCard old new x → AsksTag what IsAll (tag_next (seen_of d)) (TellsBy (seen_of d) Shows Fails) Fails old new x
@@ -109,9 +110,9 @@ module _ {X : Type 0} (what : Changes) (IsAll : List Signal → Type 0) (Shows :
   as_told old new (Peer d) x four s = absurd cc
   as_told old new (T5 p) x four s = absurd cc
 
-  pub as_cut : (old new : Moment (World Device)) (d : Device) → how_of d ≡ hows.T4 → AsksCardSome old new → AsksSome what IsAll (tag_next (seen_of d)) old new
+  pub as_cut : (old new : Moment (World Device)) (d : Device) → how_of d ≡ hows.T4 → AsksCardSome old new → AsksSome what IsAll (tag_next (seen_of d)) (GoesOnBy (seen_of d)) old new
   as_cut old new (T2 d) four s = absurd cc
-  as_cut old new (T4 d) four s = record { commands = s.commands; asks = s.asks; asked = s.asked }
+  as_cut old new (T4 d) four s = record { commands = s.commands; asks = s.asks; asked = s.asked; unbroken = s.unbroken; unlost = s.unlost }
   as_cut old new (Peer d) four s = absurd cc
   as_cut old new (T5 p) four s = absurd cc
 
@@ -147,8 +148,23 @@ module _ {X : Type 0} (what : Changes) (IsAll : List Signal → Type 0) (Shows :
       }
 
       -- want of memory ended it while RATS was sent
-      pub rats_cut : AsksCardSome (moment old) (moment mid)
-      rats_cut = record { commands = some.0; asks = some.1; asked = record { notes = sent.notes; going = as_first some.0; same = first_leaves } }
+      pub rats_cut : (bad : ℕ) → st ≡ waits.Asking bad (rats ∷ []) → AsksCardSome (moment old) (moment mid)
+      rats_cut bad under_way =
+          let stands : card_stands some.0 sent.notes ≡ standing.Activates bad = rats_waits (bytes_of some.0) 0 sent.notes bad (sent.stands ∙ under_way) in
+          record {
+            commands = some.0;
+            asks = some.1;
+            asked = record { notes = sent.notes; going = as_first some.0; same = first_leaves };
+            unbroken = subst IsUnbrokenCard (sym stands) tt;
+            unlost = elim (cases_lt 0 (breaks sent.going.events)) [
+              | inl b ↦ absurd (
+                  let lost = reading_lost devices some.0 (moment old) (moment mid) sent.notes (as_first some.0)
+                  (going_lost devices (waits_next (rats ∷ [])) (moment old) (moment mid) sent.notes sent.going b) in
+                  let clash : standing.Activates bad ≡ Exchanges (exchange.Broken asking.FieldLost) = sym stands ∙ lost in
+                  cc)
+              | inr none ↦ omega (arith, none)
+            ];
+          }
 
     -- the field was lost while RATS was sent
     rats_lost : (left : List Signal) → RatsSent ghosts device_card device_tag old mid (waits.Broken asking.FieldLost left) → mid.lit ≡ false
@@ -210,15 +226,24 @@ module _ {X : Type 0} (what : Changes) (IsAll : List Signal → Type 0) (Shows :
           (leaves_then what (world old) (world mid) (world new) sent.going.events going.events sound (rats_keep old mid place d s four (waits.Asking 0 []) sent) left)
 
       pub linked_cut : AsksSomeOn what IsAll (waiting code) (moment mid) (moment new) → AsksCardSome (moment old) (moment new)
-      linked_cut o = record {
-        commands = o.commands;
-        asks = o.asks;
-        asked = record {
-          notes = sent.notes ++ o.asked.notes;
-          going = both_parts o.commands o.asked.notes o.asked.going;
-          same = both_leave o.commands o.asked.notes o.asked.going o.asked.same;
-        };
-      }
+      linked_cut o =
+          let ns : List Note = sent.notes ++ o.asked.notes in
+          let both : Going air (card_next o.commands) (moment old) (moment new) ns = both_parts o.commands o.asked.notes o.asked.going in
+          let stands : card_stands o.commands ns ≡ Exchanges (stand (asks (waiting code) (bytes_of o.commands)) o.asked.notes) =
+          rats_told (bytes_of o.commands) sent.notes o.asked.notes code sent.stands tells in
+          let goes_on : IsUnbrokenCard (card_stands o.commands ns) = subst IsUnbrokenCard (sym stands) o.unbroken in
+          record {
+            commands = o.commands;
+            asks = o.asks;
+            asked = record { notes = ns; going = both; same = both_leave o.commands o.asked.notes o.asked.going o.asked.same };
+            unbroken = goes_on;
+            unlost = elim (cases_lt 0 (breaks both.events)) [
+              | inl b ↦ absurd (
+                  let lost = reading_lost devices o.commands (moment old) (moment new) ns both (going_lost devices (card_next o.commands) (moment old) (moment new) ns both b) in
+                  subst IsUnbrokenCard lost goes_on)
+              | inr none ↦ omega (arith, none)
+            ];
+          }
 
       -- So was a whole one.
       module _ (x : X) (o : AsksOn what IsAll Shows Fails (waiting code) (moment mid) (moment new) x) where

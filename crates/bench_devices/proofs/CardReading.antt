@@ -97,4 +97,4 @@ module _ (old : Air Device) (place : ℕ) (one : (e : Device) × Stands (moment 
         let ends : RatsEnds ghosts device_card device_tag old new place (Err asking.Memory) =
         subst (λ f. RatsEnds ghosts device_card device_tag old new place (Err f)) want (refused old place one new given fault failed rests) in
         cut_any new (as_cut NoStore (AsksOf one.0) (ShowsOf one.0) FailsRead (moment old) (moment new) one.0 one.2
-        (rats_cut NoStore (AsksOf one.0) (ShowsOf one.0) FailsRead all_read old new place one.0 one.1 one.2 tt (waits.Asking ends.0 (rats ∷ [])) ends.1))
+        (rats_cut NoStore (AsksOf one.0) (ShowsOf one.0) FailsRead all_read old new place one.0 one.1 one.2 tt (waits.Asking ends.0 (rats ∷ [])) ends.1 ends.0 refl))

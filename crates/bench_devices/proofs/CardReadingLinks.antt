@@ -12,7 +12,6 @@ use Rattle.tag_reader.specs.declared.fault.ReadFault.TheVariants as faults
 use Rattle.tag_reader.specs.declared.found.Found.{Found}
 use Rattle.tag_reader.specs.declared.how.How.TheVariants as hows
 use Rattle.tag_reader.specs.Asked.{IsAsked}
-use Rattle.tag_reader.specs.Calls.{HasAsked}
 use Rattle.tag_reader.proofs.FileAsked.{file_asked}
 use Rattle.bench_devices.specs.declared.device.Device.{Device}
 use Rattle.bench_devices.specs.Device.{device_store, device_card, device_tag, size_of}
@@ -64,7 +63,7 @@ module _ (p : IsoSeen Device) (is : IsNewLink p) (d : Device) (l : Linked d p.ai
       (subst (λ h. IsRead h (size_of d) from to r) (sym l.card) t)
 
   -- Reading was cut off.
-  pub cut_read : to.state.store ≡ from.state.store → HasAsked hows.T4 (size_of d) from.state.store from to → ReadsSomeOn (moment p.air) (moment q.air) d p.reader
-  cut_read stays h =
-      read_does_some d some_read from to (store_here p is d l) m.asks.asked (none_before p is d l) is.over (asked_told p is d l q m) (ends stays)
-      (subst (λ g. HasAsked g (size_of d) from.state.store from to) (sym l.card) h)
+  pub cut_read : (r : Result Found ReadFault) → r ≡ Err faults.Memory → to.state.store ≡ from.state.store → IsRead hows.T4 (size_of d) from to r → ReadsSomeOn (moment p.air) (moment q.air) d p.reader
+  cut_read r starved stays t =
+      read_does_some d some_read from to (store_here p is d l) m.asks.asked (none_before p is d l) is.over (asked_told p is d l q m) (ends stays) r starved
+      (subst (λ h. IsRead h (size_of d) from to r) (sym l.card) t)

@@ -20,6 +20,7 @@ use Rattle.isodep_link.specs.IsoMoving.{more, asks_more, noted_more, astray_stay
 use Rattle.isodep_link.specs.IsoLinks.{bytes_of}
 use Rattle.isodep_link.specs.Reader.{ReaderState, waiting}
 use Rattle.isodep_link.specs.Activating.{rats, ats_code, TellsCode}
+use Rattle.bench_devices.specs.Answering.{IsUnbrokenExchange}
 use Rattle.bench_devices.specs.CardAsking.{CardStanding, Activates, Exchanges, told_code, card_noted, card_stand, card_due, card_stands, card_next}
 use Rattle.air_core.proofs.Following.{turn_known, trace_first, turn_split, turn_first}
 use Rattle.air_core.proofs.LostField.{HasLost, going_lost}
@@ -179,6 +180,27 @@ module _ (commands : List (List ℕ)) where
       ∙ ap (card_stand commands (Activates zero)) (append_assoc before (Got (Whole f) ∷ []) ms)
       ∙ told_behind 0 before f code ms tells (ap (waits.stand 0 (rats ∷ [])) (sym last) ∙ done)
 
+  -- while RATS is asked again nothing else is
+  never_waits : (ns : List Note) (b : ℕ) → waits.stand 0 [] ns ≡ waits.Asking b (rats ∷ []) → ⊥
+  never_waits [] b e = cc
+  never_waits (n ∷ ns) b e = cc
+
+  again_waits : (bad : ℕ) (ns : List Note) (b : ℕ) (v : Bool)
+      → (waits.stand (suc bad) (rats ∷ []) ns ≡ waits.Asking b (rats ∷ []) → card_stand commands (Activates (suc bad)) ns ≡ Activates b)
+      → (if v then waits.stand (suc bad) (rats ∷ []) ns else waits.Broken SixBad (rats ∷ [])) ≡ waits.Asking b (rats ∷ [])
+      → card_stand commands (if v then Activates (suc bad) else Exchanges (Broken SixBad)) ns ≡ Activates b
+  again_waits bad ns b true on e = on e
+  again_waits bad ns b false on e = absurd cc
+
+  pub rats_waits : (bad : ℕ) (ns : List Note) (b : ℕ) → waits.stand bad (rats ∷ []) ns ≡ waits.Asking b (rats ∷ []) → card_stand commands (Activates bad) ns ≡ Activates b
+  rats_waits bad [] b e = (let same : bad ≡ b = cc in ap Activates same)
+  rats_waits bad (Lit ∷ ns) b e = absurd cc
+  rats_waits bad (Lost ∷ ns) b e = absurd cc
+  rats_waits bad (Got (Whole f) ∷ ns) b e = absurd (never_waits ns b e)
+  rats_waits bad (Got (Collided f) ∷ ns) b e = again_waits bad ns b (nat_lt bad 5) (λ h. rats_waits (suc bad) ns b h) e
+  rats_waits bad (Got Damaged ∷ ns) b e = again_waits bad ns b (nat_lt bad 5) (λ h. rats_waits (suc bad) ns b h) e
+  rats_waits bad (Got Silent ∷ ns) b e = again_waits bad ns b (nat_lt bad 5) (λ h. rats_waits (suc bad) ns b h) e
+
   -- Six bad receptions of RATS end the reading.
   never_six : (ns : List Note) (left : List Signal) → waits.stand 0 [] ns ≡ waits.Broken SixBad left → ⊥
   never_six [] left e = cc
@@ -234,6 +256,25 @@ broken_on Astray ys (n ∷ ns) e is = absurd (none_astray ns e is)
 
 pub broken_more : (i : ReaderState) (xs ys : List (List ℕ)) (ns : List Note) (e : AskFault) → stand (asks i xs) ns ≡ Broken e → stand (asks i (xs ++ ys)) ns ≡ Broken e
 broken_more i xs ys ns e is = ap (λ (s : IsoStanding). stand s ns) (asks_more i xs ys) ∙ broken_on (asks i xs) ys ns e is
+
+-- and one that didn't goes on with more commands behind
+unbroken_asks : (i : ReaderState) (ys : List (List ℕ)) → IsUnbrokenExchange (asks i ys)
+unbroken_asks i [] = tt
+unbroken_asks i (y ∷ ys) = tt
+
+unbroken_on : (s : IsoStanding) (ys : List (List ℕ)) (ns : List Note) → IsUnbrokenExchange (stand s ns) → IsUnbrokenExchange (stand (more ys s) ns)
+unbroken_on (Waits i f cs) ys [] is = tt
+unbroken_on (Rests i) ys [] is = unbroken_asks i ys
+unbroken_on (Broken x) ys [] is = absurd is
+unbroken_on Astray ys [] is = absurd is
+unbroken_on (Waits i f cs) ys (n ∷ ns) is =
+    subst (λ (s : IsoStanding). IsUnbrokenExchange (stand s ns)) (sym (noted_more i f cs ys n)) (unbroken_on (noted (Waits i f cs) n) ys ns is)
+unbroken_on (Rests i) ys (n ∷ ns) is = absurd (subst IsUnbrokenExchange (astray_stays ns) is)
+unbroken_on (Broken x) ys (n ∷ ns) is = absurd (subst IsUnbrokenExchange (astray_stays ns) is)
+unbroken_on Astray ys (n ∷ ns) is = absurd (subst IsUnbrokenExchange (astray_stays ns) is)
+
+pub unbroken_more : (i : ReaderState) (xs ys : List (List ℕ)) (ns : List Note) → IsUnbrokenExchange (stand (asks i xs) ns) → IsUnbrokenExchange (stand (asks i (xs ++ ys)) ns)
+unbroken_more i xs ys ns is = subst (λ (s : IsoStanding). IsUnbrokenExchange (stand s ns)) (sym (asks_more i xs ys)) (unbroken_on (asks i xs) ys ns is)
 
 -- what is due for some commands is due with more of them behind
 pub due_front : (i : ReaderState) (xs ys : List (List ℕ)) (ns : List Note) (n : Next) → iso_next i xs ns ≡ n → IsDemand n → iso_next i (xs ++ ys) ns ≡ n

@@ -121,7 +121,7 @@ module _ (message : List ℕ) (p : IsoSeen Device) (is : IsNewLink p) (d : Devic
   pub writes_some_on : (r : WriteEnd) → r ≡ Err faults.Memory → IsWritten hows.T4 (size_of d) message from to r → WritesSomeOn (moment p.air) (moment q.air) d p.reader message
   writes_some_on r starved told4 =
       let t : IsWritten (how_of d) (size_of d) message from to r = subst (λ h. IsWritten h (size_of d) message from to r) (sym l.card) told4 in
-      let told = write_does_some message d all_write from to (from_step p is d l) (from_plain p is d l) m.asks.asked (none_before p is d l) is.over (asked_told p is d l q m) ends t.order in
+      let told = write_does_some message d all_write from to (from_step p is d l) (from_plain p is d l) m.asks.asked (none_before p is d l) is.over (asked_told p is d l q m) ends r starved t in
       let law : KeepsWriteLaw message d (ending_of r) (world p.air) told.asked.going.events =
       subst (KeepsWriteLaw message d (ending_of r) (world p.air)) (same_going (moment p.air) (moment q.air) m.asks.going told.asked.going) (law_here r t.keeps) in
       record { told = told; law = subst (λ x. KeepsWriteLaw message d (ending_of x) (world p.air) told.asked.going.events) starved law }
@@ -258,5 +258,5 @@ module _ (message : List ℕ) (old : Air Device) (place : ℕ) (one : (e : Devic
         subst (λ f. RatsEnds ghosts device_card device_tag old new place (Err f)) want (refused old place one new given fault failed rests) in
         let told =
         as_cut (StoreOf own) (AsksWriteOf message d) (ShowsWrite message d) FailsWrite (moment old) (moment new) d one.2
-        (rats_cut (StoreOf own) (AsksWriteOf message d) (ShowsWrite message d) FailsWrite all_asked old new place d one.1 one.2 (sound_there old place d one.1) (waits.Asking ends.0 (rats ∷ [])) ends.1) in
+        (rats_cut (StoreOf own) (AsksWriteOf message d) (ShowsWrite message d) FailsWrite all_asked old new place d one.1 one.2 (sound_there old place d one.1) (waits.Asking ends.0 (rats ∷ [])) ends.1 ends.0 refl) in
         cut_any new (record { told = told; law = law_refused asking.Memory ends told.asked.going.events told.asked.going.moment })

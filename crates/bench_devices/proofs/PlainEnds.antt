@@ -1,9 +1,9 @@
 -- What asking a selected tag comes to that takes commands as they are sent, by what its link did.
-use Rattle.std.proofs.Common.{◌≡◌, inl, inr, ℕ, ◌<◌, List, [], ◌∷◌, ◌++◌, length, drop, not, true, false, Some, None, refl, sym, ◌∙◌, ap, subst, arith, append-nil}
+use Rattle.std.proofs.Common.{◌≡◌, ◌⊎◌, inl, inr, ℕ, ◌<◌, List, [], ◌∷◌, ◌++◌, length, drop, not, true, false, Some, None, refl, sym, ◌∙◌, ap, subst, arith, append-nil}
 use Rattle.std.proofs.lemmas.Bool.{cases_lt}
 use Rattle.nfc_base.specs.declared.event.Event.{Event}
 use Rattle.nfc_base.specs.declared.tag_link.AskFault.{AskFault}
-use Rattle.nfc_base.specs.declared.tag_link.AskFault.TheVariants.{FieldLost, SixBad, Protocol}
+use Rattle.nfc_base.specs.declared.tag_link.AskFault.TheVariants.{FieldLost, SixBad, Memory, Protocol}
 use Rattle.nfc_base.specs.Signal.{Signal}
 use Rattle.nfc_base.specs.Trace.{noise, breaks}
 use Rattle.nfc_base.specs.TagLinks.{LinkView}
@@ -12,13 +12,13 @@ use Rattle.air_core.specs.Turn.{Air, world, moment}
 use Rattle.air_core.specs.Conversation.{Moment, Over, Going, replay}
 use Rattle.air_core.specs.Turning.{due_weaker}
 use Rattle.air_core.specs.Waits.{Standing, Asking, Broken, stand, due_at, waits_next}
-use Rattle.air_core.specs.Waiting.{front_due}
+use Rattle.air_core.specs.Waiting.{front_due, stand_on}
 use Rattle.air_core.specs.PlainLinks.{PlainSeen, PlainMoves, StandsAt, unanswered, answered_in, plain_view}
 use Rattle.tag_reader.specs.Reading.{IsCalm}
 use Rattle.bench_devices.specs.declared.device.Device.{Device}
 use Rattle.bench_devices.specs.declared.device.Device.TheVariants.{T2, T4, Peer, T5}
 use Rattle.bench_devices.specs.Device.{air, devices, seen_of}
-use Rattle.bench_devices.specs.Answering.{TellsStanding, TellsBy}
+use Rattle.bench_devices.specs.Answering.{TellsStanding, TellsBy, IsUnbroken, GoesOnBy}
 use Rattle.bench_devices.specs.CardAsking.{tag_next}
 use Rattle.bench_devices.specs.Linking.{IsPlain}
 use Rattle.bench_devices.specs.Keeping.{ghosts, Changes, Leaves}
@@ -46,11 +46,14 @@ module _ {X : Type 0} (what : Changes) (IsAll : List Signal → Type 0) (Shows :
   as_told old new (Peer d) x plain s = absurd (no_tag plain.1)
   as_told old new (T5 p) x plain s = record { commands = s.commands; asks = s.asks; asked = s.asked; ends = s.ends; lost = s.lost; noisy = s.noisy }
 
-  pub as_cut : (old new : Moment (World Device)) (d : Device) → IsPlain d → AsksSome what IsAll waits_next old new → AsksSome what IsAll (tag_next (seen_of d)) old new
-  as_cut old new (T2 d) plain s = record { commands = s.commands; asks = s.asks; asked = s.asked }
+  abbrev pub AsksPlainSome : Moment (World Device) → Moment (World Device) → Type 0
+  AsksPlainSome old new = AsksSome what IsAll waits_next (λ cs ns. IsUnbroken (stand 0 cs ns)) old new
+
+  pub as_cut : (old new : Moment (World Device)) (d : Device) → IsPlain d → AsksPlainSome old new → AsksSome what IsAll (tag_next (seen_of d)) (GoesOnBy (seen_of d)) old new
+  as_cut old new (T2 d) plain s = record { commands = s.commands; asks = s.asks; asked = s.asked; unbroken = s.unbroken; unlost = s.unlost }
   as_cut old new (T4 d) plain s = absurd plain.0
   as_cut old new (Peer d) plain s = absurd (no_tag plain.1)
-  as_cut old new (T5 p) plain s = record { commands = s.commands; asks = s.asks; asked = s.asked }
+  as_cut old new (T5 p) plain s = record { commands = s.commands; asks = s.asks; asked = s.asked; unbroken = s.unbroken; unlost = s.unlost }
 
   module _ (a : Air Device) (place : ℕ) (bright : a.lit ≡ true) (q : PlainSeen Device) (m : PlainMoves ghosts (begun a place) q) where
     abbrev from : LinkView
@@ -95,13 +98,31 @@ module _ {X : Type 0} (what : Changes) (IsAll : List Signal → Type 0) (Shows :
       known = m.asked.going.known;
     }
 
-    -- It was cut off.
-    cut_told : Kept → (rest : List Signal) → IsLeft rest → AsksSome what IsAll waits_next (moment a) (moment q.air)
-    cut_told kept rest left = record {
-      commands = m.asked.commands ++ rest;
-      asks = left;
-      asked = record { notes = m.asked.notes; going = asked_front_of rest; same = kept };
-    }
+    -- It was cut off, with the link as it was, or by the link's own want of memory: no wait has ended by a fault then.
+    abbrev Waiting : Type 0
+    Waiting = (bad : ℕ) × (left : List Signal) × (stand 0 m.asked.commands m.asked.notes ≡ Asking bad left)
+
+    still_waiting : (q.over ≡ None) ⊎ (q.over ≡ Some Memory) → Waiting
+    still_waiting (inl open') = (0, [], subst (λ o. StandsAt o q.air.lit (stand 0 m.asked.commands m.asked.notes)) open' (m.asked.stands refl))
+    still_waiting (inr starved) =
+        let ends = subst (λ o. StandsAt o q.air.lit (stand 0 m.asked.commands m.asked.notes)) starved (m.asked.stands refl) in
+        (ends.2, ends.1 ∷ [], ends.3)
+
+    cut_told : Kept → (rest : List Signal) → IsLeft rest → (q.over ≡ None) ⊎ (q.over ≡ Some Memory) → AsksPlainSome (moment a) (moment q.air)
+    cut_told kept rest left cause =
+        let w = still_waiting cause in
+        let there : stand 0 (m.asked.commands ++ rest) m.asked.notes ≡ Asking w.0 (w.1 ++ rest) =
+        ap (stand 0 (m.asked.commands ++ rest)) (sym (append-nil m.asked.notes)) ∙ stand_on 0 m.asked.commands m.asked.notes w.0 w.1 w.2 rest [] in
+        record {
+          commands = m.asked.commands ++ rest;
+          asks = left;
+          asked = record { notes = m.asked.notes; going = asked_front_of rest; same = kept };
+          unbroken = subst IsUnbroken (sym there) tt;
+          unlost = elim (cases_lt 0 (breaks m.asked.going.events)) [
+            | inl some ↦ absurd (let on = broken_by some in let clash : Asking w.0 w.1 ≡ Broken FieldLost on.0 = sym w.2 ∙ on.1 in cc)
+            | inr none ↦ omega (arith, none)
+          ];
+        }
 
     -- What it did, where its waits stand so at the end.
     told_by : Kept → (x : X) (rest : List Signal) → IsLeft rest → (s : Standing) → stand 0 (m.asked.commands ++ rest) m.asked.notes ≡ s → due_at s ≡ Over → TellsStanding Shows Fails s x
@@ -159,13 +180,13 @@ module _ {X : Type 0} (what : Changes) (IsAll : List Signal → Type 0) (Shows :
     never_odd : q.over ≡ Some Protocol → ⊥
     never_odd over = subst (λ o. StandsAt o q.air.lit (stand 0 m.asked.commands m.asked.notes)) over (m.asked.stands refl)
 
-    pub plain_ends : Kept → LinkEnds IsAll Shows Fails from to m.asked.commands AsksSo (AsksSome what IsAll waits_next (moment a) (moment q.air))
+    pub plain_ends : Kept → LinkEnds IsAll Shows Fails from to m.asked.commands AsksSo (AsksPlainSome (moment a) (moment q.air))
     plain_ends kept = record {
       all = λ all open' x shows no_loss no_six. all_told kept all open' x shows no_loss no_six;
       lost = λ rest left over x fails no_six. lost_told kept rest left over x fails no_six;
       six = λ rest left over loud x fails no_loss. six_told kept rest left over loud x fails no_loss;
       odd = never_odd;
-      some = λ rest left. cut_told kept rest left;
+      some = λ rest left cause. cut_told kept rest left cause;
     }
 
 -- what was asked, by the link

@@ -78,5 +78,9 @@ module _ (d : Device) (some : (xs : List Signal) × AsksOf d xs) (from to : Link
     read_does (Err fault) fed t =
         told_fault fault (λ m. fed (ap Err m)) t.order t.all t.goes_on t.calm (subst (λ xs. IsReadFault (how_of d) (size_of d) xs from to fault) store t.err)
 
-    pub read_does_some : HasAsked (how_of d) (size_of d) from.state.store from to → DoesSome
-    read_does_some h = let left = read_left h in ends.some left.0 left.1
+    pub read_does_some : (r : Result Found ReadFault) → r ≡ Err faults.Memory → IsRead (how_of d) (size_of d) from to r → DoesSome
+    read_does_some (Ok found) starved t = absurd cc
+    read_does_some (Err fault) starved t =
+        let left = read_left t.order in
+        let memory : fault ≡ faults.Memory = cc in
+        ends.some left.0 left.1 (elim (subst (IsReadFault (how_of d) (size_of d) from.state.store from to) memory t.err) [ inl own ↦ inl own | inr by ↦ inr by.0 ])

@@ -19,14 +19,14 @@ use Rattle.bench_devices.specs.Device.{device_store, how_of, size_of, is_tag}
 use Rattle.bench_devices.specs.Reading.{AsksOf, ShowsOf}
 use Rattle.bench_devices.specs.Linking.{IsPlain, IsPlainHow, IsNew}
 use Rattle.bench_devices.specs.Keeping.{kept, ghosts, NoStore}
-use Rattle.bench_devices.specs.Phases.{Stands, AsksSome, FailsRead, Reads, ReadsAt, ReadsSome, CutAt}
+use Rattle.bench_devices.specs.Phases.{Stands, FailsRead, Reads, ReadsAt, ReadsSome, CutAt}
 use Rattle.bench_devices.proofs.SelectingKept.{going_keeps}
 use Rattle.bench_devices.proofs.ReadingTags.{begun, shows_store, stands_one, some_asked}
 use Rattle.bench_devices.proofs.ReadingAir.{IsRead, all_reads, reads_harmless}
 use Rattle.bench_devices.proofs.LinkAsked.{AskedSome}
 use Rattle.bench_devices.proofs.LinkEnds.{LinkEnds}
 use Rattle.bench_devices.proofs.NewLinks.{new_is, plain_one, from_new}
-use Rattle.bench_devices.proofs.PlainEnds.{AsksPlain, as_told, as_cut, plain_ends, none_before, asked_told}
+use Rattle.bench_devices.proofs.PlainEnds.{AsksPlain, AsksPlainSome, as_told, as_cut, plain_ends, none_before, asked_told}
 use Rattle.bench_devices.proofs.ReadTold as reading
 use Rattle.bench_devices.proofs.ReadTold.{read_some, read_does, read_does_some}
 
@@ -55,7 +55,7 @@ module _ (a : Air Device) (place : ℕ) (d : Device) (s : Stands (moment a) plac
 
   -- what a read comes to, and one that was cut off
   ends : HasAskedOf → LinkEnds (AsksOf d) (ShowsOf d) FailsRead from to m.asked.commands (AsksPlain NoStore (AsksOf d) (ShowsOf d) FailsRead (moment a) (moment q.air))
-      (AsksSome NoStore (AsksOf d) waits_next (moment a) (moment q.air))
+      (AsksPlainSome NoStore (AsksOf d) (ShowsOf d) FailsRead (moment a) (moment q.air))
   ends h = plain_ends NoStore (AsksOf d) (ShowsOf d) FailsRead a place (ap (λ (w : World Device). w.lit) s.world) q m (same_devices h)
 
   pub reads : (r : Result Found ReadFault) → (r ≡ Err faults.Memory → ⊥) → reading.IsRead (how_of d) (size_of d) from to r → Reads (moment a) (moment q.air) d r
@@ -63,10 +63,10 @@ module _ (a : Air Device) (place : ℕ) (d : Device) (s : Stands (moment a) plac
       as_told NoStore (AsksOf d) (ShowsOf d) FailsRead (moment a) (moment q.air) d r plain
       (read_does d (some_asked d s.sound plain) from to (shows_store a place d s) m.asked.commands (none_before a place q m) refl (asked_told a place q m) (ends t.order) r fed t)
 
-  pub reads_some : HasAskedOf → ReadsSome (moment a) (moment q.air) d
-  reads_some h =
+  pub reads_some : (r : Result Found ReadFault) → r ≡ Err faults.Memory → reading.IsRead (how_of d) (size_of d) from to r → ReadsSome (moment a) (moment q.air) d
+  reads_some r starved t =
       as_cut NoStore (AsksOf d) (ShowsOf d) FailsRead (moment a) (moment q.air) d plain
-      (read_does_some d (some_asked d s.sound plain) from to (shows_store a place d s) m.asked.commands (none_before a place q m) refl (asked_told a place q m) (ends h) h)
+      (read_does_some d (some_asked d s.sound plain) from to (shows_store a place d s) m.asked.commands (none_before a place q m) refl (asked_told a place q m) (ends t.order) r starved t)
 
 module _ (p : PlainSeen Device) (is : IsNew p) (how : How) (one : (e : Device) × Stands (moment p.air) p.place e × (how ≡ how_of e) × IsPlainHow how × (is_tag e ≡ true)) (q : PlainSeen Device)
     (moves : PlainMoves ghosts p q) where
@@ -84,11 +84,7 @@ module _ (p : PlainSeen Device) (is : IsNew p) (how : How) (one : (e : Device) �
       (reads p.air p.place one.0 one.1 (plain_one p is how one) q (from_new p is q moves) r fed (here r t))
 
   -- Reading was cut off.
-  abbrev HasAskedOn : How → PlainSeen Device → Type 0
-  HasAskedOn h x = HasAsked h (size_of one.0) (plain_view ghosts x).state.store (plain_view ghosts x) (plain_view ghosts q)
-
-  pub ends_cut : (r : Result Found ReadFault) → HasAskedOn how p → CutAt (moment p.air) (moment q.air) p.place r
-  ends_cut r h starved d stands =
-      let some : HasAskedOn (how_of one.0) (begun p.air p.place) = subst (HasAskedOn (how_of one.0)) (sym (new_is p is)) (subst (λ g. HasAskedOn g p) one.2 h) in
+  pub ends_cut : (r : Result Found ReadFault) → reading.IsRead how (size_of one.0) (plain_view ghosts p) (plain_view ghosts q) r → CutAt (moment p.air) (moment q.air) p.place r
+  ends_cut r t starved d stands =
       subst (λ e. ReadsSome (moment p.air) (moment q.air) e) (sym (stands_one p.air p.place one.0 one.1 d stands))
-      (reads_some p.air p.place one.0 one.1 (plain_one p is how one) q (from_new p is q moves) some)
+      (reads_some p.air p.place one.0 one.1 (plain_one p is how one) q (from_new p is q moves) r starved (here r t))

@@ -10,7 +10,6 @@ use Rattle.air_core.proofs.PlainStores.{place_is}
 use Rattle.t2t_tag.specs.Store.{IsT2Store}
 use Rattle.t5t_tag.specs.Store.{IsT5Store}
 use Rattle.tag_reader.specs.Kinds.{IsTag}
-use Rattle.tag_reader.specs.declared.how.How.TheVariants as hows
 use Rattle.tag_reader.proofs.BlockLists.{blocks_asked}
 use Rattle.tag_reader.proofs.SomeList.{some_list}
 use Rattle.bench_devices.specs.declared.device.Device.{Device}

@@ -129,8 +129,12 @@ module _ (message : List ℕ) (d : Device) (some : (xs : List Signal) × AsksWri
     write_does (Ok done) fed t = told_all (Ok done) t.all t.goes_on (here (λ g s. writer.Writes (how_of d) (size_of d) g s message None) t.ok.writes)
     write_does (Err fault) fed t = told_fault fault (λ m. fed (ap Err m)) t.order t.all t.goes_on t.calm t.err
 
-    pub write_does_some : HasWritten (how_of d) (size_of d) message from to → DoesSome
-    write_does_some h = let left = write_left h in ends.some left.0 left.1
+    pub write_does_some : (r : WriteEnd) → r ≡ Err faults.Memory → IsWritten (how_of d) (size_of d) message from to r → DoesSome
+    write_does_some (Ok done) starved t = absurd cc
+    write_does_some (Err fault) starved t =
+        let left = write_left t.order in
+        let memory : fault ≡ faults.Memory = cc in
+        ends.some left.0 left.1 (elim (subst (IsWriteFault (how_of d) (size_of d) message from to) memory t.err) [ inl own ↦ inl own.0 | inr by ↦ inr by.0 ])
 
   -- The stores that the device has after some events keep the law, where they follow those that it passed.
   pub write_law : (r : WriteEnd) → Keeps (how_of d) (size_of d) message (ending_of r) from to → (more : List Signal) → Leads from to more → (stores : List (List ℕ))

@@ -20,7 +20,7 @@ use Rattle.bench_devices.specs.Device.{air, device_tech, device_id, device_store
 use Rattle.bench_devices.specs.Writing.{AsksWriteOf, ShowsWrite, KeepsWriteLaw}
 use Rattle.bench_devices.specs.Linking.{IsPlain, IsPlainHow, IsNew}
 use Rattle.bench_devices.specs.Keeping.{ghosts, StoreOf, Leaves}
-use Rattle.bench_devices.specs.Phases.{Stands, AsksSome, WriteEnd, FailsWrite, Writes, WritesSome, WritesAt, CutAtWrite}
+use Rattle.bench_devices.specs.Phases.{Stands, WriteEnd, FailsWrite, Writes, WritesSome, WritesAt, CutAtWrite}
 use Rattle.air_core.proofs.DueWaits.{due_all}
 use Rattle.bench_devices.proofs.SelectingAir.{events_are}
 use Rattle.bench_devices.proofs.EveryFrame.{going_leaves}
@@ -29,7 +29,7 @@ use Rattle.bench_devices.proofs.ReadingTags.{begun, seen, shows_store, stands_on
 use Rattle.bench_devices.proofs.Alone.{first_there, sound_there, beside_there, named_there}
 use Rattle.bench_devices.proofs.LinkEnds.{LinkEnds}
 use Rattle.bench_devices.proofs.NewLinks.{new_is, plain_one, from_new}
-use Rattle.bench_devices.proofs.PlainEnds.{AsksPlain, as_told, as_cut, plain_ends, none_before, asked_told}
+use Rattle.bench_devices.proofs.PlainEnds.{AsksPlain, AsksPlainSome, as_told, as_cut, plain_ends, none_before, asked_told}
 use Rattle.bench_devices.proofs.WriteTold.{IsWritten, write_left, write_does, write_does_some, write_law}
 use Rattle.bench_devices.proofs.WriteLists.{some_write, may_all, front_all}
 
@@ -71,7 +71,7 @@ module _ (a : Air Device) (place : ℕ) (d : Device) (s : Stands (moment a) plac
   -- what a write comes to, and one that was cut off
   ends : HasWrittenOf → LinkEnds (AsksWriteOf message d) (ShowsWrite message d) FailsWrite from to m.asked.commands
       (AsksPlain (StoreOf (device_id d)) (AsksWriteOf message d) (ShowsWrite message d) FailsWrite (moment a) (moment q.air))
-      (AsksSome (StoreOf (device_id d)) (AsksWriteOf message d) waits_next (moment a) (moment q.air))
+      (AsksPlainSome (StoreOf (device_id d)) (AsksWriteOf message d) (ShowsWrite message d) FailsWrite (moment a) (moment q.air))
   ends h = plain_ends (StoreOf (device_id d)) (AsksWriteOf message d) (ShowsWrite message d) FailsWrite a place (ap (λ (w : World Device). w.lit) s.world) q m (leaves h)
 
   -- the images of the store are the stores that the tag passed
@@ -92,9 +92,10 @@ module _ (a : Air Device) (place : ℕ) (d : Device) (s : Stands (moment a) plac
       let told = as_told (StoreOf (device_id d)) (AsksWriteOf message d) (ShowsWrite message d) FailsWrite (moment a) (moment q.air) d r plain does in
       record { told = told; law = subst (KeepsWriteLaw message d (ending_of r) (world a)) (same_going (moment a) (moment q.air) m.asked.going told.asked.going) (law_here r t.keeps) }
 
-  pub writes_some : HasWrittenOf → Keeps (how_of d) (size_of d) message Stopped from to → WritesSome (moment a) (moment q.air) d message
-  writes_some h k =
-      let does = write_does_some message d all_write from to shows_step shows_state m.asked.commands (none_before a place q m) refl (asked_told a place q m) (ends h) h in
+  pub writes_some : (r : WriteEnd) → r ≡ Err faults.Memory → IsWritten (how_of d) (size_of d) message from to r → WritesSome (moment a) (moment q.air) d message
+  writes_some r starved t =
+      let k : Keeps (how_of d) (size_of d) message Stopped from to = subst (λ x. Keeps (how_of d) (size_of d) message (ending_of x) from to) starved t.keeps in
+      let does = write_does_some message d all_write from to shows_step shows_state m.asked.commands (none_before a place q m) refl (asked_told a place q m) (ends t.order) r starved t in
       let told = as_cut (StoreOf (device_id d)) (AsksWriteOf message d) (ShowsWrite message d) FailsWrite (moment a) (moment q.air) d plain does in
       record { told = told; law = subst (KeepsWriteLaw message d Stopped (world a)) (same_going (moment a) (moment q.air) m.asked.going told.asked.going) (law_here (Err faults.Memory) k) }
 
@@ -115,8 +116,5 @@ module _ (p : PlainSeen Device) (is : IsNew p) (how : How) (one : (e : Device) �
 
   pub ends_cut : (r : WriteEnd) → IsTold r how p → CutAtWrite (moment p.air) (moment q.air) p.place message r
   ends_cut r t starved d stands =
-      let told = here r t in
-      let kept : Keeps (how_of one.0) (size_of one.0) message Stopped (plain_view ghosts (begun p.air p.place)) (plain_view ghosts q) =
-      subst (λ x. Keeps (how_of one.0) (size_of one.0) message (ending_of x) (plain_view ghosts (begun p.air p.place)) (plain_view ghosts q)) starved told.keeps in
       subst (λ e. WritesSome (moment p.air) (moment q.air) e message) (sym (stands_one p.air p.place one.0 one.1 d stands))
-      (writes_some p.air p.place one.0 one.1 (plain_one p is how one) message q (from_new p is q moves) told.order kept)
+      (writes_some p.air p.place one.0 one.1 (plain_one p is how one) message q (from_new p is q moves) r starved (here r t))

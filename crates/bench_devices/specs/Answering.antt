@@ -86,6 +86,30 @@ TellsBy seen.T4 Tells Fails asked ns x = TellsCard Tells Fails (card_stands aske
 TellsBy seen.T5 Tells Fails asked ns x = TellsStanding Tells Fails (stand 0 asked ns) x
 TellsBy seen.Peer Tells Fails asked ns x = Tells x
 
+-- No wait has ended by a fault: commands are asked still, or all were answered.
+abbrev pub IsUnbroken : Standing → Type 0
+IsUnbroken (Asking bad cs) = Unit {0}
+IsUnbroken (Broken e cs) = ⊥
+IsUnbroken Astray = ⊥
+
+-- Likewise of a Type 4 tag.
+abbrev pub IsUnbrokenExchange : exchange.IsoStanding → Type 0
+IsUnbrokenExchange (exchange.Waits i f cs) = Unit {0}
+IsUnbrokenExchange (exchange.Rests i) = Unit {0}
+IsUnbrokenExchange (exchange.Broken e) = ⊥
+IsUnbrokenExchange exchange.Astray = ⊥
+
+abbrev pub IsUnbrokenCard : CardStanding → Type 0
+IsUnbrokenCard (Activates bad) = Unit {0}
+IsUnbrokenCard (Exchanges s) = IsUnbrokenExchange s
+
+-- so it is with a tag that is seen to be of this kind, by what was heard since it was selected
+abbrev pub GoesOnBy : SeenKind → List Signal → List Note → Type 0
+GoesOnBy seen.T2 asked ns = IsUnbroken (stand 0 asked ns)
+GoesOnBy seen.T4 asked ns = IsUnbrokenCard (card_stands asked ns)
+GoesOnBy seen.T5 asked ns = IsUnbroken (stand 0 asked ns)
+GoesOnBy seen.Peer asked ns = Unit {0}
+
 -- what the inventory told is so, or each of its four tries had noise
 abbrev pub AreOthers : List Device → Vcrowd → List Event → Type 0
 AreOthers ds others es = (others ≡ others_of ds) ⊎ ((others ≡ Nobody) × (tries ≤ noisy_tries inventory_all es))

@@ -22,7 +22,7 @@ use Rattle.tag_reader.specs.declared.how.How.{How}
 use Rattle.tag_reader.specs.declared.how.How.TheVariants.{T2, T4, T5}
 use Rattle.bench_devices.specs.declared.device.Device.{Device}
 use Rattle.bench_devices.specs.Device.{device_id, how_of, is_tag, device_card, device_tag}
-use Rattle.bench_devices.specs.Answering.{TellsExchange}
+use Rattle.bench_devices.specs.Answering.{TellsExchange, IsUnbrokenExchange}
 use Rattle.bench_devices.specs.Reading.{AsksOf, ShowsOf}
 use Rattle.bench_devices.specs.Writing.{AsksWriteOf, ShowsWrite, KeepsWriteLaw}
 use Rattle.bench_devices.specs.Keeping.{ghosts, kept, IsSound, Changes, NoStore, StoreOf}
@@ -76,7 +76,9 @@ AsksOn what IsAll Tells Fails reader old new x =
 
 -- So far it came, until memory was wanting.
 abbrev pub AsksSomeOn : Changes → (List Signal → Type 0) → ReaderState → Moment (World Device) → Moment (World Device) → Type 0
-AsksSomeOn what IsAll reader old new = AsksSome what IsAll (λ commands. iso_next reader (bytes_of commands)) old new
+AsksSomeOn what IsAll reader old new =
+    AsksSome what IsAll (λ commands. iso_next reader (bytes_of commands))
+    (λ commands ns. IsUnbrokenExchange (stand (exchange.asks reader (bytes_of commands)) ns)) old new
 
 -- so reading did
 abbrev pub ReadsOn : Moment (World Device) → Moment (World Device) → Device → ReaderState → Result Found ReadFault → Type 0

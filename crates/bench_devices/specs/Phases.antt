@@ -31,7 +31,7 @@ use Rattle.bench_devices.specs.declared.polling.Selection.{Selection}
 use Rattle.bench_devices.specs.declared.polling.Selection.TheVariants.{Place, Missed}
 use Rattle.bench_script.specs.DeviceIds.{bytes_of}
 use Rattle.bench_devices.specs.Polling.{Told, asks, selecting, finding_all}
-use Rattle.bench_devices.specs.Answering.{HasPollCause, FindTells, TellsBy}
+use Rattle.bench_devices.specs.Answering.{HasPollCause, FindTells, TellsBy, GoesOnBy}
 use Rattle.bench_devices.specs.Reading.{AsksOf, ShowsOf}
 use Rattle.bench_devices.specs.Writing.{AsksWriteOf, ShowsWrite, KeepsWriteLaw}
 use Rattle.bench_devices.specs.Keeping.{ghosts, kept, IsSound, AreTame, Changes, NoStore, StoreOf, Leaves}
@@ -119,12 +119,14 @@ pub record AsksTag {X : Type 0} (what : Changes) (IsAll : List Signal → Type 0
   pub lost : Fails asking.FieldLost x ↔ (0 < breaks asked.going.events)
   pub noisy : Fails asking.SixBad x → 0 < noise asked.going.events
 
--- So far it was asked, until memory was wanting.
+-- So far it was asked, until memory was wanting, which alone ended it: what was heard broke off no wait, and no Break was used.
 pub record AsksSome (what : Changes) (IsAll : List Signal → Type 0) (due : List Signal → List Note → Next)
-    (old new : Moment (World Device)) : Type 0 where
+    (GoesOn : List Signal → List Note → Type 0) (old new : Moment (World Device)) : Type 0 where
   pub commands : List Signal
   pub asks : IsAll commands
   pub asked : AskedPart what (due commands) old new
+  pub unbroken : GoesOn commands asked.notes
+  pub unlost : breaks asked.going.events ≡ 0
 
 -- a read failed by the fault of a wait; the others end none
 abbrev pub FailsRead : AskFault → Result Found ReadFault → Type 0
@@ -139,7 +141,7 @@ Reads old new d r = AsksTag NoStore (AsksOf d) (tag_next (seen_of d)) (TellsBy (
 
 -- Reading was cut off by want of memory.
 abbrev pub ReadsSome : Moment (World Device) → Moment (World Device) → Device → Type 0
-ReadsSome old new d = AsksSome NoStore (AsksOf d) (tag_next (seen_of d)) old new
+ReadsSome old new d = AsksSome NoStore (AsksOf d) (tag_next (seen_of d)) (GoesOnBy (seen_of d)) old new
 
 -- So the device that stands at a place was read as far as memory reached.
 abbrev pub CutAt : Moment (World Device) → Moment (World Device) → ℕ → Result Found ReadFault → Type 0
@@ -169,7 +171,7 @@ pub record Writes (old new : Moment (World Device)) (d : Device) (message : List
 
 -- Writing was cut off by want of memory; until there its stores keep the law too.
 pub record WritesSome (old new : Moment (World Device)) (d : Device) (message : List ℕ) : Type 0 where
-  pub told : AsksSome (StoreOf (device_id d)) (AsksWriteOf message d) (tag_next (seen_of d)) old new
+  pub told : AsksSome (StoreOf (device_id d)) (AsksWriteOf message d) (tag_next (seen_of d)) (GoesOnBy (seen_of d)) old new
   pub law : KeepsWriteLaw message d Stopped old.world told.asked.going.events
 
 -- So the device that stands at a place was written as far as memory reached.

@@ -21,7 +21,7 @@ use Rattle.bench_world.specs.declared.entry.Loss.TheVariants as losses
 use Rattle.bench_world.specs.World.{FarEnd, WholeWorld, Stable, stable}
 use Rattle.bench_world.specs.Calls.{OfEnd, PutAddsAtMost, with_accepted}
 use Rattle.bench_world.specs.Journal.{LeadsTo}
-use Rattle.bench_world.specs.Legal.{State, Given, Joins, CutFront, CutStores, EachLegal, FrontOf, HaltLeaves, Halts, HaltsCall, begun, changed, end_of, first_state, state_after, world_after}
+use Rattle.bench_world.specs.Legal.{State, Given, Joins, CutFront, CutShort, CutStores, EachLegal, FrontOf, HaltLeaves, Halts, HaltsCall, begun, changed, end_of, first_state, state_after, world_after}
 use Rattle.bench_world.specs.LinkLaw.{CutLinkLaw, KeepsLinkLaw, cut_stretch}
 use Rattle.bench_world.specs.Links.{OpenLink, ended}
 use Rattle.bench_world.specs.Peers.{Peers, next_number}
@@ -212,6 +212,12 @@ halts_call joins s (Lookup name) cut t h = h
 halts_call joins s Unlink cut t h = h
 halts_call joins s c cut t h = absurd h
 
+-- ... or of which there is a front
+short_front : (joins : Joins) (s : State) (c : Command) (cut : List Event) (t : State) → CutShort joins s c cut t → CutFront joins s c cut t
+short_front joins s (Read id) cut t (g, joined, front, stores, how) = (g, joined, front, stores)
+short_front joins s (Write id m) cut t (g, joined, front, stores, how) = (g, joined, front, stores)
+short_front joins s c cut t f = f
+
 module _ (s t : State) (joins : Joins) (c : Command) (cut : List Event) (ys : List Story) (stand : Stand s ys) where
   abbrev pub CutStand : Type 0
   CutStand = Stand t (stories_behind s (cut_stretch c joins cut) t ys)
@@ -230,13 +236,14 @@ module _ (s t : State) (joins : Joins) (c : Command) (cut : List Event) (ys : Li
       let back : Stand t (stories_behind s (cut_stretch c h.given.joins cut) t ys) = subst (λ o. Stand t (stories_behind (S o) (cut_stretch c h.given.joins cut) t ys)) (sym h.open_) steps in
       subst (λ j. Stand t (stories_behind s (cut_stretch c j cut) t ys)) h.joined back
 
-  pub cut_stands : CutFront joins s c cut t ⊎ Halts joins s c cut t → CutStand
-  cut_stands (inl f) = cut_front f
+  pub cut_stands : CutShort joins s c cut t ⊎ Halts joins s c cut t → CutStand
+  cut_stands (inl f) = cut_front (short_front joins s c cut t f)
   cut_stands (inr h) = cut_halts h
 
-  pub cut_numbers : CutFront joins s c cut t ⊎ Halts joins s c cut t → KeepsNumbers s c t
-  cut_numbers (inl (g, joined, front, stores)) l open_ none =
-      ap (λ (z : State). z.peers.numbers) front.after ∙ ended_in s g.joins c cut None l open_ (sym (ap (λ (z : State). z.link) front.after) ∙ none)
+  pub cut_numbers : CutShort joins s c cut t ⊎ Halts joins s c cut t → KeepsNumbers s c t
+  cut_numbers (inl short) l open_ none =
+      let f = short_front joins s c cut t short in
+      ap (λ (z : State). z.peers.numbers) f.2.after ∙ ended_in s f.0.joins c cut None l open_ (sym (ap (λ (z : State). z.link) f.2.after) ∙ none)
   cut_numbers (inr stops) l open_ none =
       let h = halts_call joins s c cut t stops in
       ap (λ (x : Peers). x.numbers) h.leaves.peers ∙ same_numbers (Some h.on) s.peers t.world.fars

@@ -27,19 +27,19 @@ use Rattle.bench_world.specs.declared.entry.Answer.TheVariants as answers
 use Rattle.bench_devices.specs.declared.polling.SeenKind.{SeenKind}
 use Rattle.bench_devices.specs.declared.polling.SeenKind.TheVariants as seen
 use Rattle.bench_devices.specs.CardAsking.{tag_next}
-use Rattle.bench_world.specs.Answering.{TagTells, TellsFault, TellsFound, poll_answer, told_by}
+use Rattle.bench_world.specs.Answering.{TagTells, TellsFault, TellsFound, CutTag, poll_answer, told_by}
 use Rattle.bench_devices.specs.TagAsking.{then_asks, tag_due}
 use Rattle.bench_devices.specs.Device.{air, devices, device_linked, StablePart, stable_of, device_store, how_of, size_of, seen_of, is_tag, IfTag}
-use Rattle.bench_devices.specs.Answering.{TellsBy}
+use Rattle.bench_devices.specs.Answering.{TellsBy, GoesOnBy}
 use Rattle.bench_devices.proofs.TagOrPeer.{as_tag, as_peer, peer_seen}
 use Rattle.bench_script.specs.DeviceIds.{bytes_of}
 use Rattle.bench_devices.specs.Polling.{Followed, Asks as Requests, Told, follows, kind_by, seen_kind, pick_v, asks, selecting, finding_all}
 use Rattle.bench_world.specs.Reading.{Tells, TellsOf, ReadAsks}
-use Rattle.bench_devices.specs.Reading.{ShowsOf}
+use Rattle.bench_devices.specs.Reading.{AsksOf, ShowsOf}
 use Rattle.bench_world.specs.Legal.{State, Given, no_joins, Accepts, IsAskedBy, AnswerLaw, FrontOf, changed, due, world_after, state_after}
 use Rattle.bench_devices.specs.Placed.{OfPlaced, IfPlaced, device_with}
 use Rattle.bench_devices.specs.Keeping.{Kept, kept, IsSound, Changes, NoStore, Leaves}
-use Rattle.bench_devices.specs.Phases.{AskedPart, SelectionCut, ReadsSome, FailsRead, IsIdle, Selects, SelectsAt, Stands, Reads, ReadsAt, CutAt, Searches, SearchesField, SearchCut}
+use Rattle.bench_devices.specs.Phases.{AskedPart, AsksSome, SelectionCut, ReadsSome, FailsRead, IsIdle, Selects, SelectsAt, Reads, Searches, SearchesField, SearchCut}
 use Rattle.bench_world.specs.Obeying.{Machines, state_at, HasPlaces, KeepsLink, IsSettled, Obeyed, ObeyedUnlinked, IsCutOff, CutOffUnlinked}
 use Rattle.bench_world.specs.World.{WholeWorld, bench_air, stable}
 use Rattle.bench_world.specs.Links.{OpenLink}
@@ -54,7 +54,6 @@ use Rattle.bench_world.proofs.PlacesKept.{served_as, kinds_stay}
 use Rattle.bench_world.proofs.Fronts.{links_stay, Ends, world_behind, none_hand, stretch, stable_behind, as_long}
 use Rattle.tag_reader.specs.Asked.{IsAsked}
 use Rattle.tag_reader.specs.declared.fault.ReadFault.{ReadFault}
-use Rattle.tag_reader.specs.declared.fault.ReadFault.TheVariants as reading
 use Rattle.tag_reader.specs.declared.found.Found.{Found}
 use Rattle.bench_devices.specs.declared.sweeping.Everybody.{Everybody}
 use Rattle.bench_world.proofs.Telling.{six_told, tells_as, shows_tells, fails_tells, lost_told, found_told}
@@ -366,6 +365,27 @@ module _ (old mid : Air Device) (id : DeviceId) (place : ℕ) (idle : IsIdle old
       let P : Kept → Type 0 = λ k. IfTag k.fixed.kind (IsAsked k.fixed.how k.fixed.size k.store commands) (commands ≡ []) in
       subst (λ o. IfPlaced (λ d. ReadAsks d commands) (commands ≡ []) o) (sym selected_with.found) (subst P (sym selected_with.same) asks)
 
+  -- what was asked of it was cut off by nothing but want of memory
+  pub cut_tag : (what : Changes) (IsAll : List Signal → Type 0) (new : Air Device)
+      → (r : AsksSome what IsAll (tag_next (seen_of s.device)) (GoesOnBy (seen_of s.device)) (moment mid) (moment new)) → CutTag id r.commands new.trace
+  cut_tag what IsAll new r =
+      let hs : List Note = s.selects.asked.notes in
+      let ks : List Note = r.asked.notes in
+      let g : Going air (tag_due id r.commands) (moment old) (moment new) (hs ++ ks) =
+      both id (seen_of s.device) r.commands (moment old) (moment mid) (moment new) hs ks s.selects.told s.selects.asked.going r.asked.going in
+      let trace : new.trace ≡ g.events = trace_is old new (tag_due id r.commands) (hs ++ ks) g idle in
+      let none : breaks s.selects.asked.going.events ≡ 0 = elim (cases_lt 0 (breaks s.selects.asked.going.events)) [
+        | inl some ↦ absurd (let is : ◌≡◌ {A = Result SeenKind PollFault} (Ok (seen_of s.device)) (Err faults.FieldLost) = s.selects.lost.1 some in cc)
+        | inr still ↦ omega (arith, still)
+      ] in
+      inr (record {
+        kind = seen_of s.device;
+        behind = ks;
+        selected = ap (λ es. selecting id (receptions es)) trace ∙ ap (selecting id) g.known ∙ selecting_more id hs ks (Ok (seen_of s.device)) s.selects.told;
+        unbroken = r.unbroken;
+        unlost = ap breaks trace ∙ omega (arith, breaks-append s.selects.asked.going.events r.asked.going.events, none, r.unlost);
+      })
+
   -- reading was cut off
   pub read_cut : (new : Air Device) → is_tag s.device ≡ true → ReadsSome (moment mid) (moment new) s.device → CutOffUnlinked old new (Read id)
   read_cut new tag r = λ ends peers.
@@ -378,6 +398,7 @@ module _ (old mid : Air Device) (id : DeviceId) (place : ℕ) (idle : IsIdle old
         front_of None (Read id) (λ h. h) os old new r.commands (s.selects.asked.notes ++ r.asked.notes) idle tt refl g asked,
         part_stays os.ends old new g.events idle g.moment (r.asked.same ∙ s.selects.asked.same)
             (none_in (Read id) (λ h. h) os old new r.commands (s.selects.asked.notes ++ r.asked.notes) g asked),
+        cut_tag NoStore (AsksOf s.device) new r,
       )
 
 -- A peer was selected, and so a command of a tag asks nothing more.
@@ -492,6 +513,11 @@ search_cut old new idle part = λ ends peers.
       part_stays os.ends old new part.going.events idle part.going.moment part.same (none_in Find (λ h. h) os old new [] part.notes part.going refl),
     )
 
+-- nothing was asked of the tag yet
+pub polled_tag : (old new : Air Device) (id : DeviceId) (asked : List Signal) → IsIdle old → SelectionCut id (moment old) (moment new) → CutTag id asked new.trace
+polled_tag old new id asked idle part =
+    inl (subst (EachDue (λ ns. asks (selecting id ns)) []) (sym (trace_is old new (λ ns. asks (selecting id ns)) part.notes part.going idle)) part.going.each)
+
 pub selection_cut : (old new : Air Device) (id : DeviceId) → IsIdle old → SelectionCut id (moment old) (moment new) → CutOffUnlinked old new (Read id)
 selection_cut old new id idle part = λ ends peers.
     let os : Upon = record { ends = ends; peers = peers; link = None } in
@@ -501,9 +527,10 @@ selection_cut old new id idle part = λ ends peers.
       refl,
       front_of None (Read id) (λ h. h) os old new some.0 part.notes idle tt refl g some.1,
       part_stays os.ends old new part.going.events idle part.going.moment part.same (none_in (Read id) (λ h. h) os old new some.0 part.notes g some.1),
+      polled_tag old new id some.0 idle part,
     )
 
--- What was asked in a search, however it ended, and in a read.
+-- What was asked in a search, however it ended.
 pub search_part : (old new : Moment (World Device)) (r : Result Everybody PollFault) → SearchesField old new r → SearchCut old new r → AskedPart NoStore (λ ns. asks (finding_all ns)) old new
 search_part old new (Ok e) told cut = let a = (told (λ k. cc)).asked in record { notes = a.notes; going = a.going; same = a.same }
 search_part old new (Err faults.Nobody) told cut = let a = (told (λ k. cc)).asked in record { notes = a.notes; going = a.going; same = a.same }
@@ -512,24 +539,6 @@ search_part old new (Err faults.FieldLost) told cut = let a = (told (λ k. cc)).
 search_part old new (Err faults.Memory) told cut = cut refl
 search_part old new (Err faults.NotFound) told cut = let a = (told (λ k. cc)).asked in record { notes = a.notes; going = a.going; same = a.same }
 search_part old new (Err faults.BadAnswer) told cut = let a = (told (λ k. cc)).asked in record { notes = a.notes; going = a.going; same = a.same }
-
-some_of : (old new : Moment (World Device)) (d : Device) (r : Result Found ReadFault) → Reads old new d r → ReadsSome old new d
-some_of old new d r s = record { commands = s.commands; asks = s.asks; asked = record { notes = s.asked.notes; going = s.asked.going; same = s.asked.same } }
-
-pub read_part : (old new : Moment (World Device)) (place : ℕ) (d : Device) (r : Result Found ReadFault) → Stands old place d → ReadsAt old new place r → CutAt old new place r → ReadsSome old new d
-read_part old new place d (Err reading.Memory) stands told cut = cut refl d stands
-read_part old new place d (Ok found) stands told cut = some_of old new d (Ok found) (told (λ k. cc) d stands)
-read_part old new place d (Err reading.NotNdef) stands told cut = some_of old new d (Err reading.NotNdef) (told (λ k. cc) d stands)
-read_part old new place d (Err reading.Version) stands told cut = some_of old new d (Err reading.Version) (told (λ k. cc) d stands)
-read_part old new place d (Err reading.NoRead) stands told cut = some_of old new d (Err reading.NoRead) (told (λ k. cc) d stands)
-read_part old new place d (Err reading.Sectors) stands told cut = some_of old new d (Err reading.Sectors) (told (λ k. cc) d stands)
-read_part old new place d (Err reading.BadSize) stands told cut = some_of old new d (Err reading.BadSize) (told (λ k. cc) d stands)
-read_part old new place d (Err reading.NoMessageTlv) stands told cut = some_of old new d (Err reading.NoMessageTlv) (told (λ k. cc) d stands)
-read_part old new place d (Err reading.BadTlv) stands told cut = some_of old new d (Err reading.BadTlv) (told (λ k. cc) d stands)
-read_part old new place d (Err (reading.Refused code)) stands told cut = some_of old new d (Err (reading.Refused code)) (told (λ k. cc) d stands)
-read_part old new place d (Err reading.FieldLost) stands told cut = some_of old new d (Err reading.FieldLost) (told (λ k. cc) d stands)
-read_part old new place d (Err reading.SixBad) stands told cut = some_of old new d (Err reading.SixBad) (told (λ k. cc) d stands)
-read_part old new place d (Err reading.Protocol) stands told cut = some_of old new d (Err reading.Protocol) (told (λ k. cc) d stands)
 
 pub missed_part : (old new : Moment (World Device)) (id : DeviceId) (e : PollFault) → Selects id (Err e) old new → SelectionCut id old new
 missed_part old new id e s = record { notes = s.asked.notes; going = s.asked.going; same = s.asked.same }

@@ -28,7 +28,7 @@ use Rattle.bench_world.specs.Peers.{Peers, placed_under}
 use Rattle.bench_world.specs.Links.{OpenLink, accepted_by, end_numbered, is_number, ended, with_last_ended, last_ended, is_with, accepted_at, begun_if}
 use Rattle.bench_world.specs.Arriving.{BeginsAt}
 use Rattle.bench_world.specs.Calls.{IfLinked}
-use Rattle.bench_world.specs.Legal.{State, Given, Joins, IsPlaced, AnswerLaw, FrontOf, CutFront, CutStores, due, unlinked, is_linked_to, without_device, world_after, link_after, state_after, no_joins}
+use Rattle.bench_world.specs.Legal.{State, Given, Joins, IsPlaced, AnswerLaw, FrontOf, CutFront, CutShort, CutStores, due, unlinked, is_linked_to, without_device, world_after, link_after, state_after, no_joins}
 use Rattle.bench_world.specs.Obeying.{Machines, state_at, HasPlaces, IsSettled, KeepsLink, Obeyed, IsCutOff, ObeyedUnlinked, CutOffUnlinked, link_ended, taken_out}
 use Rattle.std.proofs.lemmas.List.{length-append}
 use Rattle.bench_world.proofs.LinkKept.{keeps_so, open_less}
@@ -190,7 +190,18 @@ module _ (c : Command) (r : IsReset c) (old : Machines) (settled : IsSettled old
       let C : State → Type 0 = λ x. CutStores x (cut.0).joins c now.air.trace in
       (cut.0, cut.1, r.front s t cut.0 now.air.trace None (subst F same cut.2), r.stores s (cut.0).joins now.air.trace (subst C same cut.3))
 
+-- so is one that was cut off
+short_unlinked : (c : Command) → IsReset c → (s t : State) (es : List Event) → CutShort no_joins (unlinked s) c es t → CutShort no_joins s c es t
+short_unlinked (Read id) r s t es cut = (cut.0, cut.1, r.front s t cut.0 es None cut.2, r.stores s (cut.0).joins es cut.3, cut.4)
+short_unlinked (Write id m) r s t es cut = (cut.0, cut.1, r.front s t cut.0 es None cut.2, r.stores s (cut.0).joins es cut.3, cut.4)
+short_unlinked c r s t es cut = (cut.0, cut.1, r.front s t cut.0 es None cut.2, r.stores s (cut.0).joins es cut.3)
+
 module _ (c : Command) (r : IsReset c) (old : Machines) (settled : IsSettled old) (b : Air Device) where
+  short_ended : CutShort no_joins (state_at (link_ended old)) c b.trace (state_at (upon (link_ended old) b)) → CutShort no_joins (state_at old) c b.trace (state_at (upon (link_ended old) b))
+  short_ended cut =
+      let t : State = state_at (upon (link_ended old) b) in
+      short_unlinked c r (state_at old) t b.trace (subst (λ x. CutShort no_joins x c b.trace t) (unlinked_state old settled.places) cut)
+
   pub reset_obeyed : (m : Machines) (answer : Answer) → m ≡ link_ended old → ObeyedUnlinked m.air b c answer → Obeyed old (upon m b) c answer
   reset_obeyed m answer is o =
       let P : Machines → Type 0 = λ x. ObeyedUnlinked x.air b c answer → Obeyed old (upon x b) c answer in
@@ -199,7 +210,7 @@ module _ (c : Command) (r : IsReset c) (old : Machines) (settled : IsSettled old
   pub reset_cut : (m : Machines) → m ≡ link_ended old → CutOffUnlinked m.air b c → IsCutOff old (upon m b) c
   reset_cut m is o =
       let P : Machines → Type 0 = λ x. CutOffUnlinked x.air b c → IsCutOff old (upon x b) c in
-      subst P (sym is) (λ p. inr (inl (front_ended c r old settled (upon (link_ended old) b) (p old.ends (link_ended old).peers)))) o
+      subst P (sym is) (λ p. inr (inl (short_ended (p old.ends (link_ended old).peers)))) o
 
 -- The link to a device ends before that is taken away.
 abbrev pub ended_to : Machines → ℕ → Machines

@@ -9,8 +9,6 @@ use Rattle.air_core.specs.Conversation.{Moment, Note, Going, replay}
 use Rattle.nfca_poll.specs.declared.fault.PollFault.{PollFault}
 use Rattle.nfca_poll.specs.declared.fault.PollFault.TheVariants as faults
 use Rattle.t5t_tag.proofs.Bytes.{equal_bytes}
-use Rattle.tag_writer.specs.declared.fault.WriteFault.TheVariants as writing
-use Rattle.tag_writer.specs.Faults.{ending_of}
 use Rattle.tag_writer.specs.Law.{Ending, Stopped}
 use Rattle.bench_script.specs.declared.command.Command.TheVariants.{Write}
 use Rattle.bench_script.specs.declared.command.DeviceId.{DeviceId}
@@ -25,7 +23,7 @@ use Rattle.bench_devices.specs.TagAsking.{then_asks, tag_due}
 use Rattle.bench_devices.specs.CardAsking.{tag_next}
 use Rattle.bench_devices.specs.Placed.{device_with, OfPlaced, IfPlaced}
 use Rattle.bench_devices.specs.Keeping.{Kept, kept, IsSound, StoreOf, AllKeepBut, Leaves, held_by}
-use Rattle.bench_devices.specs.Phases.{WriteEnd, FailsWrite, Selects, SelectsAt, SelectionCut, Stands, Writes, WritesSome, WritesAt, CutAtWrite, IsIdle}
+use Rattle.bench_devices.specs.Phases.{WriteEnd, FailsWrite, Selects, SelectsAt, SelectionCut, Writes, WritesSome, IsIdle}
 use Rattle.bench_devices.specs.Writing.{AsksWriteOf, ShowsWrite, KeepsWriteLaw}
 use Rattle.bench_devices.proofs.EveryFrame.{IsSoundOne, leaves_more, leaves_behind}
 use Rattle.bench_devices.proofs.ImagesJoin.{held_kept, law_start, with_alone}
@@ -41,9 +39,9 @@ use Rattle.far_air.specs.Quietly.{NoneHands}
 use Rattle.bench_world.proofs.Fronts.{field_behind, ends_behind}
 use Rattle.bench_world.proofs.Placed.{Upon}
 use Rattle.bench_world.proofs.Placing.{IsWith, with_sound}
-use Rattle.bench_world.proofs.Legality.{asks_for, above, none_in, front_of, trace_is, asks_obeyed, polled_of, missed_tells, both, then_tag, selected_with, peer_going, peer_over, peer_tells}
+use Rattle.bench_world.proofs.Legality.{asks_for, above, none_in, front_of, trace_is, asks_obeyed, polled_of, missed_tells, both, then_tag, selected_with, peer_going, peer_over, peer_tells, cut_tag, polled_tag}
 use Rattle.bench_world.proofs.AskedBehind.{tells_behind}
-use Rattle.bench_world.proofs.WriteTelling.{asks_same, outcome_same, law_same, law_stopped, fails_written, lost_written, six_written, same_ending, starved_or_not}
+use Rattle.bench_world.proofs.WriteTelling.{asks_same, outcome_same, law_same, fails_written, lost_written, six_written, same_ending}
 
 -- What a write asks of a placed device, and nothing where none is placed.
 write_asked : (old : Air Device) (id : DeviceId) (m : Msg) → IsIdle old
@@ -233,6 +231,7 @@ module _ (old mid : Air Device) (id : DeviceId) (m : Msg) (place : ℕ) (idle : 
         subst (λ es. StoresLaw (above os old) no_joins id m Stopped es) (sym (trace_is old new (tag_due id commands) ns g idle))
             (stores_above os old id m Stopped g.events (none_in (Write id m) (λ h. h) os old new commands ns g asked)
             (stores_behind new commands w.told.asked.notes w.told.asked.going Stopped w.told.asked.same w.law)),
+        cut_tag old mid id place idle s (StoreOf (device_id s.device)) (AsksWriteOf (message_of m) s.device) new w.told,
       )
 
 -- ... or selecting was
@@ -247,22 +246,5 @@ selection_cut_write old new id m idle part = λ ends peers.
       subst (λ es. StoresLaw (above os old) no_joins id m Stopped es) (sym (trace_is old new (tag_due id some.0) part.notes g idle))
           (stores_above os old id m Stopped g.events (none_in (Write id m) (λ h. h) os old new some.0 part.notes g some.1)
           (polled_stores id (message_of m) (moment old) (moment new) part.notes part.going part.same (sound_one old id idle))),
+      polled_tag old new id some.0 idle part,
     )
-
--- What was asked in a write, however it ended.
-pub write_part : (old new : Moment BenchWorld) (place : ℕ) (d : Device) (message : List ℕ) (r : WriteEnd) → Stands old place d → WritesAt old new place message r → CutAtWrite old new place message r
-    → WritesSome old new d message
-write_part old new place d message r stands told cut = by_memory (starved_or_not r)
-  where
-    by_memory : (r ≡ Err writing.Memory) ⊎ (r ≡ Err writing.Memory → ⊥) → WritesSome old new d message
-    by_memory (inl starved) = cut starved d stands
-    by_memory (inr fed) =
-        let w = told fed d stands in
-        record {
-          told = record {
-            commands = w.told.commands;
-            asks = w.told.asks;
-            asked = record { notes = w.told.asked.notes; going = w.told.asked.going; same = w.told.asked.same };
-          };
-          law = law_stopped message d (ending_of r) old.world w.told.asked.going.events w.law;
-        }

@@ -1,5 +1,5 @@
 -- What a write came to, and the answer that tells it.
-use Rattle.std.proofs.Common.{◌≡◌, ◌⊎◌, inl, inr, ℕ, false, List, Option, Some, None, Ok, Err, refl, sym, ◌∙◌, ap, subst}
+use Rattle.std.proofs.Common.{◌≡◌, inl, inr, ℕ, false, List, Option, Some, None, Ok, Err, refl, sym, ◌∙◌, ap, subst}
 use Rattle.nfc_base.specs.Signal.{Signal}
 use Rattle.nfc_base.specs.TagLinks.{TagState, TagStep, plain_state}
 use Rattle.nfc_base.specs.declared.event.Event.{Event}
@@ -11,7 +11,7 @@ use Rattle.tag_reader.specs.Kinds.{t2_step, t5_step}
 use Rattle.tag_reader.specs.Files.{t4_link_step}
 use Rattle.tag_writer.specs.declared.fault.WriteFault.TheVariants as writing
 use Rattle.tag_writer.specs.Faults.{ending_of}
-use Rattle.tag_writer.specs.Law.{Ending, Stopped, WriteLaw}
+use Rattle.tag_writer.specs.Law.{Ending, WriteLaw}
 use Rattle.tag_writer.specs.Outcome.{IsOutcome}
 use Rattle.tag_writer.specs.WriteAsked.{IsWriteAsked}
 use Rattle.tag_writer.proofs.OneOutcome.{one_outcome_by}
@@ -65,10 +65,6 @@ module _ (d e : Device) (same : kept d ≡ kept e) (message : List ℕ) where
   law_same ending w es law =
       let P : Kept → Type 0 = λ k. WriteLaw k.fixed.how k.fixed.size k.store message ending (images_of k.fixed.id w es) in
       subst P same law
-
--- whatever stopped it, a write's stores keep the law as of one that was stopped
-pub law_stopped : (message : List ℕ) (d : Device) (ending : Ending) (w : BenchWorld) (es : List Event) → KeepsWriteLaw message d ending w es → KeepsWriteLaw message d Stopped w es
-law_stopped message d ending w es law = record { takes = λ place takes. record { three = (law.takes place takes).three; leaves = tt }; stays = law.stays }
 
 told_once : (a b : Answer) → ◌≡◌ {A = Option Answer} (Some a) (Some b) → a ≡ b
 told_once a b e = cc
@@ -142,25 +138,6 @@ same_ending (Err writing.ReadOnly) answer t = ap ending_told (told_once answers.
 same_ending (Err (writing.TooLong room)) answer t = ap ending_told (told_once (answers.TooLong room) answer t)
 same_ending (Err writing.ShortMlc) answer t = ap ending_told (told_once answers.ShortMlc answer t)
 same_ending (Err writing.Protocol) answer t = absurd (no_answer answer t)
-
--- A write may end by want of memory, or it doesn't.
-pub starved_or_not : (r : WriteEnd) → (r ≡ Err writing.Memory) ⊎ (r ≡ Err writing.Memory → ⊥)
-starved_or_not (Ok done) = inr (λ e. cc)
-starved_or_not (Err writing.NotNdef) = inr (λ e. cc)
-starved_or_not (Err writing.Version) = inr (λ e. cc)
-starved_or_not (Err writing.NoRead) = inr (λ e. cc)
-starved_or_not (Err writing.Sectors) = inr (λ e. cc)
-starved_or_not (Err writing.BadSize) = inr (λ e. cc)
-starved_or_not (Err writing.NoMessageTlv) = inr (λ e. cc)
-starved_or_not (Err writing.BadTlv) = inr (λ e. cc)
-starved_or_not (Err (writing.Refused code)) = inr (λ e. cc)
-starved_or_not (Err writing.FieldLost) = inr (λ e. cc)
-starved_or_not (Err writing.SixBad) = inr (λ e. cc)
-starved_or_not (Err writing.Memory) = inl refl
-starved_or_not (Err writing.ReadOnly) = inr (λ e. cc)
-starved_or_not (Err (writing.TooLong room)) = inr (λ e. cc)
-starved_or_not (Err writing.ShortMlc) = inr (λ e. cc)
-starved_or_not (Err writing.Protocol) = inr (λ e. cc)
 
 -- No write ends by a frame that isn't allowed, so an answer tells of each.
 never_odd : (e : AskFault) → FailsWrite e (Err writing.Protocol) → ⊥

@@ -1,11 +1,11 @@
 -- What a command answers that polls, and the cause of each answer.
-use Rattle.std.specs.Prelude.{◌≡◌, ◌↔◌, ◌<◌, List, Option, Some, None, IsSome, ◌⊎◌, Result, Ok, Err}
+use Rattle.std.specs.Prelude.{◌≡◌, ◌↔◌, ◌<◌, List, [], Option, Some, None, IsSome, ◌⊎◌, Result, Ok, Err}
 use Rattle.nfc_base.specs.Signal.{Signal}
 use Rattle.nfc_base.specs.Trace.{noise, breaks}
 use Rattle.nfc_base.specs.declared.event.Event.{Event}
 use Rattle.nfc_base.specs.declared.tag_link.AskFault.{AskFault}
 use Rattle.nfc_base.specs.declared.tag_link.AskFault.TheVariants as asking
-use Rattle.air_core.specs.Conversation.{Note, receptions}
+use Rattle.air_core.specs.Conversation.{Note, EachDue, receptions}
 use Rattle.nfca_poll.specs.declared.fault.PollFault.{PollFault}
 use Rattle.nfca_poll.specs.declared.fault.PollFault.TheVariants as faults
 use Rattle.tag_reader.specs.declared.fault.ReadFault.{ReadFault}
@@ -17,9 +17,9 @@ use Rattle.bench_script.specs.DeviceIds.{bytes_of}
 use Rattle.bench_devices.specs.declared.device.Device.{Device}
 use Rattle.bench_devices.specs.declared.polling.SeenKind.{SeenKind}
 use Rattle.bench_devices.specs.declared.sweeping.Everybody.{Everybody}
-use Rattle.bench_devices.specs.Polling.{Told, selecting}
+use Rattle.bench_devices.specs.Polling.{Told, asks, selecting}
 use Rattle.bench_devices.specs.Placed.{device_with, OfPlaced}
-use Rattle.bench_devices.specs.Answering.{HasPollCause, TellsBy}
+use Rattle.bench_devices.specs.Answering.{HasPollCause, TellsBy, GoesOnBy}
 use Rattle.bench_devices.specs.Phases.{WriteEnd}
 use Rattle.bench_world.specs.declared.entry.Answer.{Answer}
 use Rattle.bench_world.specs.declared.entry.Answer.TheVariants as answers
@@ -102,6 +102,18 @@ pub record TagTells (Tells : Device → Answer → Type 0) (id : DeviceId) (ds :
   pub ends : TagEnds Tells id ds asked polled behind answer
   pub lost : (answer ≡ answers.FieldLost) ↔ (0 < breaks events)
   pub noisy : answer ≡ answers.SixBad → 0 < noise events
+
+-- Nothing but want of memory ended what is asked of a selected tag: what was heard broke off no wait, and no Break was used.
+pub record IsUnbrokenTag (id : DeviceId) (asked : List Signal) (cut : List Event) : Type 0 where
+  pub kind : SeenKind
+  pub behind : List Note
+  pub selected : selecting id (receptions cut) ≡ Told (Ok kind) behind
+  pub unbroken : GoesOnBy kind asked behind
+  pub unlost : breaks cut ≡ 0
+
+-- A read or a write that was cut off: all that happened selects the tag, or so it ended.
+abbrev pub CutTag : DeviceId → List Signal → List Event → Type 0
+CutTag id asked cut = EachDue (λ ns. asks (selecting id ns)) [] cut ⊎ IsUnbrokenTag id asked cut
 
 -- What a search answers, by what it has come to. The other faults never end one on the bench.
 abbrev pub TellsFound : Result Everybody PollFault → Answer → Type 0

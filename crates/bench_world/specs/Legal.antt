@@ -45,7 +45,7 @@ use Rattle.bench_world.specs.Links.{OpenLink, ended, is_with, end_numbered, begu
 use Rattle.bench_world.specs.Linking.{LinkTells, link_if, own_general}
 use Rattle.bench_world.specs.Calls.{IfLinked, IsTold, OfEnd, PutAdds, PutAddsAtMost, GetTells, LookupTells, due_if, due_on, due_closing, stands_on, stands_closing, told_call, told_closing, call_behind, with_accepted}
 use Rattle.bench_world.specs.Arriving.{ArrivesAt, BeginsAt}
-use Rattle.bench_world.specs.Answering.{TagTells, TellsFound}
+use Rattle.bench_world.specs.Answering.{TagTells, TellsFound, CutTag}
 use Rattle.bench_world.specs.Reading.{TellsOf, ReadAsks}
 use Rattle.bench_world.specs.Writing.{TellsWrite, WriteAsks, KeepsStores, ending_told}
 use Rattle.bench_devices.specs.Answering.{FindTells}
@@ -466,6 +466,15 @@ CutStores s joins c cut = LeavesStable s joins c cut
 abbrev pub CutFront : Joins → State → Command → List Event → State → Type 0
 CutFront joins s c cut t = (g : Given) × (g.joins ≡ joins) × FrontOf s g c cut None t × CutStores s g.joins c cut
 
+-- a front of a step that was cut off, and of a read and a write how
+abbrev pub CutFrontBy : (List Signal → Type 0) → Joins → State → Command → List Event → State → Type 0
+CutFrontBy How joins s c cut t = (g : Given) × (g.joins ≡ joins) × FrontOf s g c cut None t × CutStores s g.joins c cut × How g.asked
+
+abbrev pub CutShort : Joins → State → Command → List Event → State → Type 0
+CutShort joins s (Read id) cut t = CutFrontBy (λ asked. CutTag id asked cut) joins s (Read id) cut t
+CutShort joins s (Write id message) cut t = CutFrontBy (λ asked. CutTag id asked cut) joins s (Write id message) cut t
+CutShort joins s c cut t = CutFront joins s c cut t
+
 -- What a call may add at most to what the peer's server accepted, at which its end stopped: a put its message, once, and
 -- any other nothing.
 abbrev pub HaltAdds : Command → FarEnd → List Accepted → Type 0
@@ -513,7 +522,7 @@ Halts joins s c cut t = ⊥
 -- What want of memory leaves of a command: nothing was done, there is a front of its step, or the peer's end stopped
 -- behind one.
 abbrev pub CutOff : Joins → State → Command → List Event → State → Type 0
-CutOff joins s c cut t = ((cut ≡ []) × (t ≡ s)) ⊎ (CutFront joins s c cut t ⊎ Halts joins s c cut t)
+CutOff joins s c cut t = ((cut ≡ []) × (t ≡ s)) ⊎ (CutShort joins s c cut t ⊎ Halts joins s c cut t)
 
 -- The entries lead from one state to another, each behind those before it, and each has what its step is said for.
 abbrev pub EachLegal : State → List Given → List Entry → State → Type 0

@@ -11,7 +11,7 @@ use Rattle.bench_script.specs.declared.command.Command.TheVariants.{Skip}
 use Rattle.bench_devices.specs.declared.device.Device.{Device}
 use Rattle.bench_world.specs.declared.entry.Answer.{Answer}
 use Rattle.bench_world.specs.declared.entry.Entry.{Entry}
-use Rattle.bench_world.specs.Legal.{State, Given, Joins, Accepts, AnswerLaw, FrontOf, LegalStep, CutFront, CutOff, due, first_state, no_joins}
+use Rattle.bench_world.specs.Legal.{State, Given, Joins, Accepts, AnswerLaw, FrontOf, LegalStep, CutShort, CutOff, due, first_state, no_joins}
 use Rattle.bench_devices.specs.Keeping.{AreTame, kept}
 use Rattle.bench_devices.specs.Phases.{AreTidy, IsIdle}
 use Rattle.bench_devices.specs.Device.{device_darkened}
@@ -157,7 +157,7 @@ ObeyedUnlinked old new c answer =
 
 abbrev pub CutOffUnlinked : Air Device → Air Device → Command → Type 0
 CutOffUnlinked old new c =
-    (ends : List (Option FarEnd)) (peers : Peers) → CutFront no_joins (state_at (under ends peers None old)) c new.trace (state_at (under ends peers None new))
+    (ends : List (Option FarEnd)) (peers : Peers) → CutShort no_joins (state_at (under ends peers None old)) c new.trace (state_at (under ends peers None new))
 
 -- What contracts see of a bench: the journals of its finished runs, in order; the journal of the run that goes on; the
 -- state that its machines are in; what happened in a command that want of memory cut off, since its last entry; and

@@ -1,7 +1,9 @@
 //! Which answers tell what selecting, reading, writing and searching came to.
 
-ghost use Rattle.std.specs.Prelude.{◌≡◌, ◌⊎◌, Some, IfOk, IsSome};
+ghost use Rattle.std.specs.Prelude.{◌≡◌, ◌⊎◌, Some, Err, IfOk, OnErr, IsSome};
 ghost use Rattle.nfca_poll.specs.declared.fault.PollFault.TheVariants as faults;
+ghost use Rattle.tag_reader.specs.declared.fault.ReadFault.TheVariants as reading;
+ghost use Rattle.tag_writer.specs.declared.fault.WriteFault.TheVariants as writing;
 ghost use Rattle.bench_world.specs.Answering.{poll_answer, told_by, MayEnd, written_by, MayEndWrite};
 ghost use Rattle.bench_world.specs.Crowded.{seen_card, seen_all, is_crowd};
 
@@ -31,7 +33,8 @@ pub fn missed(fault: PollFault) -> Result<Answer, AllocError>
 /// The answer that tells what a read came to. A tag of the bench refuses no READ that is asked, and answers as it may.
 pub fn told(read: Result<Found, ReadFault>) -> Result<Answer, AllocError>
     requires { MayEnd read }
-    ensures { IfOk result (λ answer. told_by read ≡ Some answer) }
+    ensures ok { IfOk result (λ answer. told_by read ≡ Some answer) }
+    ensures starved { OnErr result (read ≡ Err reading.Memory) }
 {
     match read {
         Ok(found) => Ok(message(found)),
@@ -54,7 +57,8 @@ fn message(found: Found) -> Answer
 /// The answer that tells why there is no message.
 fn unread(fault: ReadFault) -> Result<Answer, AllocError>
     requires { MayEnd (Err fault) }
-    ensures { IfOk result (λ answer. told_by (Err fault) ≡ Some answer) }
+    ensures ok { IfOk result (λ answer. told_by (Err fault) ≡ Some answer) }
+    ensures starved { OnErr result (fault ≡ reading.Memory) }
 {
     match fault {
         ReadFault::NotNdef => Ok(Answer::NotNdef),
@@ -74,7 +78,8 @@ fn unread(fault: ReadFault) -> Result<Answer, AllocError>
 /// The answer that tells what a write came to. A tag of the bench answers as it may.
 pub fn written(write: Result<(), WriteFault>) -> Result<Answer, AllocError>
     requires { MayEndWrite write }
-    ensures { IfOk result (λ answer. written_by write ≡ Some answer) }
+    ensures ok { IfOk result (λ answer. written_by write ≡ Some answer) }
+    ensures starved { OnErr result (write ≡ Err writing.Memory) }
 {
     match write {
         Ok(()) => Ok(Answer::Written),
@@ -85,7 +90,8 @@ pub fn written(write: Result<(), WriteFault>) -> Result<Answer, AllocError>
 /// The answer that tells why the tag doesn't hold the message.
 fn unwritten(fault: WriteFault) -> Result<Answer, AllocError>
     requires { MayEndWrite (Err fault) }
-    ensures { IfOk result (λ answer. written_by (Err fault) ≡ Some answer) }
+    ensures ok { IfOk result (λ answer. written_by (Err fault) ≡ Some answer) }
+    ensures starved { OnErr result (fault ≡ writing.Memory) }
 {
     match fault {
         WriteFault::NotNdef => Ok(Answer::NotNdef),

@@ -26,4 +26,11 @@ returns-clause-tells c =
 pub returns-clause-cut : goal.returns-clause-cut
 returns-clause-cut c =
     let tag = new_is_tag (seen_plain c.args.link.now) c.requires.fresh c.args.how c.requires.tag in
-    ends_cut (seen_plain c.args.link.now) c.requires.fresh c.args.how c.requires.tag (seen_plain c.read.new.link) c.read.ensures.moves c.read.result (c.read.ensures.asked tag.0 tag.1)
+    ends_cut (seen_plain c.args.link.now) c.requires.fresh c.args.how c.requires.tag (seen_plain c.read.new.link) c.read.ensures.moves c.read.result (record {
+      order = c.read.ensures.asked tag.0 tag.1;
+      all = c.read.ensures.whole tag.0 tag.1;
+      goes_on = c.read.ensures.goes_on tag.0 tag.1;
+      ok = c.read.ensures.ok tag.0 tag.1;
+      err = c.read.ensures.err tag.0 tag.1;
+      calm = c.read.ensures.calm tag.0 tag.1;
+    })

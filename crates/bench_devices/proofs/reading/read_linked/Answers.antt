@@ -27,4 +27,11 @@ returns-clause-tells c fed d linked =
 pub returns-clause-cut : goal.returns-clause-cut
 returns-clause-cut c starved d linked =
     let tag = new_tag (seen_link c.args.link.now) c.requires.fresh d linked in
-    cut_read (seen_link c.args.link.now) c.requires.fresh d linked (seen_link c.read.new.link) c.read.ensures.moves (c.read.ensures.stays (size_of d) tag).store (c.read.ensures.asked (size_of d) tag)
+    cut_read (seen_link c.args.link.now) c.requires.fresh d linked (seen_link c.read.new.link) c.read.ensures.moves c.read.result starved (c.read.ensures.stays (size_of d) tag).store (record {
+      order = c.read.ensures.asked (size_of d) tag;
+      all = c.read.ensures.whole (size_of d) tag;
+      goes_on = c.read.ensures.goes_on (size_of d) tag;
+      ok = c.read.ensures.ok (size_of d) tag;
+      err = c.read.ensures.err (size_of d) tag;
+      calm = c.read.ensures.calm (size_of d) tag;
+    })

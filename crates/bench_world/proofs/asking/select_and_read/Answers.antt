@@ -5,12 +5,13 @@ use Rattle.bench_script.specs.declared.command.Command.TheVariants.{Read}
 use Rattle.bench_devices.specs.declared.polling.Selection.{Selection}
 use Rattle.bench_devices.specs.Phases.{Selects, SelectsAt, SelectsTo}
 use Rattle.bench_world.specs.Answering.{poll_answer, told_by}
-use Rattle.bench_world.specs.Obeying.{ObeyedUnlinked}
+use Rattle.bench_world.specs.Obeying.{ObeyedUnlinked, CutOffUnlinked}
 use Rattle.bench_devices.specs.Device.{is_tag}
+use Rattle.tag_reader.specs.declared.fault.ReadFault.TheVariants as reading
 use Rattle.bench_world.proofs.SelectedPlace.{looked_at}
-use Rattle.bench_world.proofs.Legality.{peer_obeyed, read_obeyed, missed_obeyed, read_cut, read_part, selection_cut, missed_part}
+use Rattle.bench_world.proofs.Legality.{peer_obeyed, read_obeyed, missed_obeyed, read_cut, selection_cut, missed_part}
 use Rattle.bench_world.proofs.Telling.{poll_told, may_end, fed_by}
-use Rattle.bench_world.proofs.Outcomes.{if_ok, on_err}
+use Rattle.bench_world.proofs.Outcomes.{if_ok, on_err, on_err_by}
 use Rattle.bench_world.proofs.asking.select_and_read.Goals as goal
 
 pub read-requires : goal.read-requires
@@ -36,7 +37,7 @@ returns-in-Place-clause-ok c =
     if_ok c.told.result (λ answer. told_by c.read.result ≡ Some answer)
     (λ answer. ObeyedUnlinked c.args.field.now c.read.new.field (Read c.args.id.now) answer)
     (λ answer told. read_obeyed c.args.field.now c.select.new.field c.read.new.field c.args.id.now c.in-Place.place c.read.result answer told c.requires s tag
-    (c.read.ensures.tells (fed_by c.read.result answer told) s.device s.stands)) c.told.ensures
+    (c.read.ensures.tells (fed_by c.read.result answer told) s.device s.stands)) c.told.ensures.ok
 
 pub missed-requires : goal.missed-requires
 missed-requires c =
@@ -58,8 +59,8 @@ returns-in-Place-clause-cut c =
     let s : SelectsAt c.args.id.now c.in-Place.place (moment c.args.field.now) (moment c.select.new.field) = subst S c.in-Place.is c.in_ok-place.ensures.ok in
     let found = looked_at c.select.new.field c.in-Place.place s.device s.stands c.listeners.result.now c.index-listeners-place.result c.listeners.ensures c.index-listeners-place.is in
     let tag : is_tag s.device ≡ true = sym (ap is_tag found) ∙ sym c.is_tag.ensures ∙ c.if-is_tag.true in
-    on_err c.told.result (read_cut c.args.field.now c.select.new.field c.args.id.now c.in-Place.place c.requires s c.read.new.field tag
-    (read_part (moment c.select.new.field) (moment c.read.new.field) c.in-Place.place s.device c.read.result s.stands c.read.ensures.tells c.read.ensures.cut))
+    on_err_by c.told.result (c.read.result ≡ Err reading.Memory) (CutOffUnlinked c.args.field.now c.read.new.field (Read c.args.id.now))
+    (λ starved. read_cut c.args.field.now c.select.new.field c.args.id.now c.in-Place.place c.requires s c.read.new.field tag (c.read.ensures.cut starved s.device s.stands)) c.told.ensures.starved
 
 pub returns-in-Missed-clause-cut : goal.returns-in-Missed-clause-cut
 returns-in-Missed-clause-cut c =

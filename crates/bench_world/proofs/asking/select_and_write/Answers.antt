@@ -9,11 +9,12 @@ use Rattle.bench_world.specs.Answering.{poll_answer, written_by}
 use Rattle.bench_script.specs.declared.message.Msg.{Msg}
 use Rattle.bench_world.specs.Obeying.{ObeyedUnlinked, CutOffUnlinked}
 use Rattle.bench_devices.specs.Device.{is_tag}
+use Rattle.tag_writer.specs.declared.fault.WriteFault.TheVariants as writing
 use Rattle.bench_world.proofs.SelectedPlace.{looked_at}
-use Rattle.bench_world.proofs.WriteLegality.{peer_write, write_obeyed, missed_write, write_cut, write_part, selection_cut_write}
+use Rattle.bench_world.proofs.WriteLegality.{peer_write, write_obeyed, missed_write, write_cut, selection_cut_write}
 use Rattle.bench_world.proofs.WriteTelling.{may_write, write_fed}
 use Rattle.bench_world.proofs.Legality.{missed_part}
-use Rattle.bench_world.proofs.Outcomes.{if_ok, on_err}
+use Rattle.bench_world.proofs.Outcomes.{if_ok, on_err, on_err_by}
 use Rattle.bench_world.proofs.asking.select_and_write.Goals as goal
 
 pub write-requires : goal.write-requires
@@ -42,20 +43,19 @@ returns-in-Place-clause-ok c =
     (λ answer told m is.
     let tells : W (message_of m) = subst W (sym is) c.write.ensures.tells in
     write_obeyed c.args.field.now c.select.new.field c.args.id.now m c.in-Place.place c.requires s c.write.new.field c.write.result answer told tag
-    (tells (write_fed c.write.result answer told) s.device s.stands)) c.written.ensures
+    (tells (write_fed c.write.result answer told) s.device s.stands)) c.written.ensures.ok
 
 pub returns-in-Place-clause-cut : goal.returns-in-Place-clause-cut
 returns-in-Place-clause-cut c =
     let S : Selection → Type 0 = λ s. SelectsTo c.args.id.now s (moment c.args.field.now) (moment c.select.new.field) in
     let s : SelectsAt c.args.id.now c.in-Place.place (moment c.args.field.now) (moment c.select.new.field) = subst S c.in-Place.is c.in_ok-place.ensures.ok in
-    let W : List ℕ → Type 0 = λ bytes. WritesAt (moment c.select.new.field) (moment c.write.new.field) c.in-Place.place bytes c.write.result in
     let C : List ℕ → Type 0 = λ bytes. CutAtWrite (moment c.select.new.field) (moment c.write.new.field) c.in-Place.place bytes c.write.result in
     let found = looked_at c.select.new.field c.in-Place.place s.device s.stands c.listeners.result.now c.index-listeners-place.result c.listeners.ensures c.index-listeners-place.is in
     let tag : is_tag s.device ≡ true = sym (ap is_tag found) ∙ sym c.is_tag.ensures ∙ c.if-is_tag.true in
-    let cut : (m : Msg) → message_of m ≡ c.args.bytes.now → CutOffUnlinked c.args.field.now c.write.new.field (Write c.args.id.now m) =
-    λ m is. write_cut c.args.field.now c.select.new.field c.args.id.now m c.in-Place.place c.requires s c.write.new.field tag
-    (write_part (moment c.select.new.field) (moment c.write.new.field) c.in-Place.place s.device (message_of m) c.write.result s.stands (subst W (sym is) c.write.ensures.tells) (subst C (sym is) c.write.ensures.cut)) in
-    on_err c.written.result cut
+    on_err_by c.written.result (c.write.result ≡ Err writing.Memory) ((m : Msg) → message_of m ≡ c.args.bytes.now → CutOffUnlinked c.args.field.now c.write.new.field (Write c.args.id.now m))
+    (λ starved m is.
+    let cut : C (message_of m) = subst C (sym is) c.write.ensures.cut in
+    write_cut c.args.field.now c.select.new.field c.args.id.now m c.in-Place.place c.requires s c.write.new.field tag (cut starved s.device s.stands)) c.written.ensures.starved
 
 pub returns-in-Missed-clause-ok : goal.returns-in-Missed-clause-ok
 returns-in-Missed-clause-ok c =
