@@ -75,7 +75,8 @@ module _ {C A : Type 0} (seen : C → CarrierView) (swaps : C → List ℕ → L
     pub swapped : BySwaps swaps did link now
     pub far_moved : FarMoved steps stops did far after
 
-  -- One exchange: the next payload, with so many PDUs, was answered, and the reply taken. It showed this on the connection from a SAP.
+  -- One exchange: the next payload, with so many PDUs, was answered, and the reply taken. It showed this on the
+  -- connection from a SAP.
   pub record Exchanged (count sap : ℕ) (old : EndState) (link : C) (far : A) (passed : Passed) (new : EndState) (now : C) (after : A) : Type 0 where
     pub reply : List ℕ
     pub swap : SwapDone steps (seen link) (seen now) (given silent count old) reply far after

@@ -154,8 +154,8 @@ abbrev pub leaving : EndState → ℕ → Bool → Ready
 leaving l sap true = ready_so (disconnected_by l (own_of sap l)) Closes
 leaving l sap false = ready_so l (Over Done)
 
--- What a task puts into the queue before any payload, and its job: a connection is asked for, a name is looked up, or the
--- connection is ended.
+-- What a task puts into the queue before any payload, and its job: a connection is asked for, a name is looked up, or
+-- the connection is ended.
 abbrev pub opening : EndState → ℕ → Task → Ready
 opening l sap (Puts message) = ready_so (connected l sap) (Begins None (put_bytes message))
 opening l sap (Gets most key) = ready_so (connected l sap) (Begins (Some most) (get_bytes most key))

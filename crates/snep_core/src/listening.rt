@@ -36,8 +36,8 @@ fn gives_more(some: bool, bytes: &[u8]) -> bool
 }
 
 impl Client {
-    /// The units that were handed up on the connection from a SAP, each taken away. None where one of them puts the far end
-    /// at fault, or comes while one of this end's waits to be given.
+    /// The units that were handed up on the connection from a SAP, each taken away. None where one of them puts the far
+    /// end at fault, or comes while one of this end's waits to be given.
     fn hear_units(&mut self, sap: u8, first: Job, waiting: bool) -> Result<Option<Heard>, SnepFault>
         ensures ok { IfOk result (λ heard. HearsUnits sap waiting self.old.llc first heard self.new.llc) }
         ensures going { OnOk result (self.new.spent ≡ self.old.spent) }
@@ -97,8 +97,8 @@ impl Client {
         }
     }
 
-    /// What was heard makes of the job on the connection from a SAP, where a unit of this end waits to be given or none does.
-    /// None where the far end is at fault: the connection is forgotten.
+    /// What was heard makes of the job on the connection from a SAP, where a unit of this end waits to be given or none
+    /// does. None where the far end is at fault: the connection is forgotten.
     pub(crate) fn hear(
         &mut self,
         sap: u8,

@@ -32,8 +32,8 @@ impl Client {
         }
     }
 
-    /// One exchange: the next payload goes out, with so many PDUs, and its reply is taken. Told is what it showed on the
-    /// connection from a SAP.
+    /// One exchange: the next payload goes out, with so many PDUs, and its reply is taken. Told is what it showed on
+    /// the connection from a SAP.
     fn exchange<C: Carrier, A: Answerer>(
         &mut self,
         carrier: &mut C,
