@@ -350,6 +350,7 @@ pub struct Run {
 
 impl Model for Run {
     ghost use Rattle.std.specs.Prelude.{List};
+    ghost use Rattle.bench_world.specs.declared.entry.Entry.{Entry};
 
     ghost Value = { List Entry };
 
