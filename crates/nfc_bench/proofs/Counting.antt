@@ -55,7 +55,7 @@ entries_few (l ∷ ls) (e ∷ es) of = omega (arith, entries_few ls es of.2)
 pub journal_few : (lines : List (List ℕ)) (b : Benched) → AreWithinLimits lines → AreObeyed lines b → length b.journal ≤ most_lines
 journal_few lines b limits obeyed =
     let few : length lines ≤ most_lines = limits.few in
-    omega (arith, few, asking_few 1 lines, entries_few (asking_lines 1 lines) b.journal obeyed.legal.leads.numbered)
+    omega (arith, few, asking_few 1 lines, entries_few (asking_lines 1 lines) b.journal obeyed.run.legal.leads.numbered)
 
 -- No put of a legal journal is too long.
 accepted_short : (s : State) (c : Command) → Accepts s c → put_size c ≤ longest_message
@@ -68,4 +68,4 @@ each_short s t [] (e ∷ es) steps = absurd steps
 each_short s t (g ∷ gs) (e ∷ es) steps = All-cons PutsShort e es (accepted_short s e.command steps.1.front.accepted) (each_short steps.0 t gs es steps.2)
 
 pub puts_short : (lines : List (List ℕ)) (b : Benched) → AreObeyed lines b → All PutsShort b.journal
-puts_short lines b obeyed = each_short first_state obeyed.legal.last obeyed.legal.leads.given b.journal obeyed.legal.leads.steps
+puts_short lines b obeyed = each_short first_state obeyed.run.legal.last obeyed.run.legal.leads.given b.journal obeyed.run.legal.leads.steps

@@ -1,199 +1,99 @@
 -- How a run ends, by how its parts did.
-use Rattle.std.proofs.Common.{◌≡◌, ℕ, ◌+◌, ◌<◌, ◌≤◌, ◌⊎◌, List, [], ◌∷◌, ◌++◌, length, take, drop, Bool, true, false, Option, Some, None, Result, Ok, Err, refl, sym, ◌∙◌, ap, subst, append_assoc, arith, inl, inr}
+use Rattle.std.proofs.Common.{◌≡◌, ℕ, ◌+◌, ◌≤◌, List, [], ◌∷◌, ◌++◌, length, Bool, false, Option, Some, None, Result, Ok, Err, refl, sym, ◌∙◌, ap, subst, append_assoc, arith, inl, inr}
 use Rattle.std.specs.Prelude.{IfSome, OnOk, OnErr}
 use Rattle.std.specs.List.{All}
-use Rattle.std.proofs.lemmas.Bool.{cases_Bool}
-use Rattle.std.proofs.lemmas.List.{append-nil, length-append, length-take-le, take-append-drop}
+use Rattle.std.proofs.lemmas.List.{append-nil, length-append}
 use Rattle.nfc_io.specs.Counts.{HasRisen}
-use Rattle.nfc_io.specs.Moves.{with_front, with_end, GainsFront}
+use Rattle.nfc_io.specs.Moves.{with_end, GainsFront}
 use Rattle.nfc_io.specs.Lines.{lines_of, whole_lines, NoLf}
 use Rattle.nfc_io.specs.Reading.{Lined, Advances, Looks}
-use Rattle.nfc_io.specs.declared.line_reader.LineStop.{LineStop}
 use Rattle.nfc_io.specs.declared.line_reader.LineStop.TheVariants as ends
 use Rattle.nfc_io.proofs.Counts.{rises_at_last}
-use Rattle.nfc_io.proofs.Moves.{with_end-append, with_end-nil, with_front-nil, read_on}
-use Rattle.nfc_io.proofs.Lines.{GoesOn, some_line, lines_longer, whole_last}
+use Rattle.nfc_io.proofs.Moves.{with_end-append, with_end-nil, read_on}
+use Rattle.nfc_io.proofs.Lines.{whole_last}
 use Rattle.nfc_bench.specs.declared.top.lines.Stop.{Stop}
 use Rattle.nfc_bench.specs.declared.top.lines.Stop.TheVariants.{Refused, ReadFault, WriteFault, Memory}
 use Rattle.bench_script.specs.Limits.{most_lines, longest_line, AreWithinLimits}
+use Rattle.bench_world.specs.declared.entry.Entry.{Entry}
 use Rattle.bench_world.specs.Report.{entry_text, report_text}
 use Rattle.bench_world.specs.Legal.{first_state}
-use Rattle.bench_world.specs.Obeying.{Benched, new_bench}
+use Rattle.bench_world.specs.Obeying.{Benched, begun_anew, new_bench}
 use Rattle.bench_world.specs.Taking.{AreSpelled, IsTaken, standing_of}
 use Rattle.bench_world.proofs.Shapes.{TakenAlike, legal_taken, taken_at, taken_too}
-use Rattle.nfc_bench.specs.Run.{AreObeyed, FirstRefused, AllTaken, RefusesLine, ObeysFront, AddsFault, line_fault, read_fault, EndsDone, EndsRefused, EndsUnread, EndsUnwritten, ReadsInTime}
+use Rattle.nfc_bench.specs.Run.{AreObeyed, FirstAreObeyed, FirstRefused, AllTaken, RefusesLine, ObeysFront, AddsFault, line_fault, read_fault, EndsDone, EndsRefused, EndsUnread, EndsUnwritten}
 use Rattle.nfc_bench.specs.Stops.{Follows, LineRefused, LineCut, LineLost, LineStops, Lost, ObeyedBy, RunRefused, RunUnread, RunLost, RunStops}
 use Rattle.nfc_bench.proofs.Limits.{all_at, IsShort, limits_more, no_limits}
-use Rattle.nfc_bench.proofs.Progress.{Progress, GaveNext, Goes, goes, lines_on, whole_on, ended_on, leads_to, obeyed_lost, obeyed_more, obeyed_new}
+use Rattle.nfc_bench.proofs.Reading.{ReadsAll, ReadsToLimit, goes_on_by, goes_looking, read_at_end, read_at_limit}
+use Rattle.nfc_bench.proofs.Progress.{Progress, GaveNext, Goes, goes, whole_on, leads_to, obeyed_lost, obeyed_more, obeyed_new}
 use Rattle.nfc_bench.proofs.Journals.{written_none}
-
--- the input goes on behind the text, where the source tells it; at the source's end by nothing
-record GoesOnBy (left : Option (List ℕ)) (text : List ℕ) (is_ended : Bool) : Type 0 where
-  pub more : List ℕ
-  pub follows : is_ended ≡ true → more ≡ []
-  pub told : IfSome left (λ bytes. text ++ more ≡ bytes)
-
-goes_on_by : (left left' : Option (List ℕ)) (text : List ℕ) (is_ended : Bool) → left ≡ with_front text left' → (is_ended ≡ true → IfSome left' (λ rest. rest ≡ [])) → GoesOnBy left text is_ended
-goes_on_by left None text is_ended read ended = record {
-  more = [];
-  follows = λ _. refl;
-  told = let P : Option (List ℕ) → Type 0 = λ o. IfSome o (λ bytes. text ++ [] ≡ bytes) in subst P (sym read) tt;
-}
-goes_on_by left (Some rest) text is_ended read ended = record {
-  more = rest;
-  follows = ended;
-  told = let P : Option (List ℕ) → Type 0 = λ o. IfSome o (λ bytes. text ++ rest ≡ bytes) in subst P (sym read) refl;
-}
 
 -- The lines that were obeyed are taken, and what is taken behind them is taken by the machines.
 abbrev pub done_taken : (done : List (List ℕ)) (b : Benched) → ObeyedBy done b → TakenAlike done b.state
-done_taken done b o = legal_taken done o.obeyed.legal.numbers b.journal b.state (leads_to done b o)
+done_taken done b o = legal_taken done o.obeyed.run.legal.numbers b.journal b.state (leads_to done b o)
 
 pub taken_there : (done : List (List ℕ)) (b : Benched) (o : ObeyedBy done b) (line : List ℕ) → IsTaken (standing_of (done_taken done b o).commands) line → IsTaken b.state line
 taken_there done b o line is = taken_too (standing_of (done_taken done b o).commands) b.state line (done_taken done b o).alike is
 
--- the line that is next, whatever follows
-next_line : (rest more : List ℕ) → 0 < length rest → (front behind : List ℕ) → rest ≡ front ++ behind → NoLf front → GoesOn front (lines_of (rest ++ more))
-next_line rest more some [] behind parts none = some_line rest more some
-next_line rest more some (b ∷ front) behind parts none =
-    let P : List ℕ → Type 0 = λ x. GoesOn (b ∷ front) (lines_of x) in
-    subst P (sym (ap (λ x. x ++ more) parts ∙ append_assoc (b ∷ front) behind more)) (lines_longer (b ∷ front) (behind ++ more) none (omega arith))
-
--- the next line, which begins so, is refused for its number or its length
-refused_by_size : (quiet : Bool) (left mid left' : Option (List ℕ)) (a : Lined) (j : Benched) (n : ℕ) (t t1 : Option (List ℕ)) (got front behind : List ℕ)
-    → Progress quiet left mid a j n t t1 → Goes a got mid left' → 0 < length (a.held ++ got) → a.held ++ got ≡ front ++ behind → NoLf front
-    → (most_lines < n) ⊎ (longest_line < length front) → RunRefused quiet left t t1 j n
-refused_by_size quiet left mid left' a j n t t1 got front behind p on some parts none why =
-    let text : List ℕ = p.text ++ got in
-    let by = goes_on_by left left' text a.is_ended (read_on left mid left' p.text got p.read on.read) (ended_on a got mid left' on p.ended) in
-    let next : GoesOn front (lines_of ((a.held ++ got) ++ by.more)) = next_line (a.held ++ got) by.more some front behind parts none in
-    let longer : length front ≤ length next.line = next.longer in
+-- the next line is one too many or too long
+pub refused_by_size : (quiet : Bool) (left mid : Option (List ℕ)) (a : Lined) (j : Benched) (n : ℕ) (t t1 : Option (List ℕ))
+    → (p : Progress quiet left mid a j n t t1) → ReadsToLimit left p.done → RunRefused quiet left t t1 j n
+refused_by_size quiet left mid a j n t t1 p r =
+    let number : n ≡ 1 + length p.done = p.number in
     record {
       lines = record {
-        input = text ++ by.more;
-        told = by.told;
+        input = r.input;
+        told = r.told;
         first = record {
           before = p.done;
-          line = next.line;
-          after = next.rest;
-          parts = lines_on quiet left mid left' a j n t t1 got p on by.more by.follows ∙ ap (λ x. p.done ++ x) next.parts;
+          line = r.cut.line;
+          after = r.cut.after;
+          parts = r.cut.parts;
           commands = (done_taken p.done j p.obeyed).commands;
           taken = (done_taken p.done j p.obeyed).taken;
-          limits = p.limits;
+          limits = r.limits;
           obeyed = p.obeyed.obeyed;
-          number = p.number;
-          refused = elim why [ inl many ↦ inl many | inr long ↦ inr (inl (omega arith)) ];
+          number = number;
+          refused = elim r.cut.beyond [ inl many ↦ inl (omega (arith, many, number)) | inr long ↦ inr (inl long) ];
         };
       };
       written = p.written;
     }
 
--- it is too long
-pub too_long : (quiet : Bool) (left mid left' : Option (List ℕ)) (a m : Lined) (j : Benched) (n : ℕ) (t t1 : Option (List ℕ))
-    → Progress quiet left mid a j n t t1 → Advances a m mid left' (Err ends.TooLong) → RunRefused quiet left t t1 j n
-too_long quiet left mid left' a m j n t t1 p adv =
-    let got : List ℕ = adv.fetched.got in
-    let parts : adv.text ≡ a.held ++ got = adv.fetched.parts in
-    let long : 4096 < length adv.text = adv.came.0 in
-    let front : length (take 4097 adv.text) ≡ 4097 = length-take-le 4097 adv.text (omega arith) in
-    refused_by_size quiet left mid left' a j n t t1 got (take 4097 adv.text) (drop 4097 adv.text) p (goes a adv.text mid left' adv.fetched)
-    (omega (arith, long, ap length parts)) (sym parts ∙ sym (take-append-drop 4097 adv.text)) adv.came.1 (inr (omega (arith, front)))
-
-goes_looking : (a b : Lined) (mid left' : Option (List ℕ)) (r : Result Bool LineStop) (l : Looks a b mid left' r) → Goes a l.got mid left'
-goes_looking a b mid left' r l = record {
-  read = l.read;
-  nothing = λ over. elim l.wanted [ inl is ↦ is | inr some ↦ absurd (let no : true ≡ false = sym over ∙ some.0 in absurd cc) ];
+-- every line was given, and is obeyed
+all_done : (quiet : Bool) (left mid left' : Option (List ℕ)) (a : Lined) (j : Benched) (n : ℕ) (t t1 : Option (List ℕ))
+    → (p : Progress quiet left mid a j n t t1) → ReadsAll left left' p.done → EndsDone quiet left left' t t1 j
+all_done quiet left mid left' a j n t t1 p r = record {
+  lines = record {
+    input = r.input;
+    told = r.told;
+    limits = subst (λ ls. AreWithinLimits ls) (sym r.parts) r.limits;
+    obeyed = subst (λ ls. AreObeyed ls j) (sym r.parts) p.obeyed.obeyed;
+  };
+  written = p.written;
 }
-
--- it is one too many
-pub too_many : (quiet : Bool) (left mid left' : Option (List ℕ)) (a m : Lined) (j : Benched) (n : ℕ) (t t1 : Option (List ℕ))
-    → Progress quiet left mid a j n t t1 → most_lines < n → Looks a m mid left' (Ok true) → RunRefused quiet left t t1 j n
-too_many quiet left mid left' a m j n t t1 p many look =
-    refused_by_size quiet left mid left' a j n t t1 look.got [] (a.held ++ look.got) p (goes_looking a m mid left' (Ok true) look)
-    look.found.0 refl (λ k small. absurd (omega arith)) (inl many)
-
--- What was read behind the lines of a text isn't more than one call gives.
-pub looks_in_time : (quiet : Bool) (left mid left' : Option (List ℕ)) (a m : Lined) (j : Benched) (n : ℕ) (t t1 : Option (List ℕ)) (r : Result Bool LineStop)
-    → Progress quiet left mid a j n t t1 → Looks a m mid left' r → ReadsInTime left left'
-looks_in_time quiet left mid left' a m j n t t1 r p look = elim look.wanted [
-  | inl none ↦ (
-      let same : mid ≡ left' = look.read ∙ ap (λ g. with_front g left') none ∙ with_front-nil left' in
-      subst (λ o. ReadsInTime left o) same p.time)
-  | inr (going, none, size) ↦ (
-      let lines : lines_of p.text ≡ p.done =
-      ap lines_of (sym (append-nil p.text)) ∙ p.lines [] (λ _. refl) ∙ ap (λ x. p.done ++ lines_of (x ++ [])) none ∙ append-nil p.done in
-      record {
-        front = p.text;
-        chunk = look.got;
-        read = read_on left mid left' p.text look.got p.read look.read;
-        short = subst (λ ls. AreWithinLimits ls) (sym lines) p.limits;
-        size = size;
-      })
-]
-
--- nothing is held or left: every line is obeyed
-told_all : (left left' : Option (List ℕ)) (text : List ℕ) → left ≡ with_front text left' → IfSome left' (λ rest. rest ≡ []) → IfSome left (λ bytes. (text ≡ bytes) × (left' ≡ Some []))
-told_all left None text read none =
-    let nothing : Option (List ℕ) = None in
-    let P : Option (List ℕ) → Type 0 = λ o. IfSome o (λ bytes. (text ≡ bytes) × (nothing ≡ Some [])) in
-    subst P (sym read) tt
-told_all left (Some rest) text read none =
-    let P : Option (List ℕ) → Type 0 = λ o. IfSome o (λ bytes. (text ≡ bytes) × (Some rest ≡ Some [])) in
-    subst P (sym read) (sym (ap (λ x. text ++ x) none ∙ append-nil text), ap Some none)
-
-all_done : (quiet : Bool) (left mid left' : Option (List ℕ)) (a : Lined) (j : Benched) (n : ℕ) (t t1 : Option (List ℕ)) (got : List ℕ)
-    → Progress quiet left mid a j n t t1 → Goes a got mid left' → a.held ++ got ≡ [] → IfSome left' (λ rest. rest ≡ []) → EndsDone quiet left left' t t1 j
-all_done quiet left mid left' a j n t t1 got p on nothing ended =
-    let L : List (List ℕ) → Type 0 = λ ls. AreObeyed ls j in
-    let lines : lines_of (p.text ++ got) ≡ p.done =
-    ap lines_of (sym (append-nil (p.text ++ got))) ∙ lines_on quiet left mid left' a j n t t1 got p on [] (λ _. refl) ∙ ap (λ x. p.done ++ lines_of (x ++ [])) nothing ∙ append-nil p.done in
-    record {
-      lines = record {
-        input = p.text ++ got;
-        told = told_all left left' (p.text ++ got) (read_on left mid left' p.text got p.read on.read) ended;
-        limits = subst (λ ls. AreWithinLimits ls) (sym lines) p.limits;
-        obeyed = subst L (sym lines) p.obeyed.obeyed;
-      };
-      written = p.written;
-    }
-
--- at the end no byte is left, whether it is known from before or not
-ended_now : (a : Lined) (got : List ℕ) (mid left' : Option (List ℕ)) → Goes a got mid left' → (a.is_ended ≡ true → IfSome mid (λ rest. rest ≡ []))
-    → (a.is_ended ≡ false → IfSome left' (λ rest. rest ≡ [])) → IfSome left' (λ rest. rest ≡ [])
-ended_now a got mid left' on before now = elim (cases_Bool a.is_ended) [
-  | inl over ↦ ended_on a got mid left' on before over
-  | inr going ↦ now going
-]
 
 pub done_at_end : (quiet : Bool) (left mid left' : Option (List ℕ)) (a m : Lined) (j : Benched) (n : ℕ) (t t1 : Option (List ℕ))
     → Progress quiet left mid a j n t t1 → Advances a m mid left' (Ok false) → EndsDone quiet left left' t t1 j
-done_at_end quiet left mid left' a m j n t t1 p adv =
-    let got : List ℕ = adv.fetched.got in
-    let on : Goes a got mid left' = goes a adv.text mid left' adv.fetched in
-    let over : m.is_ended ≡ true = ap (λ (v : Lined). v.is_ended) adv.came.1 in
-    all_done quiet left mid left' a j n t t1 got p on (sym adv.fetched.parts ∙ adv.came.0) (ended_now a got mid left' on p.ended (λ going. adv.ended going over))
+done_at_end quiet left mid left' a m j n t t1 p adv = all_done quiet left mid left' a j n t t1 p (read_at_end left mid left' a m p.done p.reads adv)
 
 pub done_at_limit : (quiet : Bool) (left mid left' : Option (List ℕ)) (a m : Lined) (j : Benched) (n : ℕ) (t t1 : Option (List ℕ))
     → Progress quiet left mid a j n t t1 → Looks a m mid left' (Ok false) → EndsDone quiet left left' t t1 j
-done_at_limit quiet left mid left' a m j n t t1 p look =
-    let on : Goes a look.got mid left' = goes_looking a m mid left' (Ok false) look in
-    let over : m.is_ended ≡ true = ap (λ (v : Lined). v.is_ended) look.found.1 in
-    all_done quiet left mid left' a j n t t1 look.got p on look.found.0 (ended_now a look.got mid left' on p.ended (λ going. look.ended going over))
+done_at_limit quiet left mid left' a m j n t t1 p look = all_done quiet left mid left' a j n t t1 p (read_at_limit left mid left' a m p.done p.reads look)
 
 -- the source failed, behind no whole line that isn't obeyed
 unread : (quiet : Bool) (left mid left' : Option (List ℕ)) (a : Lined) (j : Benched) (n : ℕ) (t t1 : Option (List ℕ)) (r r' : ℕ) (got : List ℕ)
     → Progress quiet left mid a j n t t1 → Goes a got mid left' → a.is_ended ≡ false → NoLf (a.held ++ got) → HasRisen r r' → RunUnread quiet left left' t t1 r r' j
 unread quiet left mid left' a j n t t1 r r' got p on going none risen =
     let L : List (List ℕ) → Type 0 = λ ls. AreObeyed ls j in
-    let whole : whole_lines (p.text ++ got) ≡ p.done =
-    ap whole_lines (sym (append-nil (p.text ++ got))) ∙ whole_on quiet left mid a j n t t1 got p [] going ∙ ap (λ x. p.done ++ whole_lines x) (append-nil (a.held ++ got))
+    let whole : whole_lines (p.reads.text ++ got) ≡ p.done =
+    ap whole_lines (sym (append-nil (p.reads.text ++ got))) ∙ whole_on left mid a p.done got p.reads [] going ∙ ap (λ x. p.done ++ whole_lines x) (append-nil (a.held ++ got))
     ∙ ap (λ x. p.done ++ x) (whole_last (a.held ++ got) none) ∙ append-nil p.done in
     record {
       risen = risen;
       lines = record {
-        read = p.text ++ got;
-        told = read_on left mid left' p.text got p.read on.read;
-        limits = subst (λ ls. AreWithinLimits ls) (sym whole) p.limits;
+        read = p.reads.text ++ got;
+        told = read_on left mid left' p.reads.text got p.reads.read on.read;
+        limits = subst (λ ls. AreWithinLimits ls) (sym whole) p.reads.limits;
         obeyed = subst L (sym whole) p.obeyed.obeyed;
       };
       written = p.written;
@@ -305,15 +205,18 @@ line_stops quiet left left' done m j new n t t1 t2 r r' w w1 w2 WriteFault o lim
 line_stops quiet left left' done m j new n t t1 t2 r r' w w1 w2 Memory o limits number written next few count s = lost_line quiet left left' done m j new t t1 t2 o limits written next s
 
 -- memory was wanting before a line was obeyed
+abbrev pub none_obeyed : (runs : List (List Entry)) (lines : List (List ℕ)) → FirstAreObeyed lines (begun_anew runs)
+none_obeyed runs lines = record { front = []; rest = lines; parts = refl; obeyed = (obeyed_new runs).obeyed }
+
+pub front_at_once : (left : Option (List ℕ)) (runs : List (List Entry)) → ObeysFront left (begun_anew runs)
+front_at_once None runs = record { input = []; told = tt; obeyed = none_obeyed runs (lines_of []); limits = no_limits }
+front_at_once (Some bytes) runs = record { input = bytes; told = refl; obeyed = none_obeyed runs (lines_of bytes); limits = no_limits }
+
 pub lost_at_once : (quiet : Bool) (left t : Option (List ℕ)) (b : Benched) → b ≡ new_bench → RunLost quiet left t t b
 lost_at_once quiet left t b none =
     let P : Benched → Type 0 = λ x. RunLost quiet left t t x in
-    let it : P new_bench = record { lines = lines_at_once left; written = written_none quiet t } in
+    let it : P new_bench = record { lines = front_at_once left []; written = written_none quiet t } in
     subst P (sym none) it
-  where
-    lines_at_once : (left : Option (List ℕ)) → ObeysFront left new_bench
-    lines_at_once None = record { input = []; told = tt; obeyed = record { front = []; rest = lines_of []; parts = refl; obeyed = obeyed_new.obeyed }; limits = no_limits }
-    lines_at_once (Some bytes) = record { input = bytes; told = refl; obeyed = record { front = []; rest = lines_of bytes; parts = refl; obeyed = obeyed_new.obeyed }; limits = no_limits }
 
 -- what a write of a fault line does
 pub fault_written : {T E : Type 0} (r : Result T E) (t t' : Option (List ℕ)) (w w' : ℕ) (fault : List ℕ)

@@ -2,6 +2,7 @@ pub mod Limits
 pub mod ScriptText
 pub mod Journals
 pub mod Progress
+pub mod Reading
 pub mod Endings
 pub mod Forms
 pub mod Writing

@@ -8,7 +8,7 @@ use Rattle.bench_world.specs.Obeying.{Benched}
 use Rattle.bench_world.specs.Taking.{AreSpelled, AreTaken, IsTaken}
 use Rattle.bench_world.proofs.Shapes.{taken_at}
 use Rattle.nfc_bench.specs.Run.{FirstAreObeyed}
-use Rattle.nfc_bench.specs.Stops.{Follows, Lost, ObeyedBy}
+use Rattle.nfc_bench.specs.Stops.{FirstUntaken, Follows, Lost, ObeyedBy}
 use Rattle.nfc_bench.proofs.Progress.{obeyed_lost, obeyed_more}
 use Rattle.nfc_bench.proofs.Endings.{done_taken, taken_there}
 
@@ -20,16 +20,32 @@ obeyed_next lines place old new within obeyed follows =
     subst (λ ls. ObeyedBy ls new) (sym (take_more lines place [] within))
     (obeyed_more (take place lines) old new (get_or lines place []) (place + 1) obeyed follows (omega (arith, front)))
 
--- where all lines are taken, it isn't refused
-pub taken_next : (lines : List (List ℕ)) (commands : List Command) (place : ℕ) (b : Benched) → place < length lines → AreTaken lines commands → ObeyedBy (take place lines) b → IsTaken b.state (get_or lines place [])
-taken_next lines commands place b within taken obeyed =
+-- it is the first that isn't taken
+pub untaken_next : (lines : List (List ℕ)) (place : ℕ) (old new : Benched) (text : List ℕ) → place < length lines → text ≡ get_or lines place [] → ObeyedBy (take place lines) old
+    → new ≡ old → (IsTaken old.state text → ⊥) → FirstUntaken lines new (place + 1)
+untaken_next lines place old new text within same obeyed stays refused =
     let done : List (List ℕ) = take place lines in
-    let line : List ℕ = get_or lines place [] in
-    let rest : List (List ℕ) = drop (suc place) lines in
-    let parts : lines ≡ done ++ line ∷ rest = sym (take-append-drop place lines) ∙ ap (λ x. done ++ x) (drop-cons lines place [] within) in
-    let spelled : AreSpelled (done ++ line ∷ rest) commands = subst (λ ls. AreSpelled ls commands) parts taken.spelled in
-    let it = done_taken done b obeyed in
-    taken_there done b obeyed line (taken_at first_state done line rest commands it.commands spelled taken.accepted it.taken.spelled)
+    let front : length done ≡ place = length-take-le place lines (omega arith) in
+    let here : ObeyedBy done new = subst (ObeyedBy done) (sym stays) obeyed in
+    let it = done_taken done new here in
+    let none : IsTaken new.state (get_or lines place []) → ⊥ = λ is. refused (subst (λ (b : Benched). IsTaken b.state text) stays (subst (IsTaken new.state) (sym same) is)) in
+    record {
+      before = done;
+      line = get_or lines place [];
+      after = drop (suc place) lines;
+      parts = sym (take-append-drop place lines) ∙ ap (λ x. done ++ x) (drop-cons lines place [] within);
+      commands = it.commands;
+      taken = it.taken;
+      obeyed = here;
+      number = omega (arith, front);
+      refused = λ is. none (taken_there done new here (get_or lines place []) is);
+    }
+
+-- where all lines are taken there is none
+pub none_untaken : (lines : List (List ℕ)) (commands : List Command) (b : Benched) (n : ℕ) → AreTaken lines commands → FirstUntaken lines b n → ⊥
+none_untaken lines commands b n taken f =
+    let spelled : AreSpelled (f.before ++ f.line ∷ f.after) commands = subst (λ ls. AreSpelled ls commands) f.parts taken.spelled in
+    f.refused (taken_at first_state f.before f.line f.after commands f.commands spelled taken.accepted f.taken.spelled)
 
 -- want of memory leaves those before it obeyed
 pub front_obeyed : (lines : List (List ℕ)) (place : ℕ) (old new : Benched) → ObeyedBy (take place lines) old → Lost old new → FirstAreObeyed lines new

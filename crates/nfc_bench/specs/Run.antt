@@ -61,15 +61,19 @@ read_fault = codes "fault 3 read\n"
 abbrev pub line_fault : ℕ → List ℕ
 line_fault n = codes "fault 2 line " ++ decimal n ++ codes "\n"
 
--- A bench obeyed these lines: its journal is legal for them where both ends of a link join as many PDUs as fit in each
--- payload, no other one is by the same numbers of PDUs, and it keeps the law of links. Unless want of memory spoiled the
--- bench, its machines are in the state that the journal leads to by these numbers.
-pub record AreObeyed (lines : List (List ℕ)) (b : Benched) : Type 0 where
-  pub legal : Legal lines b.journal
+-- These entries are a run of these lines: a journal that is legal for them where both ends of a link join as many PDUs as
+-- fit in each payload, no other one is by the same numbers of PDUs, and it keeps the law of links.
+pub record IsRunOf (lines : List (List ℕ)) (run : List Entry) : Type 0 where
+  pub legal : Legal lines run
   pub most : AllByRecursion (λ j. j ≡ no_joins) legal.numbers
-  pub only : (other : List Entry) (last : State) → LeadsTo lines legal.numbers other last → other ≡ b.journal
-  pub links : LinksAccept legal.numbers b.journal
-  pub machines : b.spoiled ≡ false → legal.last ≡ b.state
+  pub only : (other : List Entry) (last : State) → LeadsTo lines legal.numbers other last → other ≡ run
+  pub links : LinksAccept legal.numbers run
+
+-- A bench obeyed these lines: its journal is a run of them. Unless want of memory spoiled the bench, its machines are in the
+-- state that the journal leads to.
+pub record AreObeyed (lines : List (List ℕ)) (b : Benched) : Type 0 where
+  pub run : IsRunOf lines b.journal
+  pub machines : b.spoiled ≡ false → run.legal.last ≡ b.state
 
 -- It obeyed the first of these lines.
 pub record FirstAreObeyed (lines : List (List ℕ)) (b : Benched) : Type 0 where
@@ -201,6 +205,7 @@ pub record RanScript {S : Type 0} (quiet : Bool) (old new : Seen S) (n : ℕ) : 
   pub complete : Completes old new n
   -- nothing but want of memory spoils the bench
   pub sound : (n ≡ 5 → ⊥) → new.bench.spoiled ≡ false
+  pub runs : new.bench.finished ≡ old.bench.finished
   pub stop : ReadsInTime old.left new.left
   pub bound : ReadsAtMost most_read old.left new.left
 
@@ -233,6 +238,7 @@ pub record RanWorkload {S : Type 0} (seed count : ℕ) (old new : Seen S) (n : �
   pub complete : (HasRisen old.writes new.writes → ⊥) → (n ≡ 0) ⊎ (n ≡ 5)
   -- nothing but want of memory spoils the bench
   pub sound : (n ≡ 5 → ⊥) → new.bench.spoiled ≡ false
+  pub runs : new.bench.finished ≡ old.bench.finished
 
 -- What a run of a form did: which statuses there are and what each means is the form's own.
 abbrev pub RanAs : {S : Type 0} → Form → Seen S → Seen S → ℕ → Type 0

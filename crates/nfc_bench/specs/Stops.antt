@@ -1,20 +1,23 @@
 -- Why the parts of a run stop.
-use Rattle.std.specs.Prelude.{◌≡◌, ℕ, List, [], ◌∷◌, ◌++◌, Bool, true, false, Option, Result, Err}
+use Rattle.std.specs.Prelude.{◌≡◌, ℕ, ◌+◌, List, [], ◌∷◌, ◌++◌, length, Bool, true, false, Option, Result, Err}
 use Rattle.std.specs.List.{AllByRecursion}
 use Rattle.nfc_io.specs.Counts.{HasRisen}
 use Rattle.nfc_io.specs.Moves.{with_end, GainsFront}
 use Rattle.bench_world.specs.declared.entry.Entry.{Entry}
+use Rattle.bench_script.specs.declared.command.Command.{Command}
+use Rattle.nfc_bench.specs.declared.top.obeying.Unobeyed.{Unobeyed}
+use Rattle.nfc_bench.specs.declared.top.obeying.Unobeyed.TheVariants as unobeyed
 use Rattle.nfc_bench.specs.declared.top.lines.Stop.{Stop}
 use Rattle.nfc_bench.specs.declared.top.lines.Stop.TheVariants.{Refused, ReadFault, WriteFault, Memory}
 use Rattle.bench_world.specs.Legal.{Given, EachLegal, no_joins}
 use Rattle.bench_world.specs.Obeying.{Benched}
 use Rattle.bench_world.specs.Journal.{Numbered}
-use Rattle.bench_world.specs.Taking.{IsTaken}
+use Rattle.bench_world.specs.Taking.{IsTaken, AreTaken, standing_of}
 use Rattle.bench_world.specs.Report.{entry_text, report_text}
-use Rattle.nfc_bench.specs.Run.{AreObeyed, ObeysFront, RefusesLine, ObeysWhole, EndsUnwritten}
+use Rattle.nfc_bench.specs.Run.{AreObeyed, FirstAreObeyed, ObeysFront, RefusesLine, ObeysWhole, EndsUnwritten}
 
 -- A line was obeyed: the journal gained its entry, if it asks for something, and the machines are in the state behind
--- that. As many PDUs as fit were joined in each payload.
+-- that. As many PDUs as fit were joined in each payload. The finished runs stay.
 pub record Follows (old new : Benched) (n : ℕ) (l : List ℕ) : Type 0 where
   pub entries : List Entry
   pub given : List Given
@@ -23,6 +26,7 @@ pub record Follows (old new : Benched) (n : ℕ) (l : List ℕ) : Type 0 where
   pub numbered : Numbered n (l ∷ []) entries
   pub steps : EachLegal old.state given entries new.state
   pub sound : new.spoiled ≡ false
+  pub runs : new.finished ≡ old.finished
 
 -- one entry where the line asks for something, and none where it doesn't
 abbrev pub AreAsked : Bool → List Entry → Type 0
@@ -54,9 +58,10 @@ pub record LineCut (quiet : Bool) (old new : Benched) (n : ℕ) (l : List ℕ) (
   pub written : GainsFront taken taken' (entry_text quiet entry)
   pub risen : HasRisen writes writes'
 
--- Memory was wanting: the journal stays, and so do the machines of a bench that isn't spoiled.
+-- Memory was wanting: the journal and the finished runs stay, and so do the machines of a bench that isn't spoiled.
 pub record Lost (old new : Benched) : Type 0 where
   pub journal : new.journal ≡ old.journal
+  pub runs : new.finished ≡ old.finished
   pub machines : new.spoiled ≡ false → new ≡ old
 
 -- ... and nothing was written
@@ -75,6 +80,24 @@ LineStops quiet old new n l t t' w w' Memory = LineLost old new t t'
 pub record ObeyedBy (lines : List (List ℕ)) (b : Benched) : Type 0 where
   pub obeyed : AreObeyed lines b
   pub sound : b.spoiled ≡ false
+
+-- Line n of these lines is the first that isn't taken: those before it are, and it isn't behind what they spell. They were
+-- obeyed.
+pub record FirstUntaken (lines : List (List ℕ)) (b : Benched) (n : ℕ) : Type 0 where
+  pub before : List (List ℕ)
+  pub line : List ℕ
+  pub after : List (List ℕ)
+  pub parts : lines ≡ before ++ line ∷ after
+  pub commands : List Command
+  pub taken : AreTaken before commands
+  pub obeyed : ObeyedBy before b
+  pub number : n ≡ 1 + length before
+  pub refused : IsTaken (standing_of commands) line → ⊥
+
+-- why lines weren't all obeyed
+abbrev pub Unobeys : List (List ℕ) → Benched → Unobeyed → Type 0
+Unobeys lines b (unobeyed.Refused n) = FirstUntaken lines b n
+Unobeys lines b unobeyed.Memory = FirstAreObeyed lines b
 
 -- a run that isn't short of memory spoils nothing
 abbrev pub IsSoundUnless : Result (Unit {0}) Stop → Benched → Type 0

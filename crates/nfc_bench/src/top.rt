@@ -100,6 +100,7 @@ fn run_and_tell<S: Source, K: Sink>(
         → (HasRisen (K.faults sink.old) (K.faults sink.new) → ⊥) → (result ≡ 0) ⊎ (result ≡ 5) }
 
     ensures sound { (result ≡ 5 → ⊥) → bench.new.spoiled ≡ false }
+    ensures runs { bench.new.finished ≡ bench.old.finished }
 
     ensures stop { ReadsInTime (S.left source.old) (S.left source.new) }
     ensures bound { ReadsAtMost most_read (S.left source.old) (S.left source.new) }

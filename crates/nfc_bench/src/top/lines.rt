@@ -79,6 +79,7 @@ pub fn run_script<S: Source, K: Sink>(
         (λ s. RunStops quiet (S.left source.old) (S.left source.new) (K.taken sink.old) (K.taken sink.new)
         (S.faults source.old) (S.faults source.new) (K.faults sink.old) (K.faults sink.new) bench.new s) }
     ensures sound { IsSoundUnless result bench.new }
+    ensures runs { bench.new.finished ≡ bench.old.finished }
     ensures stop { ReadsInTime (S.left source.old) (S.left source.new) }
     ensures reads { S.faults source.old ≤ S.faults source.new }
     ensures writes { K.faults sink.old ≤ K.faults sink.new }

@@ -10,11 +10,11 @@ ghost use Rattle.nfc_bench.specs.Made.{tally_line};
 ghost use Rattle.nfc_bench.specs.Run.{EndsMade, EndsUntold, EndsUnmade};
 
 use super::counting::{Tally, tally_of};
-use super::obeying::{Lines, obey_all};
+use super::obeying::{Lines, Unobeyed, obey_all};
 use super::text::{push_number, push_text};
 use super::write_fault;
 use arrayvec::ArrayVec;
-use bench_world::{Bench, ObeyFault};
+use bench_world::Bench;
 use nfc_io::{Sink, write_all};
 use std::alloc::Global;
 use workload::Workload;
@@ -78,6 +78,7 @@ pub fn make_and_tell<K: Sink>(
         (K.faults sink.old) (K.faults sink.new) bench.new }
     ensures complete { (HasRisen (K.faults sink.old) (K.faults sink.new) → ⊥) → (result ≡ 0) ⊎ (result ≡ 5) }
     ensures sound { (result ≡ 5 → ⊥) → bench.new.spoiled ≡ false }
+    ensures runs { bench.new.finished ≡ bench.old.finished }
     ensures writes { K.faults sink.old ≤ K.faults sink.new }
 {
     let Some(workload) = Workload::new(seed, count) else {
@@ -85,8 +86,8 @@ pub fn make_and_tell<K: Sink>(
     };
     match obey_all(alloc, &workload, bench) {
         Ok(()) => {}
-        Err(ObeyFault::Refused) => unreachable!(),
-        Err(ObeyFault::Memory) => {
+        Err(Unobeyed::Refused(_)) => unreachable!(),
+        Err(Unobeyed::Memory) => {
             write_fault(sink, b"fault 5 memory\n");
             return 5;
         }

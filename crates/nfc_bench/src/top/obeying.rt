@@ -1,11 +1,9 @@
 //! Obeying lines, one by one.
 
-ghost use Rattle.std.specs.Prelude.{◌≡◌, ◌<◌, [], ℕ, List, length, slice_index_or, IfOk, OnOk, IsErrOf};
-ghost use Rattle.bench_script.specs.declared.command.Command.{Command};
-ghost use Rattle.bench_world.specs.Obeying.{new_bench};
-ghost use Rattle.bench_world.specs.Taking.{IsTaken, AreTaken};
-ghost use Rattle.nfc_bench.specs.Run.{FirstAreObeyed};
-ghost use Rattle.nfc_bench.specs.Stops.{LineObeyed, Lost, ObeyedBy};
+ghost use Rattle.std.specs.Prelude.{◌≡◌, ◌<◌, [], ℕ, List, length, slice_index_or, IfOk, IfErr, OnOk, IsErrOf};
+ghost use Rattle.bench_world.specs.Obeying.{begun_anew};
+ghost use Rattle.bench_world.specs.Taking.{IsTaken};
+ghost use Rattle.nfc_bench.specs.Stops.{LineObeyed, Lost, ObeyedBy, Unobeys};
 
 use arrayvec::ArrayVec;
 use bench_script::{Command, LineFault, parse_line};
@@ -54,17 +52,25 @@ pub fn obey_text(
     Ok(true)
 }
 
-/// Obeys lines on a new bench, from the first to the last; where one isn't obeyed, none behind it is.
-pub fn obey_all<L: Lines>(alloc: Global, lines: &L, bench: &mut Bench) -> Result<(), ObeyFault>
-    requires { bench.old ≡ new_bench }
+/// Why lines weren't all obeyed: that of this number isn't taken, or memory was wanting.
+#[derive(Clone, Copy, Debug, PartialEq, Eq)]
+pub enum Unobeyed {
+    Refused(u32),
+    Memory,
+}
+
+/// Obeys lines on a bench that begins anew, from the first to the last; where one isn't obeyed, none behind it is.
+pub fn obey_all<L: Lines>(alloc: Global, lines: &L, bench: &mut Bench) -> Result<(), Unobeyed>
+    requires { bench.old ≡ begun_anew bench.old.finished }
     ensures ok { OnOk result (ObeyedBy (L.lines lines.now) bench.new) }
-    ensures refused { IsErrOf result ObeyFault.Refused → (cs : List Command) → AreTaken (L.lines lines.now) cs → ⊥ }
-    ensures memory { IsErrOf result ObeyFault.Memory → FirstAreObeyed (L.lines lines.now) bench.new }
+    ensures err { IfErr result (λ why. Unobeys (L.lines lines.now) bench.new why) }
+    ensures runs { bench.new.finished ≡ bench.old.finished }
 {
     'lines: for place in 0..lines.count() {
         match obey_text(alloc, place + 1, &lines.line(place), bench) {
             Ok(_) => {}
-            Err(fault) => return Err(fault),
+            Err(ObeyFault::Refused) => return Err(Unobeyed::Refused(place + 1)),
+            Err(ObeyFault::Memory) => return Err(Unobeyed::Memory),
         }
     }
     Ok(())

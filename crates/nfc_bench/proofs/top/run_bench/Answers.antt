@@ -24,6 +24,7 @@ returns-in-Some-Run g c =
       memory = e.memory;
       complete = e.complete;
       sound = e.sound;
+      runs = e.runs;
       stop = e.stop;
       bound = e.bound;
     } in
@@ -56,6 +57,7 @@ returns-in-Some-Make g c =
       memory = e.memory;
       complete = e.complete;
       sound = e.sound;
+      runs = e.runs;
     } in
     record {
       ran = record {

@@ -6,6 +6,7 @@ abbrev pub invariant-lines : goal.invariant-lines
 invariant-lines g l = record {
   progress : Progress l.fn.quiet (g.S.Source.left l.fn.source) (g.S.Source.left l.source) l.reader l.bench l.line (g.K.Sink.taken l.fn.sink) (g.K.Sink.taken l.sink);
   going : l.reader.stop ≡ None;
+  runs : l.bench.finished ≡ l.fn.bench.finished;
   few : l.line ≤ 1001;
   reads : g.S.Source.faults l.source ≡ g.S.Source.faults l.fn.source;
   writes : g.K.Sink.faults l.sink ≡ g.K.Sink.faults l.fn.sink;

@@ -1,10 +1,13 @@
-use Rattle.std.proofs.Common.{◌≤◌, List, ℕ, length, sym, ap, Err, subst}
+use Rattle.std.proofs.Common.{◌≤◌, List, ℕ, length, sym, subst}
 use Rattle.std.specs.List.{All}
 use Rattle.bench_script.specs.Limits.{most_lines, AreWithinLimits}
 use Rattle.bench_world.specs.declared.entry.Entry.{Entry}
 use Rattle.workload.specs.Workload.{IsCount, workload_lines, workload_commands}
 use Rattle.workload.proofs.Spelled.{within_limits}
 use Rattle.nfc_bench.proofs.Counting.{PutsShort, journal_few, puts_short}
+use Rattle.nfc_bench.specs.declared.top.obeying.Unobeyed.{Unobeyed}
+use Rattle.nfc_bench.specs.Stops.{Unobeys}
+use Rattle.nfc_bench.proofs.Obeying.{none_untaken}
 use Rattle.nfc_bench.proofs.Workloads.{workload_taken}
 use Rattle.nfc_bench.proofs.top.making.make_and_tell.Goals as goal
 
@@ -12,7 +15,9 @@ pub unreachable-requires-in-Err-Refused : goal.unreachable-requires-in-Err-Refus
 unreachable-requires-in-Err-Refused g c =
     let seed : ℕ = c.in-Some.workload.seed in
     let count : ℕ = c.in-Some.workload.count in
-    c.in-Err-Refused.ensures.refused (ap Err c.in-Err-Refused.field-0-is) (workload_commands seed count) (workload_taken seed count)
+    let P : Unobeyed → Type 0 = λ why. Unobeys (workload_lines seed count) c.obey_all.new.bench why in
+    none_untaken (workload_lines seed count) (workload_commands seed count) c.obey_all.new.bench c.in-Err-Refused.field-0-0 (workload_taken seed count)
+    (subst P c.in-Err-Refused.field-0-is c.in-Err-Refused.ensures.err)
 
 pub tally_of-requires-clause-few : goal.tally_of-requires-clause-few
 tally_of-requires-clause-few g c =

@@ -10,11 +10,12 @@ use Rattle.nfc_bench.proofs.top.obeying.obey_text.Goals as goal
 -- where memory is wanting
 lost_by : (old new : Benched) (c : Command) → LacksMemory old new c → (v : Bool) → old.spoiled ≡ v → Lost old new
 lost_by old new c lacks true is =
-    let same : new ≡ old = lacks.1 is in record { journal = ap (λ (b : Benched). b.journal) same; machines = λ sound. same }
+    let same : new ≡ old = lacks.1 is in record { journal = ap (λ (b : Benched). b.journal) same; runs = ap (λ (b : Benched). b.finished) same; machines = λ sound. same }
 lost_by old new c lacks false is =
     let spoils : Spoils old new c = lacks.0 is in
     record {
       journal = ap (λ (b : Benched). b.journal) spoils.is;
+      runs = ap (λ (b : Benched). b.finished) spoils.is;
       machines = λ sound. absurd (let clash : true ≡ false = sym (ap (λ (b : Benched). b.spoiled) spoils.is) ∙ sound in cc);
     }
 
