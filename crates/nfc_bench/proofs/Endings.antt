@@ -1,18 +1,16 @@
 -- How a run ends, by how its parts did.
-use Rattle.std.proofs.Common.{◌≡◌, ℕ, ◌+◌, ◌<◌, ◌≤◌, ◌⊎◌, List, [], ◌∷◌, ◌++◌, length, take, drop, Bool, true, false, Option, Some, None, Result, Ok, Err, refl, sym, ◌∙◌, ap, subst, append_assoc, arith, inl, inr}
+use Rattle.std.proofs.Common.{◌≡◌, ℕ, ◌+◌, ◌≤◌, List, [], ◌∷◌, ◌++◌, length, Bool, false, Option, Some, None, Result, Ok, Err, refl, sym, ◌∙◌, ap, subst, append_assoc, arith, inl, inr}
 use Rattle.std.specs.Prelude.{IfSome, OnOk, OnErr}
 use Rattle.std.specs.List.{All}
-use Rattle.std.proofs.lemmas.Bool.{cases_Bool}
-use Rattle.std.proofs.lemmas.List.{append-nil, length-append, length-take-le, take-append-drop}
+use Rattle.std.proofs.lemmas.List.{append-nil, length-append}
 use Rattle.nfc_io.specs.Counts.{HasRisen}
-use Rattle.nfc_io.specs.Moves.{with_front, with_end, GainsFront}
+use Rattle.nfc_io.specs.Moves.{with_end, GainsFront}
 use Rattle.nfc_io.specs.Lines.{lines_of, whole_lines, NoLf}
 use Rattle.nfc_io.specs.Reading.{Lined, Advances, Looks}
-use Rattle.nfc_io.specs.declared.line_reader.LineStop.{LineStop}
 use Rattle.nfc_io.specs.declared.line_reader.LineStop.TheVariants as ends
 use Rattle.nfc_io.proofs.Counts.{rises_at_last}
-use Rattle.nfc_io.proofs.Moves.{with_end-append, with_end-nil, with_front-nil, read_on}
-use Rattle.nfc_io.proofs.Lines.{GoesOn, some_line, lines_longer, whole_last}
+use Rattle.nfc_io.proofs.Moves.{with_end-append, with_end-nil, read_on}
+use Rattle.nfc_io.proofs.Lines.{whole_last}
 use Rattle.nfc_bench.specs.declared.top.lines.Stop.{Stop}
 use Rattle.nfc_bench.specs.declared.top.lines.Stop.TheVariants.{Refused, ReadFault, WriteFault, Memory}
 use Rattle.bench_script.specs.Limits.{most_lines, longest_line, AreWithinLimits}
@@ -22,12 +20,11 @@ use Rattle.bench_world.specs.Legal.{first_state}
 use Rattle.bench_world.specs.Obeying.{Benched, begun_anew, new_bench}
 use Rattle.bench_world.specs.Taking.{AreSpelled, IsTaken, standing_of}
 use Rattle.bench_world.proofs.Shapes.{TakenAlike, legal_taken, taken_at, taken_too}
-use Rattle.nfc_bench.specs.Run.{AreObeyed, FirstAreObeyed, FirstRefused, AllTaken, RefusesLine, ObeysFront, AddsFault, line_fault, read_fault, EndsDone, EndsRefused, EndsUnread, EndsUnwritten, ReadsInTime}
-use Rattle.nfc_bench.specs.Reading.{ReadsAll, ReadsToLimit}
+use Rattle.nfc_bench.specs.Run.{AreObeyed, FirstAreObeyed, FirstRefused, AllTaken, RefusesLine, ObeysFront, AddsFault, line_fault, read_fault, EndsDone, EndsRefused, EndsUnread, EndsUnwritten}
 use Rattle.nfc_bench.specs.Stops.{Follows, LineRefused, LineCut, LineLost, LineStops, Lost, ObeyedBy, RunRefused, RunUnread, RunLost, RunStops}
 use Rattle.nfc_bench.proofs.Limits.{all_at, IsShort, limits_more, no_limits}
-use Rattle.nfc_bench.proofs.Reading.{goes_on_by, goes_looking, read_at_end, read_at_limit}
-use Rattle.nfc_bench.proofs.Progress.{Progress, GaveNext, Goes, goes, lines_on, whole_on, ended_on, leads_to, obeyed_lost, obeyed_more, obeyed_new}
+use Rattle.nfc_bench.proofs.Reading.{ReadsAll, ReadsToLimit, goes_on_by, goes_looking, read_at_end, read_at_limit}
+use Rattle.nfc_bench.proofs.Progress.{Progress, GaveNext, Goes, goes, whole_on, leads_to, obeyed_lost, obeyed_more, obeyed_new}
 use Rattle.nfc_bench.proofs.Journals.{written_none}
 
 -- The lines that were obeyed are taken, and what is taken behind them is taken by the machines.
@@ -208,7 +205,7 @@ line_stops quiet left left' done m j new n t t1 t2 r r' w w1 w2 WriteFault o lim
 line_stops quiet left left' done m j new n t t1 t2 r r' w w1 w2 Memory o limits number written next few count s = lost_line quiet left left' done m j new t t1 t2 o limits written next s
 
 -- memory was wanting before a line was obeyed
-pub none_obeyed : (runs : List (List Entry)) (lines : List (List ℕ)) → FirstAreObeyed lines (begun_anew runs)
+abbrev pub none_obeyed : (runs : List (List Entry)) (lines : List (List ℕ)) → FirstAreObeyed lines (begun_anew runs)
 none_obeyed runs lines = record { front = []; rest = lines; parts = refl; obeyed = (obeyed_new runs).obeyed }
 
 pub front_at_once : (left : Option (List ℕ)) (runs : List (List Entry)) → ObeysFront left (begun_anew runs)

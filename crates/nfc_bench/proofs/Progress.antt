@@ -12,8 +12,7 @@ use Rattle.nfc_io.specs.Reading.{Lined, new_lined, Fetches, Advances, GivesLine}
 use Rattle.nfc_io.proofs.InOrder.{ended_behind}
 use Rattle.nfc_io.proofs.Lines.{lines_front, whole_front, lines_last}
 use Rattle.bench_world.specs.declared.entry.Entry.{Entry}
-use Rattle.bench_world.specs.Journal.{LeadsTo, Legal}
-use Rattle.bench_world.specs.LinkLaw.{LinksAccept}
+use Rattle.bench_world.specs.Journal.{LeadsTo}
 use Rattle.bench_world.specs.Legal.{State, Joins, Given, no_joins}
 use Rattle.bench_world.specs.Obeying.{Benched, begun_anew, new_bench}
 use Rattle.bench_world.specs.Report.{report_text}
@@ -37,7 +36,7 @@ most_given [] h = tt
 most_given (g ∷ gs) h = (h.0, most_given gs h.1)
 
 -- a legal journal of some lines is the only one of them
-is_run : (lines : List (List ℕ)) (numbers : List Joins) (journal : List Entry) (last : State) → LeadsTo lines numbers journal last → AreMost numbers → IsRunOf lines journal
+abbrev is_run : (lines : List (List ℕ)) (numbers : List Joins) (journal : List Entry) (last : State) → LeadsTo lines numbers journal last → AreMost numbers → IsRunOf lines journal
 is_run lines numbers journal last leads most = record {
   legal = record { numbers = numbers; last = last; leads = leads };
   most = most;

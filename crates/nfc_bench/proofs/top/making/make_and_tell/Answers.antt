@@ -1,4 +1,4 @@
-use Rattle.std.proofs.Common.{◌≤◌, List, ℕ, length, sym, ap, Err, subst}
+use Rattle.std.proofs.Common.{◌≤◌, List, ℕ, length, sym, subst}
 use Rattle.std.specs.List.{All}
 use Rattle.bench_script.specs.Limits.{most_lines, AreWithinLimits}
 use Rattle.bench_world.specs.declared.entry.Entry.{Entry}
@@ -16,7 +16,7 @@ unreachable-requires-in-Err-Refused g c =
     let seed : ℕ = c.in-Some.workload.seed in
     let count : ℕ = c.in-Some.workload.count in
     let P : Unobeyed → Type 0 = λ why. Unobeys (workload_lines seed count) c.obey_all.new.bench why in
-    none_untaken (workload_lines seed count) (workload_commands seed count) c.obey_all.new.bench c.in-Err-Refused.field-0-2 (workload_taken seed count)
+    none_untaken (workload_lines seed count) (workload_commands seed count) c.obey_all.new.bench c.in-Err-Refused.field-0-0 (workload_taken seed count)
     (subst P c.in-Err-Refused.field-0-is c.in-Err-Refused.ensures.err)
 
 pub tally_of-requires-clause-few : goal.tally_of-requires-clause-few
