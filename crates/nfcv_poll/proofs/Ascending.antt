@@ -1,5 +1,5 @@
 -- What a search finds is ascending, and so each once.
-use Rattle.std.proofs.Common.{◌≡◌, ◌⊎◌, inl, inr, ◌<◌, ℕ, ◌+◌, List, [], ◌∷◌, Bool, true, false, nat_eq, nat_lt, if◌then◌else◌, Result, Ok, Err, refl, sym, ap, subst, arith}
+use Rattle.std.proofs.Common.{◌≡◌, inl, inr, ◌<◌, ℕ, ◌+◌, List, [], ◌∷◌, Bool, true, false, nat_eq, nat_lt, if◌then◌else◌, Result, refl, sym, subst, arith}
 use Rattle.nfc_base.specs.declared.event.Heard.{Heard}
 use Rattle.air_core.specs.World.{Machine}
 use Rattle.air_core.specs.Turn.{Air}
@@ -8,9 +8,8 @@ use Rattle.nfca_poll.specs.declared.fault.PollFault.{PollFault}
 use Rattle.nfca_poll.specs.declared.fault.PollFault.TheVariants as faults
 use Rattle.nfca_poll.proofs.EnquiryEnds.{Ends, ends}
 use Rattle.t5t_tag.specs.Slots.{id_number}
-use Rattle.nfcv_poll.specs.Search.{most_passes, with_id, takes, said, begins_pass, fresh, fails, is_silence, answers_left, hears_at, hears, over_at, Course, Begins, Runs, course_step, finding_all}
+use Rattle.nfcv_poll.specs.Search.{most_passes, with_id, takes, said, begins_pass, fails, is_silence, answers_left, hears_at, over_at, Course, Begins, Runs, course_step, finding_all}
 use Rattle.nfcv_poll.specs.Finding.{IsAscending, AreAscending}
-use Rattle.nfcv_poll.specs.declared.search.Said.TheVariants as told
 use Rattle.nfcv_poll.specs.declared.search.Search.{Search}
 use Rattle.nfcv_poll.specs.declared.search.Stage.{Stage}
 use Rattle.nfcv_poll.specs.declared.search.Stage.TheVariants as stages

@@ -1,5 +1,5 @@
 -- How a search ends, by the request that is due.
-use Rattle.std.proofs.Common.{◌≡◌, ℕ, List, Option, Some, None, Ok, Err, refl, sym, ◌∙◌, ap}
+use Rattle.std.proofs.Common.{◌≡◌, ℕ, List, Option, Some, None, Ok, refl}
 use Rattle.nfc_base.specs.Signal.{Signal}
 use Rattle.nfca_poll.specs.declared.fault.PollFault.{PollFault}
 use Rattle.nfcv_poll.specs.Search.{stage_request, due_request, over_at, is_over}

@@ -1,5 +1,5 @@
 -- A search finds tags that are there, and misses one only where noise met each of the last four questions.
-use Rattle.std.proofs.Common.{◌≡◌, ◌⊎◌, inl, inr, ◌≤◌, ◌<◌, ℕ, ◌+◌, List, [], ◌∷◌, ◌++◌, length, drop, map, filter_map, replicate, reverse, Bool, true, false, nat_eq, nat_lt, nat_le, if◌then◌else◌, Option, Some, None, Result, Ok, Err, append_assoc, refl, sym, ◌∙◌, ap, subst, arith}
+use Rattle.std.proofs.Common.{◌≡◌, ◌⊎◌, inl, inr, ◌≤◌, ◌<◌, ℕ, ◌+◌, List, [], ◌∷◌, ◌++◌, length, map, filter_map, replicate, Bool, true, false, nat_eq, nat_lt, if◌then◌else◌, Option, Some, None, Result, append_assoc, refl, sym, ◌∙◌, ap, subst, arith}
 use Rattle.std.proofs.lemmas.List.{append-nil, length-append}
 use Rattle.nfc_base.specs.declared.event.Event.{Event}
 use Rattle.nfc_base.specs.declared.event.Event.TheVariants.{Reset, Request}
@@ -11,7 +11,7 @@ use Rattle.nfc_base.specs.declared.frame.Tech.TheVariants.{V}
 use Rattle.nfc_base.specs.Signal.{Signal}
 use Rattle.nfc_base.specs.Trace.{Turn, turns, other_than_pass, heard_by}
 use Rattle.nfc_base.specs.Trace as backs
-use Rattle.air_core.specs.Conversation.{LightUp, Asks, Next, Over, replay, turn_events, turn_heard, joint_events, joint_back}
+use Rattle.air_core.specs.Conversation.{LightUp, Asks, replay, turn_events, turn_heard, joint_events, joint_back}
 use Rattle.nfc_base.specs.Bits.{bits, of_bits}
 use Rattle.air_core.specs.Joint.{Joint, Nothing, Single, Clashing, joint, all_same, common_all}
 use Rattle.air_core.specs.Turn.{Air, moment}
@@ -20,10 +20,9 @@ use Rattle.nfca_poll.specs.Crowd.{Each}
 use Rattle.nfca_poll.specs.Enquiry.{Enquires, or_memory}
 use Rattle.nfca_poll.specs.Inventory.{inventory_all}
 use Rattle.nfca_poll.specs.Muted.{muted, mute_air}
-use Rattle.nfca_poll.specs.ByHeard.{turns_since}
 use Rattle.nfca_poll.specs.declared.fault.PollFault.{PollFault}
 use Rattle.nfca_poll.specs.declared.fault.PollFault.TheVariants as faults
-use Rattle.nfca_poll.proofs.Eaches.{each_map, none_in, said_each}
+use Rattle.nfca_poll.proofs.Eaches.{each_map, none_in}
 use Rattle.nfca_poll.proofs.EnquiryEnds.{events_gained}
 use Rattle.nfca_poll.proofs.EnquiryLaws.{Keeps, Ending, comes, loses, ending}
 use Rattle.nfca_poll.proofs.EnquiryWalks.{turn_fresh}
@@ -31,7 +30,6 @@ use Rattle.nfca_poll.proofs.TurnWalks.{turns-append}
 use Rattle.t5t_tag.specs.declared.answer.T5Answer.{T5Answer}
 use Rattle.t5t_tag.specs.declared.answer.T5Answer.TheVariants.{Present, Content, Error}
 use Rattle.t5t_tag.specs.Reading.{spelled_answer}
-use Rattle.t5t_tag.specs.Slots.{last_slot}
 use Rattle.t5t_tag.specs.declared.command.T5Command.TheVariants.{Inventory, NextSlot, Quiet}
 use Rattle.t5t_tag.specs.Spelling.{answer_frame, command_frame}
 use Rattle.t5t_tag.specs.Step.{t5_answer, sent}
@@ -40,15 +38,14 @@ use Rattle.t5t_tag.proofs.Inventories.{counted}
 use Rattle.t5t_tag.proofs.SpelledAnswers.{answer_reads}
 use Rattle.nfcv_poll.specs.declared.mask.Mask.{Mask}
 use Rattle.nfcv_poll.specs.Masks.{slots_frame}
-use Rattle.nfcv_poll.specs.Search.{most_passes, most_rounds, questions, with_id, id_at, said_by, said, begins_pass, fresh, fails, hush_stage, hushes, opens_with, leaves, with_clash, is_spent, takes_in, takes, is_silence, answers_left, hears_at, hears, stage_request, due_request, over_at, is_over, Course, Begins, Runs, asked_for, course_step, course_next, course_ended, finding_all}
-use Rattle.nfcv_poll.specs.Tags.{IsOneOf, StepAsTags, tag_ids, noise_back, IsNoisyQuestion, AreNoisyAtLast, FoundTags, FoundIf, FindsTags}
-use Rattle.nfcv_poll.specs.declared.search.Said.{Said}
+use Rattle.nfcv_poll.specs.Search.{most_passes, questions, with_id, said_by, said, begins_pass, fresh, fails, hushes, takes, is_silence, answers_left, hears_at, stage_request, due_request, over_at, Course, Begins, Runs, asked_for, course_step, course_next, finding_all}
+use Rattle.nfcv_poll.specs.Tags.{IsOneOf, StepAsTags, tag_ids, noise_back, IsNoisyQuestion, AreNoisyAtLast, FoundIf, FindsTags}
 use Rattle.nfcv_poll.specs.declared.search.Said.TheVariants as told
 use Rattle.nfcv_poll.specs.declared.search.Search.{Search}
 use Rattle.nfcv_poll.specs.declared.search.Stage.{Stage}
 use Rattle.nfcv_poll.specs.declared.search.Stage.TheVariants as stages
 use Rattle.nfcv_poll.proofs.Stages.{IsEarly, Early, hush_early, Taken, Same, More, takes_early}
-use Rattle.nfcv_poll.proofs.Members.{stays, each_with, one_at, each_one, each_id, their_own}
+use Rattle.nfcv_poll.proofs.Members.{each_with, each_one, each_id, their_own}
 use Rattle.nfcv_poll.proofs.TagSteps.{at_slots, at_next, at_question, at_quiet}
 use Rattle.nfcv_poll.proofs.Standing.{TellsOne, Fares, fares_on, fares_hushed, IsPlaced, ArePlaced, placed_more, placed_reset, ids_reset, same_ids, still_placed, answers_tell, said_tag}
 

@@ -1,28 +1,21 @@
 -- How a search stands to the tags of its field: what it found are theirs, and a quiet one is found.
-use Rattle.std.proofs.Common.{◌≡◌, ◌⊎◌, inl, inr, ◌≤◌, ℕ, ◌+◌, List, [], ◌∷◌, ◌++◌, length, map, filter_map, Bool, true, false, nat_lt, nat_le, if◌then◌else◌, Option, Some, None, refl, sym, ◌∙◌, ap, subst, arith}
+use Rattle.std.proofs.Common.{◌≡◌, ◌⊎◌, inl, inr, ℕ, List, [], ◌∷◌, map, filter_map, Bool, true, false, if◌then◌else◌, Option, Some, None, refl, sym, ◌∙◌, ap, subst}
 use Rattle.std.specs.List.{cons_option}
-use Rattle.std.proofs.lemmas.List.{append-nil, length-append}
-use Rattle.nfc_base.specs.declared.event.Heard.{Heard}
-use Rattle.nfc_base.specs.declared.event.Heard.TheVariants.{Whole, Collided, Damaged, Silent}
 use Rattle.nfc_base.specs.declared.frame.Tech.{Tech}
 use Rattle.nfc_base.specs.declared.frame.Tech.TheVariants.{A, V}
-use Rattle.nfc_base.specs.Far.{FarUse, Untouched}
 use Rattle.nfc_base.specs.Signal.{Signal}
-use Rattle.nfc_base.specs.Trace.{Turn, other_than_pass}
-use Rattle.air_core.specs.Joint.{Joint, Nothing, Single, Clashing, same_tech, joint, all_same}
-use Rattle.air_core.specs.World.{Machine, World, answered_by, stepped_by}
+use Rattle.air_core.specs.Joint.{same_tech}
+use Rattle.air_core.specs.World.{Machine, answered_by, stepped_by}
 use Rattle.nfca_poll.specs.Crowd.{Each}
-use Rattle.nfca_poll.specs.Inventory.{inventory_all}
 use Rattle.nfca_poll.specs.Muted.{mute_reply, muted}
 use Rattle.nfca_poll.proofs.Eaches.{each_map, IfSaid, said_each}
-use Rattle.t5t_tag.specs.declared.answer.T5Answer.{T5Answer}
 use Rattle.t5t_tag.specs.declared.answer.T5Answer.TheVariants.{Present}
 use Rattle.t5t_tag.specs.Spelling.{answer_frame}
-use Rattle.t5t_tag.specs.Step.{T5Turn, sent, t5_turn, t5_answer, t5_after}
-use Rattle.t5t_tag.specs.Store.{T5State, id_size, darkened}
+use Rattle.t5t_tag.specs.Step.{sent, t5_turn, t5_answer, t5_after}
+use Rattle.t5t_tag.specs.Store.{T5State}
 use Rattle.nfcv_poll.specs.Search.{with_id}
-use Rattle.nfcv_poll.specs.Tags.{IsOneOf, StepAsTags, id_if, tag_ids, noise_back}
-use Rattle.nfcv_poll.proofs.Members.{stays, their_own}
+use Rattle.nfcv_poll.specs.Tags.{IsOneOf, StepAsTags, id_if, tag_ids}
+use Rattle.nfcv_poll.proofs.Members.{stays}
 use Rattle.nfcv_poll.proofs.TagSteps.{Speaks, Hushed}
 
 -- an answer that tells one of these identifiers

@@ -1,9 +1,7 @@
 -- What the requests of a search do to a Type 5 tag: it says nothing but its own identifier, and is quiet only by its name.
-use Rattle.std.proofs.Common.{◌≡◌, ◌⊎◌, inl, inr, ℕ, List, [], ◌∷◌, ◌++◌, length, take, drop, Bool, true, false, not, nat_eq, ◌==◌, ◌&&◌, if◌then◌else◌, Option, Some, None, refl, sym, ◌∙◌, ap, subst, arith}
-use Rattle.std.specs.Cmp.Lexicographic.{pointwise}
+use Rattle.std.proofs.Common.{◌≡◌, ◌⊎◌, inl, inr, ℕ, List, ◌∷◌, length, take, drop, Bool, true, false, not, ◌==◌, ◌&&◌, if◌then◌else◌, Option, Some, None, refl, sym, ◌∙◌, ap}
 use Rattle.std.proofs.lemmas.List.{length-reverse, reverse-reverse}
 use Rattle.std.proofs.Math.Seq.{take-length}
-use Rattle.nfc_base.specs.Signal.{Signal, whole_v}
 use Rattle.t5t_tag.specs.declared.answer.T5Answer.TheVariants.{Present}
 use Rattle.t5t_tag.specs.declared.command.T5Command.TheVariants.{Quiet, NextSlot, Inventory}
 use Rattle.t5t_tag.specs.declared.round.Round.{Round}
@@ -11,13 +9,12 @@ use Rattle.std.specs.Int.{w64, to_le_bytes}
 use Rattle.t5t_tag.specs.Mask.{low_first, mask_size, asks_for}
 use Rattle.t5t_tag.specs.Slots.{slot_of, asks_in_slots, begun, is_own}
 use Rattle.t5t_tag.specs.Spelling.{inventory_code, quiet_code, command_frame}
-use Rattle.t5t_tag.specs.Step.{T5Turn, silent, tells, obeyed, names, addressed, plain, inventory, out_of_round, own_answer, in_slot, slots, next_round, t5_turn}
+use Rattle.t5t_tag.specs.Step.{T5Turn, silent, tells, obeyed, names, addressed, inventory, out_of_round, own_answer, in_slot, slots, next_round, t5_turn}
 use Rattle.t5t_tag.specs.Store.{T5State, id_size}
 use Rattle.t5t_tag.proofs.Bytes.{equal_bytes}
 use Rattle.t5t_tag.proofs.Turns.{hushes, by_test}
 use Rattle.nfcv_poll.specs.declared.mask.Mask.{Mask}
 use Rattle.nfcv_poll.specs.Masks.{slots_frame}
-use Rattle.nfcv_poll.specs.Search.{stage_request}
 
 -- a turn in which a tag says nothing or its identifier, and is as quiet as it was
 pub record Speaks (t : T5State) (r : T5Turn) : Type 0 where

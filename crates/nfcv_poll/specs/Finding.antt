@@ -1,7 +1,6 @@
 -- What a search for all Type 5 tags answers, by what was heard, over any listeners.
-use Rattle.std.specs.Prelude.{◌≡◌, ◌↔◌, ◌⊎◌, ◌<◌, ◌≤◌, ℕ, List, [], ◌∷◌, length, filter, Bool, true, false, not, ◌==◌, ◌&&◌, Option, Some, None, Result, Ok, Err, Vec}
+use Rattle.std.specs.Prelude.{◌≡◌, ◌↔◌, ◌⊎◌, ◌<◌, ◌≤◌, ℕ, List, [], ◌∷◌, length, filter, Bool, true, false, ◌==◌, ◌&&◌, Option, Result, Ok, Err, Vec}
 use Rattle.std.specs.List.{list_any}
-use Rattle.nfc_base.specs.Signal.{Signal}
 use Rattle.nfc_base.specs.Trace.{Turn, heard, by_heard}
 use Rattle.nfc_base.specs.declared.event.Heard.{Heard}
 use Rattle.air_core.specs.Joint.{same_signal}
@@ -61,8 +60,9 @@ is_strange_said told.Strange = true
 abbrev pub is_strange : Turn → Bool
 is_strange t = by_heard (heard t) (λ g. is_strange_said (said_by (spelled_answer g))) (λ g. false) false false false
 
--- Why a search ends without its tags: disturbed exactly where the question who is left was answered in each of four passes; a bad answer
--- only where a whole frame was none of a tag, or 128 rounds were begun; never by the faults of other calls.
+-- Why a search ends without its tags: disturbed exactly where the question who is left was answered in each of four
+-- passes; a bad answer only where a whole frame was none of a tag, or 128 rounds were begun; never by the faults of
+-- other calls.
 pub record HasCauses (ts : List Turn) (r : Result (List (List ℕ)) PollFault) : Type 0 where
   pub disturbed : (r ≡ Err faults.Disturbed) ↔ (answered_questions ts ≡ most_passes)
   pub bad : r ≡ Err faults.BadAnswer → (list_any is_strange ts ≡ true) ⊎ (most_rounds ≤ rounds_begun ts)

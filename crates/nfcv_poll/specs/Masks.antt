@@ -17,7 +17,9 @@ with_slot m slot = record { bits = m.bits + 4; value = m.value + slot * 2 ^ m.bi
 -- An identifier has no slot behind sixty bits, and no number past 64 bits.
 abbrev pub extended : Mask → ℕ → Option Mask
 extended m slot =
-    if nat_lt m.bits most_slot_bits && nat_lt slot slot_count && nat_lt (m.value + slot * 2 ^ m.bits % 2 ^ 64) (2 ^ 64) then Some (with_slot m slot) else None
+    if nat_lt m.bits most_slot_bits && nat_lt slot slot_count && nat_lt (m.value + slot * 2 ^ m.bits % 2 ^ 64) (2 ^ 64)
+    then Some (with_slot m slot)
+    else None
 
 -- the request that begins the round of a mask
 abbrev pub slots_frame : Mask → Signal

@@ -1,5 +1,5 @@
--- How a search for all Type 5 tags goes on by what is heard (ISO/IEC 15693-3). Passes, their number and the order of masks are this
--- project's own.
+-- How a search for all Type 5 tags goes on by what is heard (ISO/IEC 15693-3). Passes, their number and the order of
+-- masks are this project's own.
 use Rattle.std.specs.Prelude.{ℕ, zero, suc, ◌+◌, List, [], ◌∷◌, ◌++◌, length, reverse, replicate, Bool, true, false, ◌&&◌, ◌||◌, not, nat_eq, nat_lt, nat_le, if◌then◌else◌, Option, Some, None, Result, Ok, Err}
 use Rattle.nfc_base.specs.Signal.{Signal}
 use Rattle.nfc_base.specs.declared.event.Heard.{Heard}
@@ -103,7 +103,8 @@ opens_with s (m ∷ ms) =
 abbrev pub opens : Search → Search
 opens s = opens_with s s.masks
 
--- the next slot, or behind the last one the next round: of the clashes that of the lowest slot first, and all of them before older ones
+-- the next slot, or behind the last one the next round: of the clashes that of the lowest slot first, and all of them
+-- before older ones
 abbrev pub leaves : Search → Mask → ℕ → Search
 leaves s m slot =
     if nat_lt slot last_slot then record s { stage = stages.Slot m (slot + 1) }
@@ -145,7 +146,8 @@ is_silence Silent = true
 
 -- Four silences end the search; anything else begins the next pass, where there is one.
 abbrev pub answers_left : Search → ℕ → Bool → Search
-answers_left s asked true = record s { stage = if nat_lt (asked + 1) questions then stages.WhoIsLeft (asked + 1) else stages.Over }
+answers_left s asked true =
+    record s { stage = if nat_lt (asked + 1) questions then stages.WhoIsLeft (asked + 1) else stages.Over }
 answers_left s asked false = if nat_lt s.pass most_passes then begins_pass (s.pass + 1) s else fails s faults.Disturbed
 
 -- What is heard of STAY QUIET is ignored.

@@ -24,10 +24,12 @@ IsOneOf i (j ∷ js) = (j ≡ i) ⊎ IsOneOf i js
 
 -- The NFC-V listeners step as Type 5 tags, once light has come to them: which tag each is, and whether it is in the light.
 pub record StepAsTags {L : Type 0} (m : Machine L) (tag : L → T5State) (lit : L → Bool) : Type 0 where
-  pub woken : (l : L) → m.tech l ≡ V → (lit (m.woken (m.darkened l)) ≡ true) × (tag (m.woken (m.darkened l)) ≡ darkened (tag l))
+  pub woken : (l : L) → m.tech l ≡ V
+      → (lit (m.woken (m.darkened l)) ≡ true) × (tag (m.woken (m.darkened l)) ≡ darkened (tag l))
   pub untouched : (l : L) (f : Signal) → m.tech l ≡ V → m.handed l f ≡ Untouched
   pub answers : (l : L) (f : Signal) → m.tech l ≡ V → lit l ≡ true → m.answer l f None ≡ t5_answer (tag l) f
-  pub goes : (l : L) (f : Signal) → m.tech l ≡ V → lit l ≡ true → (lit (m.after l f None) ≡ true) × (tag (m.after l f None) ≡ t5_after (tag l) f)
+  pub goes : (l : L) (f : Signal) → m.tech l ≡ V → lit l ≡ true
+      → (lit (m.after l f None) ≡ true) × (tag (m.after l f None) ≡ t5_after (tag l) f)
   pub woken_tech : (l : L) → m.tech (m.woken (m.darkened l)) ≡ m.tech l
   pub after_tech : (l : L) (f : Signal) → m.tech l ≡ V → m.tech (m.after l f None) ≡ V
 
@@ -69,5 +71,6 @@ FoundIf ids (Err fault) ts = Unit {0}
 -- So a search finds the tags of a field, whatever the fates are.
 abbrev pub FindsTags : {L : Type 0} → Machine L → Air L → Result (List (List ℕ)) PollFault → Air L → Type 0
 FindsTags {L = L} m old r new =
-    (tag : L → T5State) (lit : L → Bool) → StepAsTags m tag lit → Each (λ i. length i ≡ id_size) (tag_ids m tag old.listeners)
+    (tag : L → T5State) (lit : L → Bool) → StepAsTags m tag lit
+    → Each (λ i. length i ≡ id_size) (tag_ids m tag old.listeners)
     → FoundIf (tag_ids m tag old.listeners) r (turns_since old new)

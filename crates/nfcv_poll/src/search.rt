@@ -38,8 +38,8 @@ pub enum Stage {
     Fails(PollFault),
 }
 
-/// A search: its pass, counted from 1, how many rounds the pass has begun, the tags that were recorded so far, the masks whose
-/// rounds are still to be made, and the masks of the clashes of the round that is under way.
+/// A search: its pass, counted from 1, how many rounds the pass has begun, the tags that were recorded so far, the masks
+/// whose rounds are still to be made, and the masks of the clashes of the round that is under way.
 #[derive(Debug, Drop)]
 pub struct Search {
     pub pass: u8,

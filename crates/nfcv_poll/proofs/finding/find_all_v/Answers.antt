@@ -1,7 +1,6 @@
-use Rattle.std.proofs.Common.{◌≡◌, ◌<◌, ℕ, List, Some, None, Result, Ok, Err, refl, sym, ◌∙◌, ap, subst, arith}
+use Rattle.std.proofs.Common.{◌≡◌, ◌<◌, ℕ, List, Some, Result, Ok, Err, refl, sym, ◌∙◌, ap, subst, arith}
 use Rattle.std.proofs.lemmas.Grind.{common_steps}
 use Rattle.nfc_base.specs.declared.event.Event.TheVariants.{Reset}
-use Rattle.air_core.specs.Conversation.{Asks}
 use Rattle.air_core.specs.World.{reset_by}
 use Rattle.air_core.specs.Turn.{Air, world, after_event}
 use Rattle.nfca_poll.specs.declared.fault.PollFault.{PollFault}
@@ -9,7 +8,7 @@ use Rattle.nfca_poll.specs.declared.fault.PollFault.TheVariants as faults
 use Rattle.nfca_poll.specs.Enquiry.{Enquires, or_memory}
 use Rattle.nfca_poll.proofs.Enquiring.{Reached, reached_start, reached_reset, reached_turn, enquires_err, enquires_end, enquires_so}
 use Rattle.nfcv_poll.specs.Finding.{identifiers}
-use Rattle.nfcv_poll.specs.Search.{fresh, hears, due_request, over_at, is_over, Course, Begins, Runs, asked_for, finding_all}
+use Rattle.nfcv_poll.specs.Search.{hears, due_request, over_at, is_over, Begins, Runs, asked_for, finding_all}
 use Rattle.nfcv_poll.specs.declared.search.Search.{Search}
 use Rattle.nfcv_poll.proofs.Ascending.{finds_ascending}
 use Rattle.nfcv_poll.proofs.Causes.{has_causes}

@@ -1,4 +1,4 @@
-use Rattle.std.proofs.Common.{◌≡◌, Some, nat_eq, true, sym, ◌∙◌, ap, arith}
+use Rattle.std.proofs.Common.{◌≡◌, Some, nat_eq, sym, ◌∙◌, ap, arith}
 use Rattle.std.proofs.lemmas.Grind.{common_steps}
 use Rattle.t5t_tag.specs.Slots.{id_number}
 use Rattle.nfcv_poll.specs.Search.{below, id_at}
