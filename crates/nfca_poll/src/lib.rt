@@ -29,6 +29,7 @@ pub use ident::{Ident, IdentFault};
 pub use inventory::{Vcrowd, inventory_one, pick_v};
 pub use kind::Kind;
 pub use level::Level;
+pub use requests::ask;
 pub use resolution::resolve;
 pub use rounds::{find_all, pick};
 pub use upper::{UpKind, UpStep, Upper};

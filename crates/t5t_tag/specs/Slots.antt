@@ -1,5 +1,5 @@
--- A round of sixteen slots, as one tag sees it (ISO/IEC 15693-3): each tag that a mask asks for answers in one of them, by the next four
--- bits of its identifier.
+-- A round of sixteen slots, as one tag sees it (ISO/IEC 15693-3): each tag that a mask asks for answers in one of
+-- them, by the next four bits of its identifier.
 use Rattle.std.specs.Prelude.{ℕ, ◌+◌, ◌/◌, ◌%◌, ◌^◌, List, Bool, ◌==◌, ◌&&◌, nat_le, if◌then◌else◌, Option, Some, None}
 use Rattle.std.specs.Int.{w64, from_be_bytes}
 use Rattle.t5t_tag.specs.declared.round.Round.{Round}

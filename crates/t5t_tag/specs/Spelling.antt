@@ -62,8 +62,8 @@ abbrev pub head : Option (List ℕ) → ℕ → List ℕ
 head None code = plain_flags ∷ code ∷ []
 head (Some id) code = addressed_flags ∷ code ∷ low_first id
 
--- The mask of an inventory is sent in whole bytes. An empty frame moves a round to its next slot: it stands for a bare end of frame (this
--- project's own).
+-- The mask of an inventory is sent in whole bytes. An empty frame moves a round to its next slot: it stands for a bare
+-- end of frame (this project's own).
 abbrev pub command_frame : T5Command → Signal
 command_frame (Inventory bits mask) = whole_v (inventory_flags ∷ inventory_code ∷ bits ∷ take (mask_size bits) mask)
 command_frame (Slots bits mask) = whole_v (slots_flags ∷ inventory_code ∷ bits ∷ take (mask_size bits) mask)

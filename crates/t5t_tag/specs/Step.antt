@@ -152,7 +152,8 @@ abbrev pub slots : T5State → List ℕ → T5Turn
 slots t [] = silent t
 slots t (code ∷ []) = silent t
 slots t (code ∷ bits ∷ mask) =
-    if (code == inventory_code) && not t.quiet && asks_in_slots t.id bits mask then in_slot t (Some (begun (slot_of t.id bits))) else silent t
+    if (code == inventory_code) && not t.quiet && asks_in_slots t.id bits mask then in_slot t (Some (begun (slot_of t.id bits)))
+    else silent t
 
 -- the round behind an empty frame: one slot on, where the tag is in a round that has one more
 abbrev pub next_round : Option Round → Option Round

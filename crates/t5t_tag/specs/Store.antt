@@ -65,7 +65,8 @@ locked_too t block = record t { locked = set t.locked block true }
 
 -- a tag that holds a store, has no locked block, isn't quiet and is in no round
 abbrev pub fresh : List ℕ → ℕ → List ℕ → T5State
-fresh id size store = record { id = id; size = size; store = store; locked = replicate lock_count false; quiet = false; round = None }
+fresh id size store =
+    record { id = id; size = size; store = store; locked = replicate lock_count false; quiet = false; round = None }
 
 -- the tag behind the dark: it isn't quiet, and in no round
 abbrev pub darkened : T5State → T5State

@@ -1,0 +1,12 @@
+pub mod Spent
+pub mod Falls
+pub mod Members
+pub mod TagSteps
+pub mod Stages
+pub mod Standing
+pub mod FoundTags
+pub mod Ascending
+pub mod Causes
+pub mod Losses
+pub mod Recorded
+pub mod Ends

@@ -1,0 +1,4 @@
+pub mod Masks
+pub mod Search
+pub mod Finding
+pub mod Tags
