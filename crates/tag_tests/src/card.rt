@@ -60,11 +60,12 @@ impl Card for T4Tag {
     }
 }
 
-/// A Type 5 tag that doesn't stay quiet.
+/// A Type 5 tag that doesn't stay quiet, and is in no round of slots.
 #[derive(Drop)]
 pub struct Awake {
     pub tag: T5Tag,
     ghost awake: { tag.quiet ≡ false },
+    ghost apart: { tag.round ≡ None },
 }
 
 impl Card for Awake {
