@@ -6,5 +6,5 @@ use Rattle.tag_tests.proofs.write_tests.left_t5.Goals as goal
 pub read-requires-clause-of : goal.read-requires-clause-of
 read-requires-clause-of c =
     let tag = c.light.new.self.card.tag in
-    let is = c.store-shape.ensures.shape in
+    let is = c.store-shape.ensures.shape.shape in
     record { kind = refl; named = subst (λ i. IsNamed (T5 i) tag.id) (sym c.id-id.ensures) (refl, is.id, is.bytes) }
