@@ -6,7 +6,7 @@ use Rattle.tag_tests.proofs.read_tests.read_t5.Goals as goal
 
 pub read-outcome-requires-clause-of : goal.read-outcome-requires-clause-of
 read-outcome-requires-clause-of c =
-    let is = c.store-shape.ensures.shape in
+    let is = c.store-shape.ensures.shape.shape in
     record {
       kind = refl;
       named = subst (λ i. IsNamed (T5 i) c.new-link.result.card.tag.id) c.requires.named (ap (λ (a : Awake). a.tag.id) c.new-link.ensures, is.id, is.bytes);
