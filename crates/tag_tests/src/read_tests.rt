@@ -1,6 +1,6 @@
 //! Reads tags of each kind, whatever they hold and answer.
 
-ghost use Rattle.std.specs.Prelude.{◌≡◌, false};
+ghost use Rattle.std.specs.Prelude.{◌≡◌, None, false};
 ghost use Rattle.tag_reader.specs.Kinds.{kind_of, IsNamed};
 
 use crate::rows::store_of;
@@ -72,6 +72,7 @@ fn read_t4(alloc: Global, tag: T4Tag, left: u16) -> (Result<Found, ReadFault>, u
 fn read_t5(alloc: Global, id: [u8; 8], tag: T5Tag) -> (Result<Found, ReadFault>, usize)
     requires named { tag.id ≡ id }
     requires awake { tag.quiet ≡ false }
+    requires apart { tag.round ≡ None }
 {
     let _shape = tag.store();
     let mut link = MemLink::new(alloc, Awake { tag });
