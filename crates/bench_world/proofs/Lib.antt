@@ -22,10 +22,12 @@ mod SelectedPlace
 pub mod AskedBehind
 pub mod Outcomes
 pub mod Benches
+pub mod BrokenRead
 pub mod Complete
 pub mod CompleteLinks
 pub mod OneForm
 pub mod WriteTelling
+pub mod WriteBehind
 pub mod WriteLegality
 pub mod HeldOn
 pub mod ReadBehind

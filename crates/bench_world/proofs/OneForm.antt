@@ -138,6 +138,11 @@ module _ (how : How) (size : ℕ) (store : List ℕ) where
   tells_form answers.Unlinked t = absurd t
   tells_form answers.NoLink t = absurd t
 
+  -- of a store that holds a message that one is told
+  pub tells_held : (answer : Answer) (message : List ℕ) → IsStoreForm how size store (Message message) → Tells how size store answer → (writable : Bool) × (answer ≡ answers.Message message writable)
+  tells_held answer message held t =
+      let f = tells_form answer t in (f.writable, f.same ∙ ap (λ x. answer_by x f.writable) (one_store_form how size store f.form (Message message) f.is held))
+
   -- A store is told in one way.
   pub one_telling : (a b : Answer) → Tells how size store a → Tells how size store b → a ≡ b
   one_telling a b p q =

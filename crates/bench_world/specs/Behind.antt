@@ -1,6 +1,9 @@
 -- What a read tells behind a write of its tag, where no command between them touches the tag.
-use Rattle.std.specs.Prelude.{◌≡◌, ◌⊎◌, ℕ, List, [], Bool, Some}
+use Rattle.std.specs.Prelude.{◌≡◌, ◌⊎◌, ℕ, ◌<◌, List, [], ◌∷◌, ◌++◌, replicate, Bool, Some}
 use Rattle.std.specs.List.{AllByRecursion}
+use Rattle.nfc_base.specs.Trace.{transmissions}
+use Rattle.nfc_base.specs.declared.event.Fate.{Fate}
+use Rattle.nfc_base.specs.declared.event.Fate.TheVariants.{Pass, Break}
 use Rattle.tlv_area.specs.Form.{Message}
 use Rattle.tag_reader.specs.Kinds.{IsStoreForm}
 use Rattle.bench_script.specs.declared.command.Command.{Command}
@@ -10,6 +13,7 @@ use Rattle.bench_script.specs.declared.message.Msg.{Msg}
 use Rattle.bench_script.specs.DeviceIds.{bytes_of}
 use Rattle.bench_script.specs.Messages.{message_of}
 use Rattle.bench_devices.specs.declared.device.Device.{Device}
+use Rattle.bench_devices.specs.Answering.{IsNamed}
 use Rattle.bench_devices.specs.Device.{device_store, how_of, size_of}
 use Rattle.bench_devices.specs.Placed.{device_with}
 use Rattle.bench_world.specs.declared.entry.Answer.{Answer}
@@ -61,3 +65,45 @@ abbrev pub OneOfThreeIsRead : Type 0
 OneOfThreeIsRead =
     (id : DeviceId) (tag : Device) (m : Msg) (answer : Answer) (old message : List ℕ) → WritesThenReads id tag m answer message
     → IsStoreForm (how_of tag) (size_of tag) (device_store tag) (Message old) → (message ≡ old) ⊎ (message ≡ []) ⊎ (message ≡ message_of m)
+
+-- so many transmissions pass, and the next is a Break
+abbrev pub breaking : ℕ → List Fate
+breaking passes = replicate passes Pass ++ Break ∷ []
+
+-- A tag is placed, and where no fate is left a write of it is a success. The same write is broken off: fewer transmissions pass
+-- than it has, and the next is a Break. Then the tag is read.
+pub record BreaksThenReads (id : DeviceId) (tag : Device) (m : Msg) (read : Entry) : Type 0 where
+  pub before : State
+  pub placed : device_with (bytes_of id) before.world.field.listeners ≡ Some tag
+  pub named : IsNamed id tag
+  pub none : before.queue ≡ []
+  pub whole : Entry
+  pub whole_given : Given
+  pub whole_after : State
+  pub writes : LegalStep before whole_given whole whole_after
+  pub writing : whole.command ≡ Write id m
+  pub success : whole.answer ≡ answers.Written
+  pub passes : ℕ
+  pub few : passes < transmissions (λ _. 1) whole.events
+  pub broken : Entry
+  pub broken_given : Given
+  pub broken_after : State
+  pub breaks : LegalStep (record { world = before.world; queue = breaking passes; peers = before.peers; link = before.link }) broken_given broken broken_after
+  pub again : broken.command ≡ Write id m
+  pub read_given : Given
+  pub after : State
+  pub reads : LegalStep broken_after read_given read after
+  pub reading : read.command ≡ Read id
+
+-- An entry tells the message that a tag holds, the empty one, or this one.
+pub record TellsOneOfThree (tag : Device) (new : List ℕ) (read : Entry) : Type 0 where
+  pub old : List ℕ
+  pub held : IsStoreForm (how_of tag) (size_of tag) (device_store tag) (Message old)
+  pub message : List ℕ
+  pub writable : Bool
+  pub told : read.answer ≡ answers.Message message writable
+  pub three : (message ≡ old) ⊎ ((message ≡ []) ⊎ (message ≡ new))
+
+-- Wherever the write is broken off, a message is told then: the old one, the empty one, or the new one.
+abbrev pub BrokenIsRead : Type 0
+BrokenIsRead = (id : DeviceId) (tag : Device) (m : Msg) (read : Entry) → BreaksThenReads id tag m read → TellsOneOfThree tag (message_of m) read

@@ -1,7 +1,7 @@
 //! That a command answers what it is asked for where noise doesn't keep it from that. The calls do nothing: they stand
 //! for these laws.
 
-ghost use Rattle.bench_world.specs.Behind.{WrittenIsRead, OneOfThreeIsRead};
+ghost use Rattle.bench_world.specs.Behind.{WrittenIsRead, OneOfThreeIsRead, BrokenIsRead};
 ghost use Rattle.bench_world.specs.Completing.{ReadsComplete, WritesComplete, ShownIsWritten, ValidIsWritten, FindsComplete};
 ghost use Rattle.bench_world.specs.CompletingLinks.{PutsComplete, GetsComplete, LookupsComplete, UnlinksComplete, ValidIsOk, LinkingsComplete, KindsTold};
 ghost use Rattle.bench_world.specs.LinkLaw.{CutLinkLaw, LinkLaw};
@@ -44,10 +44,12 @@ pub fn links_complete()
 {}
 
 /// Behind a write, with no command between that touches its tag, a read that tells a message tells the new one where
-/// the write was a success, and whatever it answered the old one, the empty one or the new one.
+/// the write was a success, and whatever it answered the old one, the empty one or the new one. Where the tag is pulled
+/// away at any one of the transmissions of a write, and all others pass, a read behind it tells one of these three.
 pub fn reads_behind()
     ensures written { WrittenIsRead }
     ensures three { OneOfThreeIsRead }
+    ensures broken { BrokenIsRead }
 {}
 
 /// Which lines of a script are taken is decided by the lines alone, not by what was sent.
