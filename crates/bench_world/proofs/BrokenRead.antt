@@ -1,36 +1,32 @@
 -- A write that is broken off at one of its transmissions, and the read behind it.
-use Rattle.std.proofs.Common.{◌≡◌, ◌⊎◌, inl, inr, ℕ, zero, suc, ◌<◌, ◌≤◌, List, [], ◌∷◌, true, Option, Some, Bool, refl, sym, ◌∙◌, ap, subst, arith}
+use Rattle.std.proofs.Common.{◌≡◌, ◌⊎◌, inl, inr, ℕ, zero, suc, ◌<◌, ◌≤◌, List, [], ◌∷◌, true, Some, refl, sym, ◌∙◌, ap, subst, arith}
 use Rattle.std.proofs.lemmas.Bool.{cases_lt}
 use Rattle.nfc_base.specs.declared.frame.Tech.{Tech}
 use Rattle.nfc_base.specs.declared.frame.Tech.TheVariants as techs
 use Rattle.nfc_base.specs.Trace.{transmissions}
 use Rattle.nfc_base.specs.declared.event.Event.{Event}
 use Rattle.nfc_base.specs.declared.event.Event.TheVariants.{Reset, Request, Answer, Clash}
-use Rattle.nfc_base.specs.declared.event.Fate.{Fate}
 use Rattle.air_core.specs.Conversation.{Over, queue_after, receptions, FatesFrom}
 use Rattle.tlv_area.specs.Form.{Message}
 use Rattle.tag_reader.specs.Kinds.{IsStoreForm}
-use Rattle.tag_writer.specs.Place.{Place, Takes}
-use Rattle.tag_writer.specs.Law.{last_store, IsEmptied, IsWritten}
+use Rattle.tag_writer.specs.Law.{IsEmptied, IsWritten}
 use Rattle.tag_writer.proofs.OneOutcome.{held_there}
-use Rattle.bench_script.specs.declared.command.Command.{Command}
 use Rattle.bench_script.specs.declared.command.Command.TheVariants.{Write}
 use Rattle.bench_script.specs.declared.command.DeviceId.{DeviceId}
 use Rattle.bench_script.specs.declared.command.DeviceId.TheVariants.{A, V}
 use Rattle.bench_script.specs.declared.message.Msg.{Msg}
-use Rattle.bench_script.specs.DeviceIds.{bytes_of}
 use Rattle.bench_script.specs.Messages.{message_of}
 use Rattle.bench_devices.specs.declared.device.Device.{Device}
 use Rattle.bench_devices.specs.declared.device.Device.TheVariants.{T2, T4, Peer, T5}
 use Rattle.bench_devices.specs.declared.polling.SeenKind.{SeenKind}
 use Rattle.bench_devices.specs.declared.polling.SeenKind.TheVariants as seen
 use Rattle.bench_devices.specs.Answering.{IsNamed}
-use Rattle.bench_devices.specs.Device.{device_id, device_store, device_tech, how_of, seen_of, size_of, is_tag}
+use Rattle.bench_devices.specs.Device.{device_store, device_tech, how_of, seen_of, size_of, is_tag}
 use Rattle.bench_devices.specs.Keeping.{Fixed, fixed}
 use Rattle.bench_devices.proofs.TagOrPeer.{of_tag, same_tag}
 use Rattle.bench_world.specs.Behind.{breaking, BreaksThenReads, TellsOneOfThree, BrokenIsRead}
 use Rattle.bench_world.specs.declared.entry.Entry.{Entry}
-use Rattle.bench_world.specs.Legal.{State, Given, LegalStep, FrontOf, due, state_after}
+use Rattle.bench_world.specs.Legal.{State, FrontOf, due, state_after}
 use Rattle.bench_world.specs.Quiet.{AllPass}
 use Rattle.bench_world.specs.Reading.{TellsOf, Tells}
 use Rattle.bench_world.proofs.OneForm.{tells_held}

@@ -1,47 +1,37 @@
 -- What a read tells behind a write of its tag.
-use Rattle.std.proofs.Common.{◌≡◌, ◌⊎◌, inl, inr, ℕ, List, [], ◌∷◌, ◌++◌, Bool, true, false, nat_eq, Some, Result, Ok, Err, refl, sym, ◌∙◌, ap, subst}
-use Rattle.std.specs.List.{AllByRecursion}
+use Rattle.std.proofs.Common.{◌≡◌, ◌⊎◌, inl, inr, ℕ, List, [], Bool, true, false, nat_eq, Some, Ok, refl, sym, ◌∙◌, ap, subst}
 use Rattle.std.specs.Cmp.Lexicographic.{pointwise}
 use Rattle.nfca_poll.proofs.OneLevel.{pointwise_self}
-use Rattle.nfc_base.specs.Signal.{Signal}
-use Rattle.nfc_base.specs.declared.event.Event.{Event}
 use Rattle.nfc_base.specs.declared.tag_link.AskFault.{AskFault}
 use Rattle.nfc_base.specs.declared.tag_link.AskFault.TheVariants as asking
-use Rattle.air_core.specs.Conversation.{Note, replay}
 use Rattle.nfca_poll.specs.declared.fault.PollFault.{PollFault}
 use Rattle.nfca_poll.specs.declared.fault.PollFault.TheVariants as faults
 use Rattle.t5t_tag.proofs.Bytes.{equal_bytes}
 use Rattle.tlv_area.specs.Form.{Form, Message}
 use Rattle.tag_reader.specs.Kinds.{IsStoreForm}
 use Rattle.tag_writer.specs.Place.{TakesNot}
-use Rattle.nfc_base.specs.TagLinks.{PassInThree}
-use Rattle.tag_writer.specs.Law.{Written, last_store, IsEmptied, IsWritten, Leaves}
+use Rattle.tag_writer.specs.Law.{Written, IsEmptied, IsWritten, Leaves}
 use Rattle.bench_script.specs.declared.command.Command.{Command}
-use Rattle.bench_script.specs.declared.command.Command.TheVariants.{Read, Write}
+use Rattle.bench_script.specs.declared.command.Command.TheVariants.{Read}
 use Rattle.bench_script.specs.declared.command.DeviceId.{DeviceId}
 use Rattle.bench_script.specs.declared.message.Msg.{Msg}
 use Rattle.bench_script.specs.DeviceIds.{bytes_of}
 use Rattle.bench_script.specs.Messages.{message_of}
 use Rattle.bench_devices.specs.declared.device.Device.{Device}
-use Rattle.bench_devices.specs.declared.polling.SeenKind.{SeenKind}
-use Rattle.bench_devices.specs.Device.{BenchWorld, air, device_id, device_store, how_of, size_of, is_tag}
+use Rattle.bench_devices.specs.Device.{device_store, how_of, size_of, is_tag}
 use Rattle.bench_devices.proofs.TagOrPeer.{told_tag, of_tag, same_tag}
-use Rattle.bench_devices.specs.Keeping.{Fixed, fixed, held_by, images_of, AllKeepBut}
-use Rattle.bench_devices.specs.Placed.{device_with, OfPlaced, IfPlaced}
+use Rattle.bench_devices.specs.Keeping.{Fixed}
 use Rattle.bench_devices.specs.Writing.{ShowsWrite, KeepsWriteLaw}
 use Rattle.bench_world.specs.declared.entry.Answer.{Answer}
 use Rattle.bench_world.specs.declared.entry.Answer.TheVariants as answers
-use Rattle.bench_world.specs.Answering.{TagEnds, TagTells, TellsFault, poll_answer}
+use Rattle.bench_world.specs.Answering.{TellsFault, poll_answer}
 use Rattle.bench_world.specs.Reading.{TellsOf}
-use Rattle.bench_world.specs.Writing.{TellsTag, TellsWrite, KeepsStores, ending_told}
-use Rattle.bench_world.specs.Legal.{State, FrontOf, AnswerLaw, ReadLaw, WritingLaw, world_after, state_after}
-use Rattle.bench_world.proofs.Fronts.{field_after}
+use Rattle.bench_world.specs.Writing.{ending_told}
+use Rattle.bench_world.specs.Legal.{AnswerLaw, ReadLaw}
 use Rattle.bench_world.specs.Behind.{WritesThenReads, WrittenIsRead, OneOfThreeIsRead}
 use Rattle.bench_world.proofs.OneForm.{one_store_form}
-use Rattle.bench_world.proofs.Telling.{tells_either}
 use Rattle.bench_world.proofs.WriteBehind.{Behind, images_behind, last_behind, tag_behind, told_of, last_all, all_as, all_three}
-use Rattle.bench_world.proofs.WriteLegality.{found_named}
-use Rattle.bench_world.proofs.HeldOn.{IsAlike, own_found, steps_alike}
+use Rattle.bench_world.proofs.HeldOn.{IsAlike, steps_alike}
 
 -- a message is no fault
 message_polled : (message : List ℕ) (writable : Bool) (e : PollFault) → poll_answer e ≡ Some (answers.Message message writable) → ⊥
