@@ -4,6 +4,7 @@ pub mod Members
 pub mod TagSteps
 pub mod Stages
 pub mod Standing
+pub mod Forks
 pub mod FoundTags
 pub mod Ascending
 pub mod Causes
