@@ -5,6 +5,8 @@ pub mod TagSteps
 pub mod Stages
 pub mod Standing
 pub mod Forks
+pub mod Together
+pub mod Clashing
 pub mod FoundTags
 pub mod Ascending
 pub mod Causes
