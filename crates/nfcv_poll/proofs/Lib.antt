@@ -4,6 +4,7 @@ pub mod Members
 pub mod TagSteps
 pub mod Stages
 pub mod Standing
+pub mod Preorder
 pub mod Forks
 pub mod Together
 pub mod Clashing
