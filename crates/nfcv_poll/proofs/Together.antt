@@ -4,12 +4,12 @@ use Rattle.std.proofs.Common.{◌≡◌, ◌⊎◌, inl, inr, ℕ, ◌+◌, List
 use Rattle.std.specs.Int.{w64, to_le_bytes}
 use Rattle.std.specs.Cmp.Lexicographic.{pointwise}
 use Rattle.t5t_tag.specs.declared.answer.T5Answer.TheVariants.{Present}
-use Rattle.t5t_tag.specs.declared.command.T5Command.TheVariants.{NextSlot}
+use Rattle.t5t_tag.specs.declared.command.T5Command.TheVariants.{NextSlot, Inventory}
 use Rattle.t5t_tag.specs.declared.round.Round.{Round}
 use Rattle.t5t_tag.specs.Mask.{mask_size, mask_of, asks_for, most_bits}
 use Rattle.t5t_tag.specs.Slots.{slot_of, asks_in_slots, begun, is_own, last_slot, most_slot_bits}
 use Rattle.t5t_tag.specs.Spelling.{command_frame}
-use Rattle.t5t_tag.specs.Step.{T5Turn, silent, in_slot, next_round, t5_turn, out_of_round}
+use Rattle.t5t_tag.specs.Step.{T5Turn, silent, tells, in_slot, next_round, t5_turn, out_of_round}
 use Rattle.t5t_tag.specs.Store.{T5State}
 use Rattle.t5t_tag.proofs.Bytes.{equal_bytes}
 use Rattle.nfcv_poll.specs.declared.mask.Mask.{Mask}
@@ -93,6 +93,17 @@ moves_together n current t at = by_round t.round at
     by_round : (o : Option Round) → InRound n current t o → Turns n (current + 1) t (in_slot t (next_round o))
     by_round None at = nowhere
     by_round (Some r) at = moved r at (nat_le last_slot r.current)
+
+-- a question who is left ends a tag's round
+pub ends_together : (t : T5State) (mask : List ℕ) → (t5_turn t (command_frame (Inventory 0 mask))).after.round ≡ None
+ends_together t mask = by_asked (not t.quiet && asks_for t.id 0 (take (mask_size 0) mask))
+  where
+    u : T5State
+    u = out_of_round t
+
+    by_asked : (v : Bool) → (if v then tells u (Present u.id) else silent u).after.round ≡ None
+    by_asked true = refl
+    by_asked false = refl
 
 -- Two that answer together have a common mask, and common next four bits.
 pub answer_together : (n : Mask) (current : ℕ) (t u : T5State) → Answers n current t → Answers n current u
