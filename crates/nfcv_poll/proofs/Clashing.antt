@@ -87,7 +87,6 @@ module _ {L : Type 0} (m : Machine L) (tag : L → T5State) (lit : L → Bool) (
       answered_share [] h = omega arith
       answered_share (l ∷ ls) h = one (m.tech l) refl (answered_share ls h.1)
         where
-
           by_answer : (a : Option T5Answer) → ((a ≡ None) ⊎ Answers n current (tag l)) → length (filter_map saying ls) ≤ sharing fork (tag_ids m tag ls)
               → length (cons_option (sent a) (filter_map saying ls)) ≤ one_if (shares (tag l).id fork) + sharing fork (tag_ids m tag ls)
           by_answer None h rest = omega (arith, rest)
