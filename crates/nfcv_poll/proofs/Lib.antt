@@ -5,6 +5,7 @@ pub mod TagSteps
 pub mod Stages
 pub mod Standing
 pub mod Preorder
+pub mod Alike
 pub mod Forks
 pub mod Together
 pub mod Clashing
