@@ -6,6 +6,7 @@ pub mod Stages
 pub mod Standing
 pub mod Preorder
 pub mod Alike
+pub mod Paths
 pub mod Forks
 pub mod Together
 pub mod Clashing
