@@ -1,5 +1,6 @@
 -- A search finds tags that are there, and misses one only where noise met each of the last four questions.
-use Rattle.std.proofs.Common.{◌≡◌, ◌⊎◌, inl, inr, ◌≤◌, ◌<◌, ℕ, ◌+◌, List, [], ◌∷◌, ◌++◌, length, map, filter_map, replicate, Bool, true, false, nat_eq, nat_lt, if◌then◌else◌, Option, Some, None, Result, append_assoc, refl, sym, ◌∙◌, ap, subst, arith}
+use Rattle.std.proofs.Common.{◌≡◌, ◌⊎◌, inl, inr, ◌≤◌, ◌<◌, ℕ, ◌+◌, List, [], ◌∷◌, ◌++◌, length, map, filter_map, replicate, Bool, true, false, ◌||◌, nat_eq, nat_lt, if◌then◌else◌, Option, Some, None, Result, Err, append_assoc, refl, sym, ◌∙◌, ap, subst, arith}
+use Rattle.std.specs.List.{list_any}
 use Rattle.std.proofs.lemmas.List.{append-nil, length-append}
 use Rattle.nfc_base.specs.declared.event.Event.{Event}
 use Rattle.nfc_base.specs.declared.event.Event.TheVariants.{Reset, Request}
@@ -9,7 +10,7 @@ use Rattle.nfc_base.specs.declared.event.Heard.{Heard}
 use Rattle.nfc_base.specs.declared.event.Heard.TheVariants.{Whole, Collided, Damaged, Silent}
 use Rattle.nfc_base.specs.declared.frame.Tech.TheVariants.{V}
 use Rattle.nfc_base.specs.Signal.{Signal}
-use Rattle.nfc_base.specs.Trace.{Turn, turns, other_than_pass, heard_by}
+use Rattle.nfc_base.specs.Trace.{Turn, turns, other_than_pass, heard_by, by_heard}
 use Rattle.nfc_base.specs.Trace as backs
 use Rattle.air_core.specs.Conversation.{LightUp, Asks, replay, turn_events, turn_heard, joint_events, joint_back}
 use Rattle.nfc_base.specs.Bits.{bits, of_bits}
@@ -38,12 +39,14 @@ use Rattle.t5t_tag.proofs.Inventories.{counted}
 use Rattle.t5t_tag.proofs.SpelledAnswers.{answer_reads}
 use Rattle.nfcv_poll.specs.declared.mask.Mask.{Mask}
 use Rattle.nfcv_poll.specs.Masks.{slots_frame}
-use Rattle.nfcv_poll.specs.Search.{most_passes, questions, with_id, said_by, said, begins_pass, fresh, fails, hushes, takes, is_silence, answers_left, hears_at, stage_request, due_request, over_at, Course, Begins, Runs, asked_for, course_step, course_next, finding_all}
+use Rattle.nfcv_poll.specs.Finding.{is_strange_said, is_strange, rounds_begun}
+use Rattle.nfcv_poll.specs.Search.{most_passes, most_rounds, questions, with_id, said_by, said, begins_pass, fresh, fails, hushes, takes, is_silence, answers_left, hears_at, stage_request, due_request, over_at, Course, Begins, Runs, asked_for, course_step, course_next, finding_all}
 use Rattle.nfcv_poll.specs.Tags.{IsOneOf, StepAsTags, tag_ids, noise_back, IsNoisyQuestion, AreNoisyAtLast, FoundIf, FindsTags}
 use Rattle.nfcv_poll.specs.declared.search.Said.TheVariants as told
 use Rattle.nfcv_poll.specs.declared.search.Search.{Search}
 use Rattle.nfcv_poll.specs.declared.search.Stage.{Stage}
 use Rattle.nfcv_poll.specs.declared.search.Stage.TheVariants as stages
+use Rattle.nfcv_poll.proofs.Causes.{has_causes}
 use Rattle.nfcv_poll.proofs.Stages.{IsEarly, Early, hush_early, Taken, Same, More, takes_early}
 use Rattle.nfcv_poll.proofs.Members.{each_with, each_one, each_id, their_own}
 use Rattle.nfcv_poll.proofs.TagSteps.{at_slots, at_next, at_question, at_quiet}
@@ -89,6 +92,15 @@ same_number m n h = grind arith
 far_number : (m n : ℕ) → nat_lt m n ≡ false → n ≤ m
 far_number m n h = grind arith
 
+-- one more of a list of which none is so
+none_more : (test : Turn → Bool) (ts : List Turn) (t : Turn) → list_any test ts ≡ false → test t ≡ false → list_any test (ts ++ t ∷ []) ≡ false
+none_more test [] t h here = ap (λ v. v || false) here
+none_more test (u ∷ us) t h here = by_first (test u) (λ k. none_more test us t k here) h
+  where
+    by_first : (v : Bool) → (list_any test us ≡ false → list_any test (us ++ t ∷ []) ≡ false) → (v || list_any test us) ≡ false → (v || list_any test (us ++ t ∷ [])) ≡ false
+    by_first true more k = absurd cc
+    by_first false more k = more k
+
 module _ {L : Type 0} (m : Machine L) (tag : L → T5State) (lit : L → Bool) (are : StepAsTags m tag lit) (ids : List (List ℕ)) (eight : Each (λ i. length i ≡ id_size) ids) where
   -- it was asked who is left, and nothing was heard: all are found, or noise met it
   record IsQuestion (found : List (List ℕ)) (t : Turn) : Type 0 where
@@ -115,9 +127,10 @@ module _ {L : Type 0} (m : Machine L) (tag : L → T5State) (lit : L → Bool) (
     placed : ArePlaced m tag lit are ids s.found w.listeners
     known : Each (λ i. IsOneOf i ids) s.found
     at : AtStage s.found s.stage ts
+    plain : list_any is_strange ts ≡ false
 
   abbrev Inv : Course → World L → List Event → Type 0
-  Inv Begins w es = tag_ids m tag w.listeners ≡ ids
+  Inv Begins w es = (tag_ids m tag w.listeners ≡ ids) × (list_any is_strange (turns es) ≡ false)
   Inv (Runs s) w es = Stands s w (turns es)
 
   none_asked : (found : List (List ℕ)) (ts : List Turn) → Asked found 0 ts
@@ -132,12 +145,13 @@ module _ {L : Type 0} (m : Machine L) (tag : L → T5State) (lit : L → Bool) (
 
   -- a search at an early stage, over tags that stand so
   stands_early : (found : List (List ℕ)) (r : Search) (w : World L) (ts : List Turn) → Early found r → tag_ids m tag w.listeners ≡ ids → ArePlaced m tag lit are ids found w.listeners
-      → Each (λ i. IsOneOf i ids) found → Stands r w ts
-  stands_early found r w ts e same placed known = record {
+      → Each (λ i. IsOneOf i ids) found → list_any is_strange ts ≡ false → Stands r w ts
+  stands_early found r w ts e same placed known plain = record {
     same = same;
     placed = subst (λ k. ArePlaced m tag lit are ids k w.listeners) (sym e.found') placed;
     known = subst (Each (λ i. IsOneOf i ids)) (sym e.found') known;
     at = subst (λ k. AtStage k r.stage ts) (sym e.found') (early_at found r.stage ts e.early);
+    plain = plain;
   }
 
   -- a reset
@@ -147,8 +161,9 @@ module _ {L : Type 0} (m : Machine L) (tag : L → T5State) (lit : L → Bool) (
 
   lights : (s : Course) (w : World L) (es : List Event) → Inv s w es → course_next s ≡ LightUp → Inv (finding_all.light s) (reset_by (muted m) w) (es ++ Reset ∷ [])
   lights Begins w es h due =
-      stands_early [] fresh (reset_by (muted m) w) (turns (es ++ Reset ∷ [])) (record { found' = refl; early = tt }) (ids_reset m tag lit are ids w.listeners ∙ h)
-      (placed_reset m tag lit are ids [] w.listeners (subst (λ is. Each (λ l. m.tech l ≡ V → IsOneOf (tag l).id is) w.listeners) h (their_own m tag w.listeners))) tt
+      stands_early [] fresh (reset_by (muted m) w) (turns (es ++ Reset ∷ [])) (record { found' = refl; early = tt }) (ids_reset m tag lit are ids w.listeners ∙ h.0)
+      (placed_reset m tag lit are ids [] w.listeners (subst (λ is. Each (λ l. m.tech l ≡ V → IsOneOf (tag l).id is) w.listeners) h.0 (their_own m tag w.listeners))) tt
+      (ap (list_any is_strange) (turns-append es (Reset ∷ []) refl ∙ append-nil (turns es)) ∙ h.1)
   lights (Runs s) w es h due = absurd (no_light (due_request s) due)
 
   -- what a turn of which something was heard leaves
@@ -251,6 +266,18 @@ module _ {L : Type 0} (m : Machine L) (tag : L → T5State) (lit : L → Bool) (
       let reads : spelled_answer whole.0 ≡ Some (Present tells.0) = ap spelled_answer tells.2 ∙ answer_reads (Present tells.0) (each_one (λ i. length i ≡ id_size) ids tells.0 eight tells.1) in
       subst (λ i. IsOneOf i ids) (let d : Some (Present tells.0) ≡ Some (Present id) = sym reads ∙ whole.1.1 in cc) tells.1
 
+  -- a whole frame that is heard is a tag's answer
+  not_strange : (found : List (List ℕ)) (w : World L) (f : Signal) (x y : Fate) (h : Heard) → IsHeeded found f → Some h ≡ turn_heard (mute_air m) w f x y → Stay found w
+      → by_heard (Some h) (λ g. is_strange_said (said_by (spelled_answer g))) (λ g. false) false false false ≡ false
+  not_strange found w f x y (Whole g) heeded e s =
+      let single : (mute_air m).joint w f ≡ Single g = whole_turn w f x y g e in
+      let tells : TellsOne ids g = single_first (filter_map (saying f) w.listeners) g (TellsOne ids) single (answers_tell m tag lit are ids f heeded.of_v found heeded.fares w.listeners s.placed) in
+      let reads : spelled_answer g ≡ Some (Present tells.0) = ap spelled_answer tells.2 ∙ answer_reads (Present tells.0) (each_one (λ i. length i ≡ id_size) ids tells.0 eight tells.1) in
+      ap (λ o. is_strange_said (said_by o)) reads
+  not_strange found w f x y (Collided g) heeded e s = refl
+  not_strange found w f x y Damaged heeded e s = refl
+  not_strange found w f x y Silent heeded e s = refl
+
   -- the turn that a request makes
   abbrev turn_at : World L → Signal → Fate → Fate → Turn
   turn_at w f Pass y = record { request = f; fate = Pass; back = joint_back ((mute_air m).joint w f) y }
@@ -269,6 +296,12 @@ module _ {L : Type 0} (m : Machine L) (tag : L → T5State) (lit : L → Bool) (
   turn_request w f Damage y = refl
   turn_request w f Lose y = refl
   turn_request w f Break y = refl
+
+  turn_hears : (w : World L) (f : Signal) (x y : Fate) → backs.heard (turn_at w f x y) ≡ turn_heard (mute_air m) w f x y
+  turn_hears w f Pass y = refl
+  turn_hears w f Damage y = refl
+  turn_hears w f Lose y = refl
+  turn_hears w f Break y = refl
 
   -- a question to which nothing was heard: where no noise met it, each tag is quiet, and so found
   silent_question : (found : List (List ℕ)) (w : World L) (x y : Fate) → IsHeeded found inventory_all → Stay found w → Some Silent ≡ turn_heard (mute_air m) w inventory_all x y
@@ -357,6 +390,14 @@ module _ {L : Type 0} (m : Machine L) (tag : L → T5State) (lit : L → Bool) (
     abbrev later : List Event
     later = es ++ fs w f x y
 
+    -- and no frame was heard that no tag gives
+    plain_at : IsHeeded s.found f → list_any is_strange (turns later) ≡ false
+    plain_at heeded =
+        let O : Option Heard → Bool = λ o. by_heard o (λ g. is_strange_said (said_by (spelled_answer g))) (λ g. false) false false false in
+        let here : is_strange (turn w f x y) ≡ false =
+        ap O (turn_hears w f x y ∙ sym heard) ∙ not_strange s.found w f x y h heeded heard (record { same = k.same; placed = k.placed }) in
+        ap (list_any is_strange) (turns_more w f x y es) ∙ none_more is_strange (turns es) (turn w f x y) k.plain here
+
     stays_at : IsHeeded s.found f → Stay s.found after
     stays_at heeded = stay_on s.found w f x y h heeded heard (record { same = k.same; placed = k.placed })
 
@@ -367,17 +408,18 @@ module _ {L : Type 0} (m : Machine L) (tag : L → T5State) (lit : L → Bool) (
         heeded = request_heeded s.found (stages.Slot n slot) f k.known (inl tt) due
 
         by_taken : Taken s (takes s n slot (said h)) (said h) → Stands (takes s n slot (said h)) after (turns later)
-        by_taken (Same e) = (let t = stays_at heeded in stands_early s.found (takes s n slot (said h)) after (turns later) e t.same t.placed k.known)
+        by_taken (Same e) = (let t = stays_at heeded in stands_early s.found (takes s n slot (said h)) after (turns later) e t.same t.placed k.known (plain_at heeded))
         by_taken (More id is e) =
             let t = stays_at heeded in
             let own : IsOneOf id ids = told_there s.found w f x y h id heeded heard (record { same = k.same; placed = k.placed }) is in
             stands_early (with_id s.found id) (takes s n slot (said h)) after (turns later) e t.same (placed_more m tag lit are ids s.found id after.listeners t.placed)
-            (each_with (λ i. IsOneOf i ids) s.found id k.known own)
+            (each_with (λ i. IsOneOf i ids) s.found id k.known own) (plain_at heeded)
 
     by_hush : (id : List ℕ) (next : ℕ) → IsOneOf id s.found → stage_request (stages.Hush id next) ≡ Some f → Stands (hushes s next) after (turns later)
     by_hush id next one due =
-        let t = stays_at (request_heeded s.found (stages.Hush id next) f k.known (inl one) due) in
-        stands_early s.found (hushes s next) after (turns later) (hush_early s next) t.same t.placed k.known
+        let heeded = request_heeded s.found (stages.Hush id next) f k.known (inl one) due in
+        let t = stays_at heeded in
+        stands_early s.found (hushes s next) after (turns later) (hush_early s next) t.same t.placed k.known (plain_at heeded)
 
     by_question : (asked : ℕ) → asked < 4 → Asked s.found asked (turns es) → stage_request (stages.WhoIsLeft asked) ≡ Some f → Stands (answers_left s asked (is_silence h)) after (turns later)
     by_question asked few so due = by_silence (is_silence h) refl
@@ -406,7 +448,7 @@ module _ {L : Type 0} (m : Machine L) (tag : L → T5State) (lit : L → Bool) (
         stands_silent : is_silence h ≡ true → (v : Bool) → nat_lt (asked + 1) questions ≡ v → Stands (record s { stage = if v then stages.WhoIsLeft (asked + 1) else stages.Over }) after (turns later)
         stands_silent q v e =
             let t = stays_at heeded in
-            record { same = t.same; placed = t.placed; known = k.known; at = by_count v e }
+            record { same = t.same; placed = t.placed; known = k.known; at = by_count v e; plain = plain_at heeded }
           where
             one_more : Asked s.found (asked + 1) (turns later)
             one_more = subst (Asked s.found (asked + 1)) (sym (turns_more w f x y es)) (question_more s.found asked (turns es) (turn w f x y) so (question q))
@@ -416,8 +458,8 @@ module _ {L : Type 0} (m : Machine L) (tag : L → T5State) (lit : L → Bool) (
             by_count false e = subst (λ n. Asked s.found n (turns later)) (omega (arith, few, far_number (asked + 1) 4 e)) one_more
 
         stands_next : (v : Bool) → Stands (if v then begins_pass (s.pass + 1) s else fails s faults.Disturbed) after (turns later)
-        stands_next true = (let t = stays_at heeded in stands_early s.found (begins_pass (s.pass + 1) s) after (turns later) (record { found' = refl; early = tt }) t.same t.placed k.known)
-        stands_next false = (let t = stays_at heeded in stands_early s.found (fails s faults.Disturbed) after (turns later) (record { found' = refl; early = tt }) t.same t.placed k.known)
+        stands_next true = (let t = stays_at heeded in stands_early s.found (begins_pass (s.pass + 1) s) after (turns later) (record { found' = refl; early = tt }) t.same t.placed k.known (plain_at heeded))
+        stands_next false = (let t = stays_at heeded in stands_early s.found (fails s faults.Disturbed) after (turns later) (record { found' = refl; early = tt }) t.same t.placed k.known (plain_at heeded))
 
         by_silence : (v : Bool) → is_silence h ≡ v → Stands (answers_left s asked v) after (turns later)
         by_silence true q = stands_silent q (nat_lt (asked + 1) questions) refl
@@ -461,22 +503,40 @@ module _ {L : Type 0} (m : Machine L) (tag : L → T5State) (lit : L → Bool) (
         | inr n ↦ by_last us h.1 all (λ rest. noisy (record { asks = h.0.asks; noisy = n }, rest))
       ]
 
-  ends_at : (found : List (List ℕ)) (stage : Stage) (ts : List Turn) → Each (λ i. IsOneOf i ids) found → AtStage found stage ts → FoundIf ids (or_memory (over_at found stage)) ts
-  ends_at found (stages.Slot n slot) ts known at = tt
-  ends_at found (stages.Hush id next) ts known at = tt
-  ends_at found (stages.WhoIsLeft asked) ts known at = tt
-  ends_at found stages.Over ts known at = record { there = known; missing = missed_of found ts at }
-  ends_at found (stages.Fails fault) ts known at = tt
+  -- why a search ends by a bad answer, where it does
+  abbrev Causes : Result (List (List ℕ)) PollFault → List Turn → Type 0
+  Causes r ts = r ≡ Err faults.BadAnswer → (list_any is_strange ts ≡ true) ⊎ (most_rounds ≤ rounds_begun ts)
 
-  found_so : (w : World L) (es : List Event) (r : Result (List (List ℕ)) PollFault) → Ending finding_all (mute_air m) Inv w es r → FoundIf ids r (turns es)
-  found_so w es r (comes Begins k) = tt
-  found_so w es r (comes (Runs s) k) = ends_at s.found s.stage (turns es) k.known k.at
-  found_so w es r loses = tt
+  many_rounds : (fault : PollFault) (ts : List Turn) → list_any is_strange ts ≡ false → Causes (Err fault) ts → FoundIf ids (Err fault) ts
+  many_rounds fault ts plain causes e = by_cause (causes (ap Err e))
+    where
+      by_cause : (list_any is_strange ts ≡ true) ⊎ (most_rounds ≤ rounds_begun ts) → most_rounds ≤ rounds_begun ts
+      by_cause (inl strange) = absurd (let no_ : false ≡ true = sym plain ∙ strange in cc)
+      by_cause (inr many) = many
+
+  no_bad : (fault : PollFault) (ts : List Turn) → (fault ≡ faults.BadAnswer → ⊥) → FoundIf ids (Err fault) ts
+  no_bad fault ts other e = absurd (other e)
+
+  ends_at : (found : List (List ℕ)) (stage : Stage) (ts : List Turn) → Each (λ i. IsOneOf i ids) found → AtStage found stage ts → list_any is_strange ts ≡ false
+      → Causes (or_memory (over_at found stage)) ts → FoundIf ids (or_memory (over_at found stage)) ts
+  ends_at found (stages.Slot n slot) ts known at plain causes = no_bad faults.Memory ts (λ e. cc)
+  ends_at found (stages.Hush id next) ts known at plain causes = no_bad faults.Memory ts (λ e. cc)
+  ends_at found (stages.WhoIsLeft asked) ts known at plain causes = no_bad faults.Memory ts (λ e. cc)
+  ends_at found stages.Over ts known at plain causes = record { there = known; missing = missed_of found ts at }
+  ends_at found (stages.Fails fault) ts known at plain causes = many_rounds fault ts plain causes
+
+  found_so : (w : World L) (es : List Event) (r : Result (List (List ℕ)) PollFault) → Ending finding_all (mute_air m) Inv w es r → Causes r (turns es) → FoundIf ids r (turns es)
+  found_so w es r (comes Begins k) causes = no_bad faults.Memory (turns es) (λ e. cc)
+  found_so w es r (comes (Runs s) k) causes = ends_at s.found s.stage (turns es) k.known k.at k.plain causes
+  found_so w es r loses causes = no_bad faults.FieldLost (turns es) (λ e. cc)
 
 pub finds_tags : {L : Type 0} (m : Machine L) (old new : Air L) (r : Result (List (List ℕ)) PollFault) → Enquires finding_all m old r new → FindsTags m old r new
 finds_tags m old new r q tag lit are eight =
     let ids : List (List ℕ) = tag_ids m tag old.listeners in
     let F : List Event → Type 0 = λ es. FoundIf ids r (turns es) in
+    let B : List Event → Type 0 = λ es. r ≡ Err faults.BadAnswer → (list_any is_strange (turns es) ≡ true) ⊎ (most_rounds ≤ rounds_begun (turns es)) in
+    let causes = has_causes m old new r q in
     subst F (sym (events_gained finding_all m old new r q))
     (found_so m tag lit are ids eight (moment new).world q.going.events r
-    (ending finding_all (mute_air m) (Inv m tag lit are ids eight) (keeps m tag lit are ids eight) (moment old) (moment new) q.notes r refl q.going q.comes))
+    (ending finding_all (mute_air m) (Inv m tag lit are ids eight) (keeps m tag lit are ids eight) (moment old) (moment new) q.notes r (refl, refl) q.going q.comes)
+    (subst B (events_gained finding_all m old new r q) causes.bad))

@@ -4,6 +4,12 @@ pub mod Members
 pub mod TagSteps
 pub mod Stages
 pub mod Standing
+pub mod Preorder
+pub mod Alike
+pub mod Paths
+pub mod Forks
+pub mod Together
+pub mod Clashing
 pub mod FoundTags
 pub mod Ascending
 pub mod Causes

@@ -94,7 +94,7 @@ module _ {L : Type 0} (m : Machine L) (tag : L → T5State) (lit : L → Bool) (
     says l = answered_by (muted m) l f None
 
     -- of a listener of NFC-V it is the step of its tag, and another one doesn't hear it
-    stepped_tag : (l : L) → m.tech l ≡ V → next l ≡ m.after l f None
+    pub stepped_tag : (l : L) → m.tech l ≡ V → next l ≡ m.after l f None
     stepped_tag l e =
         ap (λ t. if same_tech t f.tech then m.after l f (mute_reply (m.handed l f)) else l) e
         ∙ ap (λ t. if same_tech V t then m.after l f (mute_reply (m.handed l f)) else l) of_v
@@ -106,12 +106,12 @@ module _ {L : Type 0} (m : Machine L) (tag : L → T5State) (lit : L → Bool) (
         ∙ ap (λ t. if same_tech V t then m.answer l f (mute_reply (m.handed l f)) else None) of_v
         ∙ ap (λ u. m.answer l f (mute_reply u)) (are.untouched l f e)
 
-    stepped_other : (l : L) → m.tech l ≡ A → next l ≡ l
+    pub stepped_other : (l : L) → m.tech l ≡ A → next l ≡ l
     stepped_other l e =
         ap (λ t. if same_tech t f.tech then m.after l f (mute_reply (m.handed l f)) else l) e
         ∙ ap (λ t. if same_tech A t then m.after l f (mute_reply (m.handed l f)) else l) of_v
 
-    said_other : (l : L) → m.tech l ≡ A → says l ≡ None
+    pub said_other : (l : L) → m.tech l ≡ A → says l ≡ None
     said_other l e =
         ap (λ t. if same_tech t f.tech then m.answer l f (mute_reply (m.handed l f)) else None) e
         ∙ ap (λ t. if same_tech A t then m.answer l f (mute_reply (m.handed l f)) else None) of_v

@@ -67,9 +67,10 @@ pub record Hushed (t : T5State) (id : List ℕ) (r : T5Turn) : Type 0 where
   pub says : r.answer ≡ None
   pub id' : r.after.id ≡ t.id
   pub quiet : r.after.quiet ≡ true → (t.quiet ≡ true) ⊎ (id ≡ t.id)
+  pub round : r.after.round ≡ None
 
-at_hush : (t : T5State) (id : List ℕ) → length id ≡ id_size → Hushed t id (addressed t (quiet_code ∷ low_first id))
-at_hush t id eight = by_names (names t (low_first id)) refl
+at_hush : (t : T5State) (id : List ℕ) → length id ≡ id_size → t.round ≡ None → Hushed t id (addressed t (quiet_code ∷ low_first id))
+at_hush t id eight out = by_names (names t (low_first id)) refl
   where
     long : length (low_first id) ≡ id_size
     long = length-reverse id ∙ eight
@@ -84,10 +85,10 @@ at_hush t id eight = by_names (names t (low_first id)) refl
 
     by_names : (v : Bool) → names t (low_first id) ≡ v
         → Hushed t id (if not v then silent t else if (quiet_code == quiet_code) && (length (low_first id) == id_size) then hushes t else obeyed t quiet_code (drop id_size (low_first id)))
-    by_names false h = record { says = refl; id' = refl; quiet = λ q. inl q }
-    by_names true h = rw long (record { says = refl; id' = refl; quiet = λ q. inr (same_id h) })
+    by_names false h = record { says = refl; id' = refl; quiet = λ q. inl q; round = out }
+    by_names true h = rw long (record { says = refl; id' = refl; quiet = λ q. inr (same_id h); round = out })
 
 pub at_quiet : (t : T5State) (id : List ℕ) → length id ≡ id_size → Hushed t id (t5_turn t (command_frame (Quiet id)))
 at_quiet t id eight =
-    let h : Hushed (out_of_round t) id (addressed (out_of_round t) (quiet_code ∷ low_first id)) = at_hush (out_of_round t) id eight in
-    record { says = h.says; id' = h.id'; quiet = h.quiet }
+    let h : Hushed (out_of_round t) id (addressed (out_of_round t) (quiet_code ∷ low_first id)) = at_hush (out_of_round t) id eight refl in
+    record { says = h.says; id' = h.id'; quiet = h.quiet; round = h.round }

@@ -10,12 +10,14 @@ use Rattle.air_core.specs.Joint.{same_tech}
 use Rattle.air_core.specs.World.{Machine}
 use Rattle.air_core.specs.Turn.{Air}
 use Rattle.nfca_poll.specs.declared.fault.PollFault.{PollFault}
+use Rattle.nfca_poll.specs.declared.fault.PollFault.TheVariants.{BadAnswer}
 use Rattle.nfca_poll.specs.ByHeard.{turns_since}
 use Rattle.nfca_poll.specs.Crowd.{Each}
 use Rattle.nfca_poll.specs.Inventory.{inventory_all}
 use Rattle.t5t_tag.specs.Step.{t5_answer, t5_after}
 use Rattle.t5t_tag.specs.Store.{T5State, id_size, darkened}
-use Rattle.nfcv_poll.specs.Search.{questions}
+use Rattle.nfcv_poll.specs.Finding.{rounds_begun}
+use Rattle.nfcv_poll.specs.Search.{most_rounds, questions}
 
 -- one of them is this
 abbrev pub IsOneOf : List ℕ → List (List ℕ) → Type 0
@@ -64,9 +66,10 @@ pub record FoundTags (ids found : List (List ℕ)) (ts : List Turn) : Type 0 whe
   pub there : Each (λ i. IsOneOf i ids) found
   pub missing : Each (λ i. IsOneOf i found ⊎ AreNoisyAtLast ts) ids
 
+-- It fails by a bad answer only where as many rounds were begun as a pass makes: no frame of a tag is a strange one.
 abbrev pub FoundIf : List (List ℕ) → Result (List (List ℕ)) PollFault → List Turn → Type 0
 FoundIf ids (Ok found) ts = FoundTags ids found ts
-FoundIf ids (Err fault) ts = Unit {0}
+FoundIf ids (Err fault) ts = fault ≡ BadAnswer → most_rounds ≤ rounds_begun ts
 
 -- So a search finds the tags of a field, whatever the fates are.
 abbrev pub FindsTags : {L : Type 0} → Machine L → Air L → Result (List (List ℕ)) PollFault → Air L → Type 0

@@ -9,6 +9,8 @@ mod air_tests;
 #[cfg(test)]
 mod call_tests;
 #[cfg(test)]
+mod crowd_tests;
+#[cfg(test)]
 mod dep_frame_tests;
 #[cfg(test)]
 mod ident_tests;

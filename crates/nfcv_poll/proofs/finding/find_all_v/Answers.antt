@@ -99,6 +99,12 @@ returns-in-Fails-clause-causes g c =
     has_causes m c.args.field.now c.requests.field (Err c.in-Fails.fault)
     (enquires_end finding_all m c.args.field.now c.requests.field (Runs c.requests.search) (Err c.in-Fails.fault) c.requests.invariant.so_far (ap (over_at c.requests.search.found) c.in-Fails.is))
 
+pub returns-in-Fails-clause-tags : goal.returns-in-Fails-clause-tags
+returns-in-Fails-clause-tags g c =
+    let m = g.L.Listener.machine in
+    finds_tags m c.args.field.now c.requests.field (Err c.in-Fails.fault)
+    (enquires_end finding_all m c.args.field.now c.requests.field (Runs c.requests.search) (Err c.in-Fails.fault) c.requests.invariant.so_far (ap (over_at c.requests.search.found) c.in-Fails.is))
+
 pub returns-in-Fails-clause-lost : goal.returns-in-Fails-clause-lost
 returns-in-Fails-clause-lost g c =
     let m = g.L.Listener.machine in
