@@ -1,5 +1,5 @@
 -- Each store has exactly one form.
-use Rattle.std.proofs.Common.{◌≡◌, ◌≢◌, ◌⊎◌, inl, inr, ℕ, ◌*◌, ◌<◌, ◌≤◌, List, Bool, true, false, nat_lt, ◌==◌, refl, sym, ◌∙◌, ap, arith}
+use Rattle.std.proofs.Common.{◌≡◌, ◌⊎◌, inl, inr, ℕ, ◌*◌, ◌<◌, List, Bool, true, false, nat_lt, ◌==◌, refl, ap, arith}
 use Rattle.t3t_tag.specs.Attributes.{major_version, most_checked, most_updated, message_blocks, write_flag, message_length, is_summed}
 use Rattle.t3t_tag.specs.Store.{block_size, most_message_blocks, attributes}
 use Rattle.t3t_tag.specs.Form.{T3Form, NotNdef, Version, BadSize, Unfinished, Message, known_version, message_of, IsBadSize, IsKnown, IsSized, IsT3Form, HasOneForm}
@@ -33,8 +33,8 @@ one_of P Q (inr n) (inr m) = inr (λ e. elim e [ inl p ↦ n p | inr q ↦ m q ]
 
 bad_or : (block : List ℕ) → Decided (IsBadSize block)
 bad_or block =
-    one_of _ _ (equal_or (most_checked block) 0) (one_of _ _ (equal_or (most_updated block) 0) (one_of _ _ (equal_or (message_blocks block) 0)
-    (one_of _ _ (less_or most_message_blocks (message_blocks block)) (less_or (block_size * message_blocks block) (message_length block)))))
+    one_of _ _ (one_of _ _ (equal_or (most_checked block) 0) (one_of _ _ (equal_or (most_updated block) 0) (equal_or (message_blocks block) 0)))
+    (one_of _ _ (less_or most_message_blocks (message_blocks block)) (less_or (block_size * message_blocks block) (message_length block)))
 
 wrong_sum : (store : List ℕ) → is_summed (attributes store) ≡ false → HasOneForm store
 wrong_sum store h = record { form = NotNdef; is = h; one = others }

@@ -1,9 +1,9 @@
 -- Which frame leaves a store that no new tag has.
-use Rattle.std.proofs.Common.{◌≡◌, ℕ, zero, suc, ◌+◌, ◌*◌, ◌/◌, ◌<◌, ◌≤◌, List, length, Bool, true, false, nat_le, ◌==◌, ◌&&◌, ◌↔◌, refl, sym, ◌∙◌, ap, subst, arith}
+use Rattle.std.proofs.Common.{◌≡◌, ℕ, zero, suc, ◌/◌, ◌<◌, List, length, Bool, true, false, nat_le, ◌&&◌, ◌↔◌, refl, sym, ap, subst}
 use Rattle.nfc_base.specs.Blocks.{with_block}
 use Rattle.t3t_tag.specs.Attributes.{is_summed, message_blocks}
-use Rattle.t3t_tag.specs.Store.{T3State, IsT3State, IsT3Store, IsOverlong, block_size, id_size, block_count, attributes, most_message_blocks, rewritten}
-use Rattle.t3t_tag.specs.Step.{T3Turn, t3_turn, t3_after, IsOverlongUpdate}
+use Rattle.t3t_tag.specs.Store.{T3State, IsT3Store, IsOverlong, block_size, id_size, block_count, attributes, most_message_blocks}
+use Rattle.t3t_tag.specs.Step.{T3Turn, t3_turn, t3_after, SpoilsStore}
 use Rattle.t3t_tag.proofs.Bytes.{at_most, left_of, right_of, AreBytes, is_at_most, both_of}
 use Rattle.t3t_tag.proofs.Stores.{length_with_block, still_blocks, attributes_changed, attributes_kept}
 use Rattle.t3t_tag.proofs.Turns.{writes, IsUpdate, on_turn}
@@ -51,7 +51,7 @@ changed_store t block content is within size fits =
 
 -- an Update after which the store isn't one
 ruined : (t : T3State) (bytes : List ℕ) → IsT3Store t.store → (block : ℕ) (content : List ℕ) → IsUpdate t bytes block content
-    → (IsT3Store (with_block block_size t.store block content) → ⊥) → IsOverlongUpdate t bytes
+    → (IsT3Store (with_block block_size t.store block content) → ⊥) → SpoilsStore t bytes
 ruined t bytes is zero content u none = record {
   content = content;
   frame = u.frame;
@@ -64,7 +64,7 @@ ruined t bytes is (suc block) content u none =
     absurd (none (changed_store t (suc block) content is u.within u.size
     (λ over. is.room (subst (λ x. IsOverlong (block_count t.store) x) (attributes_kept t.store block content u.within) over))))
 
-ruins : (t : T3State) (bytes : List ℕ) → length t.id ≡ id_size → IsT3Store t.store → IsOverlongUpdate t bytes → IsT3Store (t3_after t bytes).store → ⊥
+ruins : (t : T3State) (bytes : List ℕ) → length t.id ≡ id_size → IsT3Store t.store → SpoilsStore t bytes → IsT3Store (t3_after t bytes).store → ⊥
 ruins t bytes size is u after =
     let within : 0 < block_count t.store = is.blocks.least in
     let turn : t3_turn t bytes ≡ writes t 0 u.content = update_writes t size bytes 0 u.content (record { frame = u.frame; within = within; size = u.size; free = u.free }) in
@@ -73,9 +73,9 @@ ruins t bytes size is u after =
     changed.room (subst (λ n. IsOverlong n (attributes (with_block block_size t.store 0 u.content))) (sym count)
     (subst (λ x. IsOverlong (block_count t.store) x) (sym (attributes_changed t.store u.content u.size)) u.overlong))
 
-pub store_ruined : (t : T3State) (bytes : List ℕ) → length t.id ≡ id_size → AreBytes bytes → IsT3Store t.store → (IsT3Store (t3_after t bytes).store → ⊥) ↔ IsOverlongUpdate t bytes
+pub store_ruined : (t : T3State) (bytes : List ℕ) → length t.id ≡ id_size → AreBytes bytes → IsT3Store t.store → (IsT3Store (t3_after t bytes).store → ⊥) ↔ SpoilsStore t bytes
 store_ruined t bytes size small is = (
-  on_turn t bytes (λ r. (IsT3Store r.after.store → ⊥) → IsOverlongUpdate t bytes) small (record {
+  on_turn t bytes (λ r. (IsT3Store r.after.store → ⊥) → SpoilsStore t bytes) small (record {
     none = λ none. absurd (none is);
     polled = λ none. absurd (none is);
     refused_check = λ status h none. absurd (none is);

@@ -1,5 +1,5 @@
 -- What is read from bytes is exactly the command that they spell.
-use Rattle.std.proofs.Common.{◌≡◌, ℕ, suc, ◌+◌, ◌*◌, ◌/◌, ◌%◌, ◌<◌, ◌≤◌, slice_index, List, [], ◌∷◌, ◌++◌, length, take, drop, Bool, true, false, nat_eq, nat_le, ◌==◌, ◌&&◌, if◌then◌else◌, Option, Some, None, IsNone, ◌↔◌, refl, sym, ◌∙◌, ap, subst, arith}
+use Rattle.std.proofs.Common.{◌≡◌, ℕ, suc, ◌<◌, List, [], ◌∷◌, ◌++◌, length, Bool, true, ◌==◌, ◌&&◌, if◌then◌else◌, Option, Some, None, IsNone, ◌↔◌, refl, sym, ◌∙◌, ap, subst}
 use Rattle.t3t_tag.specs.declared.command.T3Command.{T3Command}
 use Rattle.t3t_tag.specs.declared.command.T3Command.TheVariants.{Poll, Check, Update}
 use Rattle.t3t_tag.specs.Store.{block_size, id_size}

@@ -1,8 +1,6 @@
 -- What the steps of a tag give its reader, and what they leave.
-use Rattle.std.proofs.Common.{◌≡◌, ◌≢◌, ℕ, suc, ◌+◌, ◌*◌, ◌/◌, ◌%◌, ◌<◌, ◌≤◌, List, [], ◌∷◌, ◌++◌, length, take, drop, slice_index, Bool, true, false, not, nat_eq, nat_le, ◌==◌, ◌&&◌, if◌then◌else◌, Option, Some, None, IfSome, refl, sym, ◌∙◌, ap, subst, arith}
+use Rattle.std.proofs.Common.{◌≡◌, ℕ, suc, ◌*◌, ◌/◌, ◌<◌, ◌≤◌, List, [], ◌∷◌, ◌++◌, length, drop, slice_index, true, false, not, nat_eq, nat_le, if◌then◌else◌, Some, None, IfSome, refl, sym, ◌∙◌, ap, subst, arith}
 use Rattle.std.specs.Cmp.Lexicographic.{pointwise}
-use Rattle.nfc_base.specs.Blocks.{with_block}
-use Rattle.t3t_tag.specs.declared.answer.T3Answer.{T3Answer}
 use Rattle.t3t_tag.specs.declared.answer.T3Answer.TheVariants.{Done, UpdateRefused}
 use Rattle.t3t_tag.specs.declared.command.T3Command.TheVariants.{Check, Update}
 use Rattle.t3t_tag.specs.Store.{T3State, IsT3State, IsSameTag, block_size, id_size, block_count, is_locked, rewritten}

@@ -1,5 +1,5 @@
 -- The form of a Type 3 tag's store (NFC Forum Type 3 Tag): what a reader finds on it. The first that applies counts.
-use Rattle.std.specs.Prelude.{◌≡◌, ◌≢◌, ◌⊎◌, ℕ, ◌*◌, ◌<◌, ◌≤◌, List, take, drop, Bool, true, false, ◌==◌}
+use Rattle.std.specs.Prelude.{◌≡◌, ◌≢◌, ◌⊎◌, ℕ, ◌*◌, ◌<◌, List, take, drop, Bool, true, false, ◌==◌}
 use Rattle.t3t_tag.specs.Attributes.{major_version, most_checked, most_updated, message_blocks, write_flag, access_flag, message_length, is_summed}
 use Rattle.t3t_tag.specs.Store.{block_size, most_message_blocks, attributes}
 
@@ -14,10 +14,16 @@ pub data T3Form : Type 0 where
 abbrev pub known_version : ℕ
 known_version = 1
 
--- A number of the attribute block is out of range.
+-- A number of the attribute block is out of range: one that may not be 0 is, or one is too large.
+abbrev pub IsZeroSize : List ℕ → Type 0
+IsZeroSize block = (most_checked block ≡ 0) ⊎ ((most_updated block ≡ 0) ⊎ (message_blocks block ≡ 0))
+
+abbrev pub IsLargeSize : List ℕ → Type 0
+IsLargeSize block =
+    (most_message_blocks < message_blocks block) ⊎ (block_size * message_blocks block < message_length block)
+
 abbrev pub IsBadSize : List ℕ → Type 0
-IsBadSize block =
-    (most_checked block ≡ 0) ⊎ ((most_updated block ≡ 0) ⊎ ((message_blocks block ≡ 0) ⊎ ((most_message_blocks < message_blocks block) ⊎ (block_size * message_blocks block < message_length block))))
+IsBadSize block = IsZeroSize block ⊎ IsLargeSize block
 
 -- the attribute block has the right sum and a version that is understood
 pub record IsKnown (block : List ℕ) : Type 0 where

@@ -1,5 +1,5 @@
 -- What bytes are read as, as a function: the command or the answer that they spell, where they spell one.
-use Rattle.std.specs.Prelude.{◌≡◌, ℕ, ◌*◌, ◌%◌, List, [], ◌∷◌, length, take, drop, replicate, Bool, ◌==◌, ◌&&◌, not, nat_eq, nat_le, if◌then◌else◌, Option, Some, None}
+use Rattle.std.specs.Prelude.{ℕ, ◌*◌, List, [], ◌∷◌, length, take, drop, replicate, Bool, ◌==◌, ◌&&◌, nat_eq, nat_le, if◌then◌else◌, Option, Some, None}
 use Rattle.std.specs.Cmp.Lexicographic.{pointwise}
 use Rattle.arrayvec.specs.ArrayVec.{ArrayVec}
 use Rattle.t3t_tag.specs.declared.command.T3Command.{T3Command}

@@ -118,7 +118,7 @@ t3_after t bytes = (t3_turn t bytes).after
 
 -- The bytes are an Update of a block 0 that isn't locked, by an attribute block that names more blocks than there are:
 -- the store is then none that a new tag has.
-pub record IsOverlongUpdate (t : T3State) (bytes : List ℕ) : Type 0 where
+pub record SpoilsStore (t : T3State) (bytes : List ℕ) : Type 0 where
   pub content : List ℕ
   pub frame : bytes ≡ command_bytes (Update t.id 0 content)
   pub size : length content ≡ block_size

@@ -3,7 +3,7 @@
 ghost use Rattle.std.specs.Prelude.{◌≡◌, ◌<◌, ◌≤◌, ◌↔◌, ◌*◌, length, nat_lt, IfOk, IfSome, IsOk, Some, true};
 ghost use Rattle.t3t_tag.specs.Spelling.{IsT3Answer};
 ghost use Rattle.t3t_tag.specs.Store.{IsT3Store, IsT3State, IsSameTag, block_count, unlocked, locked_too, store_fault_number};
-ghost use Rattle.t3t_tag.specs.Step.{are_there, content_of, poll_turn, checked_answer, check_answer, update_turn, written_turn, request_turn, t3_turn, t3_answer, t3_after, IsOverlongUpdate};
+ghost use Rattle.t3t_tag.specs.Step.{are_there, content_of, poll_turn, checked_answer, check_answer, update_turn, written_turn, request_turn, t3_turn, t3_answer, t3_after, SpoilsStore};
 
 use crate::answer::T3Answer;
 use crate::attributes::{is_summed, message_blocks};
@@ -134,7 +134,7 @@ impl T3Tag {
         // the same bytes once more: the same answer, and nothing changes any more
         ensures again { t3_turn self.new request.now ≡ t3_turn self.old request.now }
         // one Update of block 0 leaves a store that no new tag has, and nothing else does
-        ensures store { IsT3Store self.old.store → ((IsT3Store self.new.store → ⊥) ↔ IsOverlongUpdate self.old request.now) }
+        ensures store { IsT3Store self.old.store → (¬ IsT3Store self.new.store ↔ SpoilsStore self.old request.now) }
     {
         // the laws above are of a tag that can be, as its store says
         let _store = self.store();

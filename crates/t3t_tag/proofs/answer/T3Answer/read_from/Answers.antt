@@ -1,4 +1,4 @@
-use Rattle.std.proofs.Common.{◌≡◌, rules}
+use Rattle.std.proofs.Common.{rules}
 use Rattle.t3t_tag.proofs.SpelledAnswers.{exact_answer, no_answer}
 use Rattle.t3t_tag.proofs.answer.T3Answer.read_from.Goals as goal
 

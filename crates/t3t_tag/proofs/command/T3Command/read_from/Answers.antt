@@ -1,4 +1,4 @@
-use Rattle.std.proofs.Common.{◌≡◌, rules}
+use Rattle.std.proofs.Common.{rules}
 use Rattle.t3t_tag.proofs.SpelledCommands.{exact_command, no_command}
 use Rattle.t3t_tag.proofs.command.T3Command.read_from.Goals as goal
 

@@ -1,7 +1,7 @@
 use Rattle.std.proofs.Common.{rules, ◌≡◌, ◌↔◌, IfSome, sym, subst}
 use Rattle.t3t_tag.specs.Spelling.{IsT3Answer}
 use Rattle.t3t_tag.specs.Store.{IsT3Store, IsT3State, IsSameTag}
-use Rattle.t3t_tag.specs.Step.{t3_turn, t3_answer, t3_after, IsOverlongUpdate}
+use Rattle.t3t_tag.specs.Step.{t3_turn, t3_answer, t3_after, SpoilsStore}
 use Rattle.t3t_tag.proofs.Bytes.{AreBytes}
 use Rattle.t3t_tag.proofs.Steps.{same_tag, told_in_range, heard_again}
 use Rattle.t3t_tag.proofs.Overlong.{store_ruined}
@@ -32,5 +32,5 @@ returns-clause-store c =
     let is : IsT3State c.args.self.now = search rules in
     let small : AreBytes c.args.request.now = search rules in
     let step : c.hear_frame.new.self ≡ t3_after c.args.self.now c.args.request.now = c.hear_frame.ensures.step in
-    subst (λ u. IsT3Store c.args.self.now.store → ((IsT3Store u.store → ⊥) ↔ IsOverlongUpdate c.args.self.now c.args.request.now)) (sym step)
+    subst (λ u. IsT3Store c.args.self.now.store → ((IsT3Store u.store → ⊥) ↔ SpoilsStore c.args.self.now c.args.request.now)) (sym step)
     (store_ruined c.args.self.now c.args.request.now is.id small)
