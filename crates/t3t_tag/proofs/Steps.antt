@@ -1,12 +1,12 @@
 -- What the steps of a tag give its reader, and what they leave.
-use Rattle.std.proofs.Common.{◌≡◌, ℕ, suc, ◌*◌, ◌/◌, ◌<◌, ◌≤◌, List, [], ◌∷◌, ◌++◌, length, drop, slice_index, true, false, not, nat_eq, nat_le, if◌then◌else◌, Some, None, IfSome, refl, sym, ◌∙◌, ap, subst, arith}
+use Rattle.std.proofs.Common.{◌≡◌, ℕ, suc, ◌*◌, ◌/◌, ◌<◌, ◌≤◌, List, [], ◌∷◌, ◌++◌, length, drop, slice_index, take, Bool, ◌==◌, true, false, not, nat_eq, nat_le, if◌then◌else◌, Some, None, IfSome, refl, sym, ◌∙◌, ap, subst, arith}
 use Rattle.std.specs.Cmp.Lexicographic.{pointwise}
 use Rattle.t3t_tag.specs.declared.answer.T3Answer.TheVariants.{Done, UpdateRefused}
 use Rattle.t3t_tag.specs.declared.command.T3Command.TheVariants.{Check, Update}
 use Rattle.t3t_tag.specs.Store.{T3State, IsT3State, IsSameTag, block_size, id_size, block_count, is_locked, rewritten}
-use Rattle.t3t_tag.specs.Spelling.{check_code, update_code, read_service, write_service, most_elements, framed, elements, asked_of, command_bytes, IsT3Answer, IsContent}
-use Rattle.t3t_tag.specs.Step.{T3Turn, silent, tells, no_block, block_locked, answers, blocks_answer, checked_answer, check_answer, written_turn, update_turn, names, request_turn, t3_turn, t3_answer, t3_after, content_of}
-use Rattle.t3t_tag.proofs.Bytes.{is_equal, same_number, bytes_self, AreBytes, front_of, rest_of}
+use Rattle.t3t_tag.specs.Spelling.{poll_code, check_code, update_code, read_service, write_service, most_elements, framed, elements, asked_of, command_bytes, IsT3Answer, IsContent}
+use Rattle.t3t_tag.specs.Step.{T3Turn, silent, tells, no_block, block_locked, answers, blocks_answer, checked_answer, check_answer, written_turn, update_turn, names, request_turn, poll_turn, IsForAnother, t3_turn, t3_answer, t3_after, content_of}
+use Rattle.t3t_tag.proofs.Bytes.{is_equal, is_other, same_number, equal_bytes, bytes_self, AreBytes, front_of, rest_of}
 use Rattle.t3t_tag.proofs.Elements.{length_elements, asked_read}
 use Rattle.t3t_tag.proofs.Stores.{length_with_block, with_block_again, still_blocks, length_content}
 use Rattle.t3t_tag.proofs.Turns.{writes, IsUpdate, on_turn}
@@ -112,3 +112,18 @@ heard_again t size bytes small = on_turn t bytes (λ r. t3_turn r.after bytes �
       ∙ ap (λ s. record { answer = Some (Done t.id); after = record t { store = s } }) (with_block_again t.store block content is.within is.size)
       ∙ sym (update_writes t size bytes block content is);
 })
+
+-- A frame for another tag is heard in silence.
+pub silent_for_another : (t : T3State) (bytes : List ℕ) → IsForAnother t bytes → t3_turn t bytes ≡ silent t
+silent_for_another t bytes is =
+    let behind : List ℕ = is.id ++ is.rest in
+    let third : T3Turn = if is.code == update_code then update_turn t (drop id_size behind) else silent t in
+    let second : T3Turn = if is.code == check_code then answers t (check_answer t (drop id_size behind)) else third in
+    ap (t3_turn t) is.frame
+    ∙ framed_turn t (is.code ∷ behind)
+    ∙ ap (λ v. if v then poll_turn t behind else if not (names t behind) then silent t else second) (is_other is.code poll_code is.command)
+    ∙ ap (λ v. if not v then silent t else second) (unnamed (names t behind) refl)
+  where
+    unnamed : (v : Bool) → names t (is.id ++ is.rest) ≡ v → v ≡ false
+    unnamed false h = refl
+    unnamed true h = absurd (is.other (sym (front_of is.id is.rest is.size) ∙ equal_bytes (take id_size (is.id ++ is.rest)) t.id h))

@@ -1,13 +1,13 @@
 -- The step of a Type 3 tag on the bytes of a frame (NFC Forum Type 3 Tag; JIS X 6319-4). Which status a tag tells for
 -- which condition, that block elements have two bytes and that one Update changes one block is this project's own.
-use Rattle.std.specs.Prelude.{◌≡◌, ℕ, ◌*◌, List, [], ◌∷◌, length, take, drop, ◌++◌, Bool, true, false, ◌==◌, ◌&&◌, ◌||◌, not, nat_eq, nat_le, nat_lt, if◌then◌else◌, Option, Some, None}
+use Rattle.std.specs.Prelude.{◌≡◌, ◌≢◌, ℕ, ◌*◌, List, [], ◌∷◌, length, take, drop, ◌++◌, Bool, true, false, ◌==◌, ◌&&◌, ◌||◌, not, nat_eq, nat_le, nat_lt, if◌then◌else◌, Option, Some, None}
 use Rattle.std.specs.Cmp.Lexicographic.{pointwise}
 use Rattle.nfc_base.specs.Blocks.{block_of}
 use Rattle.t3t_tag.specs.declared.answer.T3Answer.{T3Answer}
 use Rattle.t3t_tag.specs.declared.answer.T3Answer.TheVariants.{Polled, Content, Done, CheckRefused, UpdateRefused}
 use Rattle.t3t_tag.specs.declared.command.T3Command.TheVariants.{Update}
 use Rattle.t3t_tag.specs.Store.{T3State, IsOverlong, block_size, id_size, block_count, is_locked, rewritten}
-use Rattle.t3t_tag.specs.Spelling.{poll_code, check_code, update_code, read_service, write_service, element_code, pair, command_bytes}
+use Rattle.t3t_tag.specs.Spelling.{poll_code, check_code, update_code, read_service, write_service, element_code, pair, framed, command_bytes}
 use Rattle.t3t_tag.specs.Reading.{blocks_asked}
 
 -- the statuses: of a service or elements that the tag doesn't take, of a block that isn't there, of a locked block
@@ -115,6 +115,16 @@ t3_answer t bytes = (t3_turn t bytes).answer
 
 abbrev pub t3_after : T3State → List ℕ → T3State
 t3_after t bytes = (t3_turn t bytes).after
+
+-- The bytes are a frame for a tag of another identifier, which stands behind the code.
+pub record IsForAnother (t : T3State) (bytes : List ℕ) : Type 0 where
+  pub code : ℕ
+  pub id : List ℕ
+  pub rest : List ℕ
+  pub frame : bytes ≡ framed (code ∷ (id ++ rest))
+  pub command : code ≢ poll_code
+  pub size : length id ≡ id_size
+  pub other : id ≢ t.id
 
 -- The bytes are an Update of a block 0 that isn't locked, by an attribute block that names more blocks than there are:
 -- the store is then none that a new tag has.

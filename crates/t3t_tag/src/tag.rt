@@ -1,9 +1,9 @@
 //! A Type 3 tag.
 
-ghost use Rattle.std.specs.Prelude.{◌≡◌, ◌<◌, ◌≤◌, ◌↔◌, ◌*◌, length, nat_lt, IfOk, IfSome, IsOk, Some, true};
+ghost use Rattle.std.specs.Prelude.{◌≡◌, ◌<◌, ◌≤◌, ◌↔◌, ◌*◌, length, nat_lt, IfOk, IfSome, IsNone, IsOk, Some, true};
 ghost use Rattle.t3t_tag.specs.Spelling.{IsT3Answer};
 ghost use Rattle.t3t_tag.specs.Store.{IsT3Store, IsT3State, IsSameTag, block_count, unlocked, locked_too, store_fault_number};
-ghost use Rattle.t3t_tag.specs.Step.{are_there, content_of, poll_turn, checked_answer, check_answer, update_turn, written_turn, request_turn, t3_turn, t3_answer, t3_after, SpoilsStore};
+ghost use Rattle.t3t_tag.specs.Step.{are_there, content_of, poll_turn, checked_answer, check_answer, update_turn, written_turn, request_turn, t3_turn, t3_answer, t3_after, IsForAnother, SpoilsStore};
 
 use crate::answer::T3Answer;
 use crate::attributes::{is_summed, message_blocks};
@@ -131,6 +131,7 @@ impl T3Tag {
         ensures step { self.new ≡ t3_after self.old request.now }
         ensures range { IfSome result IsT3Answer }
         ensures same { IsSameTag self.old self.new }
+        ensures other { IsForAnother self.old request.now → IsNone result × (self.new ≡ self.old) }
         // the same bytes once more: the same answer, and nothing changes any more
         ensures again { t3_turn self.new request.now ≡ t3_turn self.old request.now }
         // one Update of block 0 leaves a store that no new tag has, and nothing else does
