@@ -1,0 +1,9 @@
+pub mod Bytes
+pub mod Elements
+pub mod SpelledCommands
+pub mod SpelledAnswers
+pub mod Stores
+pub mod Turns
+pub mod Steps
+pub mod Overlong
+pub mod Forms

@@ -1,0 +1,6 @@
+pub mod Attributes
+pub mod Store
+pub mod Form
+pub mod Spelling
+pub mod Reading
+pub mod Step
