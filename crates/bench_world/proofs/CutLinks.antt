@@ -1,39 +1,31 @@
 -- The law of links behind a command that want of memory cut off.
-use Rattle.std.proofs.Common.{◌≡◌, ◌⊎◌, ℕ, List, [], ◌∷◌, ◌++◌, map, length, true, false, Option, Some, None, inl, inr, refl, sym, ◌∙◌, ap, subst}
+use Rattle.std.proofs.Common.{◌≡◌, ◌⊎◌, List, [], ◌∷◌, map, length, Option, Some, None, inl, inr, refl, sym, ◌∙◌, ap, subst}
 use Rattle.std.specs.List.{AllByRecursion}
-use Rattle.std.proofs.lemmas.List.{append-nil, length-map, map-append}
+use Rattle.std.proofs.lemmas.List.{append-nil, length-map}
 use Rattle.nfc_base.specs.declared.event.Event.{Event}
 use Rattle.nfc_base.specs.declared.event.Fate.{Fate}
 use Rattle.air_core.specs.Conversation.{queue_after}
-use Rattle.snep_core.specs.Server.{Received as Accepted}
 use Rattle.bench_script.specs.declared.command.Command.{Command}
-use Rattle.bench_script.specs.declared.command.Command.TheVariants.{Skip, Fates, PlaceT2, PlaceT4, PlaceT5, PlacePeer, Lock, Busy, Offer, Remove, Dump, Inbox, Find, Read, Write, Link, Put, Get, Lookup, Unlink}
-use Rattle.bench_script.specs.DeviceIds.{bytes_of}
-use Rattle.bench_script.specs.Messages.{message_of}
+use Rattle.bench_script.specs.declared.command.Command.TheVariants.{Find, Read, Write, Link, Put, Get, Lookup, Unlink}
 use Rattle.bench_devices.specs.declared.device.Device.{Device}
-use Rattle.bench_devices.specs.Beside.{TalkLeaves}
-use Rattle.bench_devices.specs.Device.{device_locked, device_busy}
 use Rattle.bench_devices.specs.Keeping.{Kept, AllStayDevices, IsSound, StaysDevice, kept}
-use Rattle.bench_world.specs.declared.entry.Answer.{Answer}
 use Rattle.bench_world.specs.declared.entry.Answer.TheVariants as answers
-use Rattle.bench_world.specs.declared.entry.Entry.{Entry}
 use Rattle.bench_world.specs.declared.entry.Loss.TheVariants as losses
-use Rattle.bench_world.specs.World.{FarEnd, WholeWorld, Stable, stable}
-use Rattle.bench_world.specs.Calls.{OfEnd, PutAddsAtMost, with_accepted}
-use Rattle.bench_world.specs.Journal.{LeadsTo}
-use Rattle.bench_world.specs.Legal.{State, Given, Joins, CutFront, CutShort, CutStores, EachLegal, FrontOf, HaltLeaves, IsOnLink, PeerHalts, begun, changed, end_of, first_state, state_after, world_after}
+use Rattle.bench_world.specs.World.{FarEnd, WholeWorld, Stable}
+use Rattle.bench_world.specs.Calls.{OfEnd}
+use Rattle.bench_world.specs.Legal.{State, Given, Joins, CutFront, CutShort, CutStores, EachLegal, FrontOf, HaltLeaves, IsOnLink, PeerHalts, begun, end_of, first_state, state_after, world_after}
 use Rattle.bench_world.specs.LinkLaw.{CutLinkLaw, KeepsLinkLaw, cut_stretch}
 use Rattle.bench_world.specs.Links.{OpenLink, ended}
-use Rattle.bench_world.specs.Peers.{Peers, next_number}
+use Rattle.bench_world.specs.Peers.{Peers}
 use Rattle.bench_world.specs.Stories as told
 use Rattle.bench_world.specs.Stories.{Story, stories_of}
 use Rattle.bench_world.proofs.AtNumbers.{AreHeld, held, held_none_more, more_held, same_held, with_held}
 use Rattle.bench_world.proofs.HeldOn.{nothing_sent}
-use Rattle.bench_world.proofs.LinkLaw.{all_keep, along, called, called_so, first_stand, nothing_changed, offered_here, peer_placed, places_behind, put_so, quietly, removed_here, reset, step, tag_placed}
-use Rattle.bench_world.proofs.PeersNumbered.{HavePlaces, busy_kind, locked_kind, places_changed, places_more, places_stay}
+use Rattle.bench_world.proofs.LinkLaw.{all_keep, along, called, called_so, first_stand, places_behind, put_so, quietly, reset, step}
+use Rattle.bench_world.proofs.PeersNumbered.{HavePlaces, places_stay}
 use Rattle.bench_world.proofs.SameStories.{KeepsNumbers, ended_in, same_behind, same_from}
 use Rattle.bench_world.proofs.StoriesHere.{Stand, view_of}
-use Rattle.bench_world.proofs.StoriesStep.{as_many_held, as_many_with, base_held, many_numbers, no_link}
+use Rattle.bench_world.proofs.StoriesStep.{as_many_with, base_held, no_link}
 use Rattle.bench_world.proofs.Tales.{stories_behind}
 use Rattle.bench_world.proofs.Unfinished.{short_front}
 use Rattle.bench_world.proofs.Unlinking.{same_numbers}

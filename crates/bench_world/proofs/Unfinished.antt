@@ -1,5 +1,5 @@
 -- What a command that want of memory cut off leaves of what devices hold.
-use Rattle.std.proofs.Common.{◌≡◌, ◌⊎◌, ℕ, List, [], ◌∷◌, map, Option, Some, None, inl, inr, refl, sym, ◌∙◌, ap, subst}
+use Rattle.std.proofs.Common.{◌≡◌, ℕ, List, [], ◌∷◌, map, Option, Some, None, inl, inr, refl, sym, ◌∙◌, ap, subst}
 use Rattle.nfc_base.specs.declared.event.Event.{Event}
 use Rattle.air_core.specs.Conversation.{replay}
 use Rattle.tag_writer.specs.Law.{Stopped}
@@ -15,10 +15,10 @@ use Rattle.bench_devices.specs.Keeping.{AllKeepBut, held_by}
 use Rattle.bench_devices.specs.Placed.{device_with, IfPlaced}
 use Rattle.bench_devices.proofs.ImagesJoin.{law_start}
 use Rattle.bench_devices.proofs.TagOrPeer.{if_tag}
-use Rattle.bench_world.specs.World.{Stable, WholeWorld, stable}
+use Rattle.bench_world.specs.World.{Stable, WholeWorld}
 use Rattle.bench_world.specs.Calls.{IfLinked}
 use Rattle.bench_world.specs.Links.{OpenLink}
-use Rattle.bench_world.specs.Legal.{State, Given, Joins, CutFront, CutOff, CutPut, CutShort, CutStores, FrontOf, IsOnLink, LeavesStable, PeerHalts, StoresLaw, changed, world_after}
+use Rattle.bench_world.specs.Legal.{State, Given, Joins, CutFront, CutOff, CutPut, CutShort, CutStores, FrontOf, IsOnLink, LeavesStable, PeerHalts, StoresLaw, world_after}
 use Rattle.bench_world.specs.Unfinished.{Unfinished, WriteUnfinished}
 use Rattle.bench_world.specs.Writing.{KeepsStores}
 use Rattle.bench_world.proofs.Fronts.{field_after}

@@ -1,6 +1,5 @@
 -- Which journals are legal for the lines of a script.
 use Rattle.std.specs.Prelude.{◌≡◌, ℕ, ◌+◌, List, [], ◌∷◌, map, if◌then◌else◌}
-use Rattle.bench_script.specs.declared.command.Command.{Command}
 use Rattle.bench_world.specs.declared.entry.Entry.{Entry}
 use Rattle.bench_world.specs.Legal.{State, Given, Joins, EachLegal, first_state}
 use Rattle.bench_script.specs.Script.{Spells, is_skipped}
