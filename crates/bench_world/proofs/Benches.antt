@@ -10,6 +10,7 @@ use Rattle.bench_world.specs.Legal.{State, AnswerLaw, FrontOf, Joins, LegalStep,
 use Rattle.bench_world.proofs.LinkKept.{keeps_so, open_on}
 use Rattle.bench_world.specs.Obeying.{Machines, untraced, state_at, IsSettled, ObeyedBy, IsCutOff, IsCutOffBy, Benched, Adds, Obeys, Spoils, LacksMemory}
 use Rattle.bench_world.proofs.Numbers.{none_for}
+use Rattle.bench_world.proofs.Unfinished.{unfinished}
 
 -- what contracts see of a bench with this journal and these machines
 abbrev pub seen : List (List Entry) → List Entry → Machines → Bool → Benched
@@ -23,7 +24,7 @@ both_ways b sound bad = (let clash : false ≡ true = sym sound ∙ bad in cc)
 pub spoils : (old : Benched) (rs : List (List Entry)) (a b : Machines) (js ks : List Entry) (c : Command) → old ≡ seen rs js a false → ks ≡ js → IsCutOff a b c → LacksMemory old (seen rs ks b true) c
 spoils old rs a b js ks c is same cut =
     let S : List Entry → Benched → Type 0 = λ xs o. Spoils o (seen rs xs b true) c in
-    let it : S js (seen rs js a false) = record { state = state_at b; cut = b.air.trace; is = refl; front = cut } in
+    let it : S js (seen rs js a false) = record { state = state_at b; cut = b.air.trace; is = refl; front = cut; stores = unfinished no_joins (state_at a) (state_at b) c b.air.trace cut } in
     (λ _. subst (λ xs. S xs old) (sym same) (subst (S js) (sym is) it), λ bad. absurd (both_ways old (ap (λ o. o.spoiled) is) bad))
 
 as_obeys : (old new : Benched) (line : ℕ) (c : Command) → (c ≡ Skip → ⊥) → Adds old new line c → Obeys old new line c

@@ -30,7 +30,7 @@ use Rattle.bench_world.specs.declared.entry.Loss.TheVariants as losses
 use Rattle.bench_world.specs.World.{FarEnd, stable}
 use Rattle.bench_world.specs.Calls.{OfEnd, told_loss, told_step, with_accepted}
 use Rattle.bench_world.specs.Links.{OpenLink, accepted_by, with_last_ended}
-use Rattle.bench_world.specs.Legal.{Joins, CutFront, CutStores, HaltAdds, HaltsCall, LeavesStable, end_of, world_after}
+use Rattle.bench_world.specs.Legal.{Joins, CutFront, CutStores, HaltAdds, PeerHalts, LeavesStable, end_of, world_after}
 use Rattle.bench_world.specs.Obeying.{Machines, IsSettled, ObeyedBy, state_at, under}
 use Rattle.bench_world.specs.Opened.{IsOpen}
 use Rattle.bench_world.specs.Peers.{Peers}
@@ -131,11 +131,11 @@ module _ (air : Air Device) (ends : FarEnds) (peers : Peers) (l : OpenLink) (set
         → (stays : after.end.service.accepted ≡ far.service.accepted → LeavesStable (from_state air ends peers l settled) joins c events) → CutStores (from_state air ends peers l settled) joins c events
 
     pub short_cut : IsCutShort ghosts device_end joins.own from air l.initiator counted b j after → Stores → (more : List Received) → after.end.service.accepted ≡ far.service.accepted ++ more → HaltAdds c far more
-        → CutFront joins (from_state air ends peers l settled) c b.trace (state_at Gone) ⊎ HaltsCall joins (from_state air ends peers l settled) c b.trace (state_at Gone)
+        → CutFront joins (from_state air ends peers l settled) c b.trace (state_at Gone) ⊎ PeerHalts joins (from_state air ends peers l settled) c b.trace (state_at Gone)
     short_cut cut stores more adds fits = by_left (cut.front device_linked devices_link spot (stands air ends peers l settled) ends)
       where
         by_left : CallFront ghosts device_end device_linked peer_ends (StopsCounted serving) joins.own from l.initiator air b spot ends counted after
-            → CutFront joins (from_state air ends peers l settled) c b.trace (state_at Gone) ⊎ HaltsCall joins (from_state air ends peers l settled) c b.trace (state_at Gone)
+            → CutFront joins (from_state air ends peers l settled) c b.trace (state_at Gone) ⊎ PeerHalts joins (from_state air ends peers l settled) c b.trace (state_at Gone)
         by_left f = elim f.left [
           | inl (field, stays) ↦ inl (
               let T : Air Device → Choosing FarEnd → Type 0 = λ a e. CallTurns ghosts device_end device_linked peer_ends joins.own from l.initiator air a spot ends counted e f.standing in
@@ -147,5 +147,5 @@ module _ (air : Air Device) (ends : FarEnds) (peers : Peers) (l : OpenLink) (set
               let P = plain air ends peers l settled c task is f.mid j f.half joins f.standing t in
               halted air ends peers l settled N P c joins f.mid f.half t.notes t.going is.still is.accepts is.asks (is.takes joins)
               (same air ends peers l settled c task is f.mid j f.half joins f.standing t) h.sent h.payload h.listeners b (ap call_due_at t.stands ∙ h.asked) h.passes h.heard h.left
-              after.end more cut.setting adds (of_end (λ e. HaltAdds c e more) fits))
+              after.end more cut.setting adds (of_end (λ e. HaltAdds c e more) fits) is.on_link)
         ]

@@ -1,40 +1,33 @@
 -- The law of links behind a command that want of memory cut off.
-use Rattle.std.proofs.Common.{◌≡◌, ◌⊎◌, ℕ, List, [], ◌∷◌, ◌++◌, map, length, true, false, Option, Some, None, inl, inr, refl, sym, ◌∙◌, ap, subst}
+use Rattle.std.proofs.Common.{◌≡◌, ◌⊎◌, List, [], ◌∷◌, map, length, Option, Some, None, inl, inr, refl, sym, ◌∙◌, ap, subst}
 use Rattle.std.specs.List.{AllByRecursion}
-use Rattle.std.proofs.lemmas.List.{append-nil, length-map, map-append}
+use Rattle.std.proofs.lemmas.List.{append-nil, length-map}
 use Rattle.nfc_base.specs.declared.event.Event.{Event}
 use Rattle.nfc_base.specs.declared.event.Fate.{Fate}
 use Rattle.air_core.specs.Conversation.{queue_after}
-use Rattle.snep_core.specs.Server.{Received as Accepted}
 use Rattle.bench_script.specs.declared.command.Command.{Command}
-use Rattle.bench_script.specs.declared.command.Command.TheVariants.{Skip, Fates, PlaceT2, PlaceT4, PlaceT5, PlacePeer, Lock, Busy, Offer, Remove, Dump, Inbox, Find, Read, Write, Link, Put, Get, Lookup, Unlink}
-use Rattle.bench_script.specs.DeviceIds.{bytes_of}
-use Rattle.bench_script.specs.Messages.{message_of}
+use Rattle.bench_script.specs.declared.command.Command.TheVariants.{Find, Read, Write, Link, Put, Get, Lookup, Unlink}
 use Rattle.bench_devices.specs.declared.device.Device.{Device}
-use Rattle.bench_devices.specs.Beside.{TalkLeaves}
-use Rattle.bench_devices.specs.Device.{device_locked, device_busy}
 use Rattle.bench_devices.specs.Keeping.{Kept, AllStayDevices, IsSound, StaysDevice, kept}
-use Rattle.bench_world.specs.declared.entry.Answer.{Answer}
 use Rattle.bench_world.specs.declared.entry.Answer.TheVariants as answers
-use Rattle.bench_world.specs.declared.entry.Entry.{Entry}
 use Rattle.bench_world.specs.declared.entry.Loss.TheVariants as losses
-use Rattle.bench_world.specs.World.{FarEnd, WholeWorld, Stable, stable}
-use Rattle.bench_world.specs.Calls.{OfEnd, PutAddsAtMost, with_accepted}
-use Rattle.bench_world.specs.Journal.{LeadsTo}
-use Rattle.bench_world.specs.Legal.{State, Given, Joins, CutFront, CutShort, CutStores, EachLegal, FrontOf, HaltLeaves, Halts, HaltsCall, begun, changed, end_of, first_state, state_after, world_after}
+use Rattle.bench_world.specs.World.{FarEnd, WholeWorld, Stable}
+use Rattle.bench_world.specs.Calls.{OfEnd}
+use Rattle.bench_world.specs.Legal.{State, Given, Joins, CutFront, CutShort, CutStores, EachLegal, FrontOf, HaltLeaves, IsOnLink, PeerHalts, begun, end_of, first_state, state_after, world_after}
 use Rattle.bench_world.specs.LinkLaw.{CutLinkLaw, KeepsLinkLaw, cut_stretch}
 use Rattle.bench_world.specs.Links.{OpenLink, ended}
-use Rattle.bench_world.specs.Peers.{Peers, next_number}
+use Rattle.bench_world.specs.Peers.{Peers}
 use Rattle.bench_world.specs.Stories as told
 use Rattle.bench_world.specs.Stories.{Story, stories_of}
 use Rattle.bench_world.proofs.AtNumbers.{AreHeld, held, held_none_more, more_held, same_held, with_held}
 use Rattle.bench_world.proofs.HeldOn.{nothing_sent}
-use Rattle.bench_world.proofs.LinkLaw.{all_keep, along, called, called_so, first_stand, nothing_changed, offered_here, peer_placed, places_behind, put_so, quietly, removed_here, reset, step, tag_placed}
-use Rattle.bench_world.proofs.PeersNumbered.{HavePlaces, busy_kind, locked_kind, places_changed, places_more, places_stay}
+use Rattle.bench_world.proofs.LinkLaw.{all_keep, along, called, called_so, first_stand, places_behind, put_so, quietly, reset, step}
+use Rattle.bench_world.proofs.PeersNumbered.{HavePlaces, places_stay}
 use Rattle.bench_world.proofs.SameStories.{KeepsNumbers, ended_in, same_behind, same_from}
 use Rattle.bench_world.proofs.StoriesHere.{Stand, view_of}
-use Rattle.bench_world.proofs.StoriesStep.{as_many_held, as_many_with, base_held, many_numbers, no_link}
+use Rattle.bench_world.proofs.StoriesStep.{as_many_with, base_held, no_link}
 use Rattle.bench_world.proofs.Tales.{stories_behind}
+use Rattle.bench_world.proofs.Unfinished.{short_front}
 use Rattle.bench_world.proofs.Unlinking.{same_numbers}
 
 -- A device of which all stays that does stays as any frame leaves it.
@@ -67,50 +60,6 @@ module _ (w : WholeWorld) (q : List Fate) (p : Peers) (ys : List Story) (g : Giv
   after_front o c es t front steps = subst (so o c es) (sym front.after) steps
 
   front_by : (o : Option OpenLink) (c : Command) (es : List Event) (t : State) → Stand (from o) ys → FrontOf (from o) g c es None t → CutStores (from o) g.joins c es → so o c es t
-  front_by o Skip es t stand front stores =
-      quietly w q p ys o stand g None Skip es t front (nothing_sent (begun (from o) g.joins Skip) es front.turns front.each)
-      (nothing_changed w q p ys o stand g None Skip es refl refl refl refl refl stand.places)
-  front_by o (Fates fates) es t stand front stores =
-      quietly w q p ys o stand g None (Fates fates) es t front (nothing_sent (begun (from o) g.joins (Fates fates)) es front.turns front.each)
-      (nothing_changed w q p ys o stand g None (Fates fates) es refl refl refl refl refl stand.places)
-  front_by o (PlaceT2 id blocks head) es t stand front stores =
-      let c : Command = PlaceT2 id blocks head in
-      quietly w q p ys o stand g None c es t front (nothing_sent (begun (from o) g.joins c) es front.turns front.each)
-      (tag_placed w q p ys o stand g None c es refl refl refl refl (ap (λ ks. record { numbers = p.numbers ++ None ∷ []; placed = next_number p; links = p.links; held = ks }) (map-append held w.fars (None ∷ [])))
-      (places_more w.field.listeners _ p.numbers None w.fars None (many_numbers (from o) ys stand) (λ peer. absurd cc) stand.places))
-  front_by o (PlaceT4 id code container head) es t stand front stores =
-      let c : Command = PlaceT4 id code container head in
-      quietly w q p ys o stand g None c es t front (nothing_sent (begun (from o) g.joins c) es front.turns front.each)
-      (tag_placed w q p ys o stand g None c es refl refl refl refl (ap (λ ks. record { numbers = p.numbers ++ None ∷ []; placed = next_number p; links = p.links; held = ks }) (map-append held w.fars (None ∷ [])))
-      (places_more w.field.listeners _ p.numbers None w.fars None (many_numbers (from o) ys stand) (λ peer. absurd cc) stand.places))
-  front_by o (PlaceT5 id blocks size head) es t stand front stores =
-      let c : Command = PlaceT5 id blocks size head in
-      quietly w q p ys o stand g None c es t front (nothing_sent (begun (from o) g.joins c) es front.turns front.each)
-      (tag_placed w q p ys o stand g None c es refl refl refl refl (ap (λ ks. record { numbers = p.numbers ++ None ∷ []; placed = next_number p; links = p.links; held = ks }) (map-append held w.fars (None ∷ [])))
-      (places_more w.field.listeners _ p.numbers None w.fars None (many_numbers (from o) ys stand) (λ peer. absurd cc) stand.places))
-  front_by o (PlacePeer id lr miu window limit) es t stand front stores =
-      let c : Command = PlacePeer id lr miu window limit in
-      quietly w q p ys o stand g None c es t front (nothing_sent (begun (from o) g.joins c) es front.turns front.each) (peer_placed w q p ys o stand g None id lr miu window limit es)
-  front_by o (Lock id block) es t stand front stores =
-      let c : Command = Lock id block in
-      quietly w q p ys o stand g None c es t front (nothing_sent (begun (from o) g.joins c) es front.turns front.each)
-      (nothing_changed w q p ys o stand g None c es refl refl refl refl refl (places_changed (device_locked block) (locked_kind block) (bytes_of id) w.field.listeners p.numbers w.fars stand.places))
-  front_by o (Busy id count times) es t stand front stores =
-      let c : Command = Busy id count times in
-      quietly w q p ys o stand g None c es t front (nothing_sent (begun (from o) g.joins c) es front.turns front.each)
-      (nothing_changed w q p ys o stand g None c es refl refl refl refl refl (places_changed (device_busy count times) (busy_kind count times) (bytes_of id) w.field.listeners p.numbers w.fars stand.places))
-  front_by o (Offer id key value) es t stand front stores =
-      let c : Command = Offer id key value in
-      quietly w q p ys o stand g None c es t front (nothing_sent (begun (from o) g.joins c) es front.turns front.each) (offered_here w q p ys o stand g None id key value es)
-  front_by o (Remove id) es t stand front stores =
-      let c : Command = Remove id in
-      quietly w q p ys o stand g None c es t front (nothing_sent (begun (from o) g.joins c) es front.turns front.each) (removed_here w q p ys o stand g None id es)
-  front_by o (Dump id) es t stand front stores =
-      quietly w q p ys o stand g None (Dump id) es t front (nothing_sent (begun (from o) g.joins (Dump id)) es front.turns front.each)
-      (nothing_changed w q p ys o stand g None (Dump id) es refl refl refl refl refl stand.places)
-  front_by o (Inbox id) es t stand front stores =
-      quietly w q p ys o stand g None (Inbox id) es t front (nothing_sent (begun (from o) g.joins (Inbox id)) es front.turns front.each)
-      (nothing_changed w q p ys o stand g None (Inbox id) es refl refl refl refl refl stand.places)
   front_by o Find es t stand front stores =
       after_front o Find es t front (reset w q p ys o stand g None Find es refl refl refl refl refl (same_held (world_after (from o) g.joins Find es) w (ap (λ (z : Stable). z.ends) stores)))
   front_by o (Read id) es t stand front stores =
@@ -154,6 +103,7 @@ module _ (w : WholeWorld) (q : List Fate) (p : Peers) (ys : List Story) (g : Giv
       after_front (Some l) Unlink es t front
       (called w q p ys l stand g None Unlink es None refl refl refl refl
       (same_held (world_after (from (Some l)) g.joins Unlink es) w (ap (λ (z : Stable). z.ends) stores)) refl (λ m e. absurd cc))
+  front_by o c es t stand front stores = absurd stores
 
 -- The peer's end stopped.
 module _ (w : WholeWorld) (q : List Fate) (p : Peers) (ys : List Story) (g : Given) (l : OpenLink) (stand : Stand (record { world = w; queue = q; peers = p; link = Some l }) ys) (es : List Event) (t : State) where
@@ -187,36 +137,22 @@ module _ (w : WholeWorld) (q : List Fate) (p : Peers) (ys : List Story) (g : Giv
   nothing_more c h none =
       accepted_there c h ∙ ap (λ more. with_held more l.peer p.numbers (map held w.fars)) none ∙ held_none_more l.peer p.numbers (map held w.fars) both_held
 
-  halts_by : (c : Command) (joins : Joins) (s : State) → Halts joins s c es t → HaltLeaves on c l t → halts_so c t
-  halts_by (Put m) joins s stops h =
+  halts_by : (c : Command) → IsOnLink c → HaltLeaves on c l t → halts_so c t
+  halts_by (Put m) talks h =
       left_is (Put m) h
       (put_so w q p ys l stand g (answers.LinkEnded losses.FieldLost) m es t.world t.queue None h.more h.adds (places_there (Put m) h) (accepted_there (Put m) h) (λ k e. absurd cc))
-  halts_by (Get most key) joins s stops h =
+  halts_by (Get most key) talks h =
       let c : Command = Get most key in
       left_is c h
       (called_so w q p ys l stand g None c es t.world t.queue None refl refl refl (places_there c h) (nothing_more c h (of_any (end_of on l) h.adds)) (λ m e. absurd cc))
-  halts_by (Lookup name) joins s stops h =
+  halts_by (Lookup name) talks h =
       let c : Command = Lookup name in
       left_is c h
       (called_so w q p ys l stand g None c es t.world t.queue None refl refl refl (places_there c h) (nothing_more c h (of_any (end_of on l) h.adds)) (λ m e. absurd cc))
-  halts_by Unlink joins s stops h =
+  halts_by Unlink talks h =
       left_is Unlink h
       (called_so w q p ys l stand g None Unlink es t.world t.queue None refl refl refl (places_there Unlink h) (nothing_more Unlink h (of_any (end_of on l) h.adds)) (λ m e. absurd cc))
-  halts_by c joins s stops h = absurd stops
-
--- in which call it stopped
-halts_call : (joins : Joins) (s : State) (c : Command) (cut : List Event) (t : State) → Halts joins s c cut t → HaltsCall joins s c cut t
-halts_call joins s (Put m) cut t h = h
-halts_call joins s (Get most key) cut t h = h
-halts_call joins s (Lookup name) cut t h = h
-halts_call joins s Unlink cut t h = h
-halts_call joins s c cut t h = absurd h
-
--- ... or of which there is a front
-short_front : (joins : Joins) (s : State) (c : Command) (cut : List Event) (t : State) → CutShort joins s c cut t → CutFront joins s c cut t
-short_front joins s (Read id) cut t (g, joined, front, stores, how) = (g, joined, front, stores)
-short_front joins s (Write id m) cut t (g, joined, front, stores, how) = (g, joined, front, stores)
-short_front joins s c cut t f = f
+  halts_by c talks h = absurd talks
 
 module _ (s t : State) (joins : Joins) (c : Command) (cut : List Event) (ys : List Story) (stand : Stand s ys) where
   abbrev pub CutStand : Type 0
@@ -226,26 +162,24 @@ module _ (s t : State) (joins : Joins) (c : Command) (cut : List Event) (ys : Li
   cut_front (g, joined, front, stores) =
       subst (λ j. Stand t (stories_behind s (cut_stretch c j cut) t ys)) joined (front_by s.world s.queue s.peers ys g s.link c cut t stand front stores)
 
-  cut_halts : Halts joins s c cut t → CutStand
-  cut_halts stops =
-      let h = halts_call joins s c cut t stops in
+  cut_halts : PeerHalts joins s c cut t → CutStand
+  cut_halts h =
       let S : Option OpenLink → State = λ o. record { world = s.world; queue = s.queue; peers = s.peers; link = o } in
       let at : Stand (S (Some h.on)) ys = subst (λ o. Stand (S o) ys) h.open_ stand in
       let leaves : HaltLeaves (S (Some h.on)) c h.on t = subst (λ o. HaltLeaves (S o) c h.on t) h.open_ h.leaves in
-      let steps = halts_by s.world s.queue s.peers ys h.given h.on at cut t c joins s stops leaves in
+      let steps = halts_by s.world s.queue s.peers ys h.given h.on at cut t c h.on_link leaves in
       let back : Stand t (stories_behind s (cut_stretch c h.given.joins cut) t ys) = subst (λ o. Stand t (stories_behind (S o) (cut_stretch c h.given.joins cut) t ys)) (sym h.open_) steps in
       subst (λ j. Stand t (stories_behind s (cut_stretch c j cut) t ys)) h.joined back
 
-  pub cut_stands : CutShort joins s c cut t ⊎ Halts joins s c cut t → CutStand
+  pub cut_stands : CutShort joins s c cut t ⊎ PeerHalts joins s c cut t → CutStand
   cut_stands (inl f) = cut_front (short_front joins s c cut t f)
   cut_stands (inr h) = cut_halts h
 
-  pub cut_numbers : CutShort joins s c cut t ⊎ Halts joins s c cut t → KeepsNumbers s c t
+  pub cut_numbers : CutShort joins s c cut t ⊎ PeerHalts joins s c cut t → KeepsNumbers s c t
   cut_numbers (inl short) l open_ none =
       let f = short_front joins s c cut t short in
       ap (λ (z : State). z.peers.numbers) f.2.after ∙ ended_in s f.0.joins c cut None l open_ (sym (ap (λ (z : State). z.link) f.2.after) ∙ none)
-  cut_numbers (inr stops) l open_ none =
-      let h = halts_call joins s c cut t stops in
+  cut_numbers (inr h) l open_ none =
       ap (λ (x : Peers). x.numbers) h.leaves.peers ∙ same_numbers (Some h.on) s.peers t.world.fars
 
 pub cut_link_law : CutLinkLaw

@@ -36,6 +36,7 @@ module _ (air : Air Device) (ends : FarEnds) (peers : Peers) (l : OpenLink) (set
   module _ (most : ℕ) (key : List ℕ) (may : Accepts (from_state air ends peers l settled) (Get most key)) where
     pub get_call : IsCall air ends peers l settled (Get most key) (Gets most key)
     get_call = record {
+      on_link = tt;
       still = refl;
       accepts = may;
       asks = refl;
@@ -119,6 +120,7 @@ module _ (air : Air Device) (ends : FarEnds) (peers : Peers) (l : OpenLink) (set
   module _ (name : List ℕ) (may : Accepts (from_state air ends peers l settled) (Lookup name)) where
     pub lookup_call : IsCall air ends peers l settled (Lookup name) (Finds name)
     lookup_call = record {
+      on_link = tt;
       still = refl;
       accepts = may;
       asks = refl;

@@ -75,5 +75,6 @@ pub mod StoriesStep
 pub mod StoriesOnLink
 pub mod SameStories
 pub mod LinkLaw
+pub mod Unfinished
 pub mod CutLinks
 pub mod PeersNumbered

@@ -2,8 +2,7 @@
 use Rattle.std.proofs.Common.{◌≡◌, refl}
 use Rattle.bench_script.specs.declared.command.Command.{Command}
 use Rattle.bench_script.specs.declared.command.Command.TheVariants.{Link, Put, Get, Lookup, Unlink}
-use Rattle.bench_world.specs.Journal.{IsOnLink}
-use Rattle.bench_world.specs.Legal.{Joins, joins_for, no_joins}
+use Rattle.bench_world.specs.Legal.{IsOnLink, Joins, joins_for, no_joins}
 
 -- Where a link is opened and on the open link far ends have a part.
 abbrev pub UsesFars : Command → Type 0

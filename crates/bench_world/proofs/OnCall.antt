@@ -41,14 +41,14 @@ use Rattle.bench_world.specs.World.{FarEnd, WholeWorld, Stable, bench_air, stabl
 use Rattle.bench_world.specs.Calls.{IsTold, OfEnd, link_behind, stands_on, told_call, told_loss, told_step, with_accepted}
 use Rattle.bench_world.specs.Links.{OpenLink, accepted_by, end_numbered, ended, ended_unless, with_last_ended}
 use Rattle.bench_world.specs.Arriving.{ArrivesAt}
-use Rattle.bench_world.specs.Legal.{State, Given, Joins, Accepts, AnswerLaw, Came, CutFront, CutStores, FrontOf, HaltAdds, HaltLeaves, HaltsCall, IsAskedBy, LeavesStable, begun, changed, due, end_of, joins_for, link_after, peers_after, state_after, world_after}
+use Rattle.bench_world.specs.Legal.{State, Given, Joins, Accepts, AnswerLaw, Came, CutFront, CutStores, FrontOf, HaltAdds, HaltLeaves, IsAskedBy, IsOnLink, LeavesStable, PeerHalts, begun, changed, due, end_of, joins_for, link_after, peers_after, state_after, world_after}
 use Rattle.bench_world.specs.Obeying.{Machines, HasPlaces, IsSettled, KeepsLink, ObeyedBy, state_at, under}
 use Rattle.bench_world.specs.Opened.{AreNumbered, AreServed}
 use Rattle.bench_world.specs.Peers.{Peers, next_number}
 use Rattle.bench_world.proofs.Arrived.{GoesOn, came_at}
 use Rattle.bench_world.proofs.CallNotes.{IsPlainNext, call_broken, call_lost, calls_plain}
 use Rattle.bench_world.proofs.Quiet.{no_breaks}
-use Rattle.bench_world.proofs.OnLink.{Ends as FarEnds, accepted_now, accepted_there, as_many, bare, bare_alike, bare_more, devices_stay, ends_more, ends_same, first, going, kept_long, kept_stable, leaves, now, opened, own, queue_is, served, set_long, tame, trace_is, world_is}
+use Rattle.bench_world.proofs.OnLink.{Ends as FarEnds, accepted_now, accepted_there, as_many, bare, bare_alike, bare_more, devices_stay, ends_more, ends_same, first, going, kept_long, leaves, now, opened, own, queue_is, served, set_long, tame, trace_is, world_is}
 use Rattle.bench_world.proofs.Restarted.{set_there}
 
 -- what a step of a call is said for
@@ -188,7 +188,7 @@ module _ (air : Air Device) (ends : FarEnds) (peers : Peers) (l : OpenLink) (set
 
       -- ... and left by that
       module _ (stopped : FarEnd) (more : List Received) (set : setting_of stopped ≡ setting_of end) (adds : stopped.service.accepted ≡ end.service.accepted ++ more)
-          (fits : OfEnd (λ e. HaltAdds c e more) (end_of from_state l)) where
+          (fits : OfEnd (λ e. HaltAdds c e more) (end_of from_state l)) (on_link : IsOnLink c) where
         abbrev ends_left : FarEnds
         ends_left = slice_set ends place (Some stopped)
 
@@ -210,7 +210,6 @@ module _ (air : Air Device) (ends : FarEnds) (peers : Peers) (l : OpenLink) (set
           talk = (own air ends peers l settled, place, talk_left);
           more = more;
           adds = fits;
-          devices = kept_stable air.listeners d.listeners talk_left.same;
           ends =
               bare_alike d.listeners air.listeners ends_left long
               ∙ bare_more l.peer place peers.numbers air.listeners ends end stopped more (opened air ends peers l settled).number settled.places.numbers (opened air ends peers l settled).above set adds;
@@ -218,8 +217,9 @@ module _ (air : Air Device) (ends : FarEnds) (peers : Peers) (l : OpenLink) (set
           link = refl;
         }
 
-        pub halted : HaltsCall joins from_state c d.trace (state_at halted_then)
+        pub halted : PeerHalts joins from_state c d.trace (state_at halted_then)
         halted = record {
+          on_link = on_link;
           given = given;
           joined = refl;
           before = es;
@@ -238,6 +238,7 @@ module _ (air : Air Device) (ends : FarEnds) (peers : Peers) (l : OpenLink) (set
 
   -- A command that asks over the link by a call of this task.
   pub record IsCall (c : Command) (task : Task) : Type 0 where
+    pub on_link : IsOnLink c
     pub still : changed from_state c ≡ from_state
     pub accepts : Accepts from_state c
     pub asks : IsAskedBy from_state c []

@@ -35,6 +35,7 @@ use Rattle.bench_world.proofs.CallEnds.{Gone, Open, lost_obeyed, made_obeyed, of
 module _ (air : Air Device) (ends : FarEnds) (peers : Peers) (l : OpenLink) (settled : IsSettled (under ends peers (Some l) air)) (m : Msg) (few : length (message_of m) ≤ longest_message) where
   pub put_call : IsCall air ends peers l settled (Put m) (Puts (message_of m))
   put_call = record {
+    on_link = tt;
     still = refl;
     accepts = few;
     asks = refl;

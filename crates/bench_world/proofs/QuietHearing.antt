@@ -32,11 +32,11 @@ use Rattle.bench_devices.proofs.SelectedHeard.{Heed, IsId, tag_hears}
 use Rattle.bench_devices.proofs.WriteHeeded.{write_heeded}
 use Rattle.bench_world.specs.declared.entry.Answer.TheVariants as answers
 use Rattle.bench_world.specs.declared.entry.Entry.{Entry}
-use Rattle.bench_world.specs.Journal.{asking_lines, IsOnLink}
+use Rattle.bench_world.specs.Journal.{asking_lines}
 use Rattle.bench_world.proofs.Numbers.{UsesFars}
 use Rattle.bench_world.specs.Calls.{IfLinked, due_if, due_on, due_closing}
 use Rattle.bench_world.specs.Links.{OpenLink}
-use Rattle.bench_world.specs.Legal.{State, Given, LegalStep, AnswerLaw, LinkingLaw, PutLaw, GetLaw, LookupLaw, UnlinkLaw, IsAskedBy, changed, due, first_state}
+use Rattle.bench_world.specs.Legal.{State, Given, LegalStep, AnswerLaw, LinkingLaw, PutLaw, GetLaw, LookupLaw, UnlinkLaw, IsAskedBy, IsOnLink, changed, due, first_state}
 use Rattle.bench_world.specs.Quiet.{AllPass}
 use Rattle.bench_world.specs.QuietHearing.{AllAlong, selected_by, AnswersAll, IsWellHeard, IsHeardIfQuiet, IsQuietLine, IsQuietEntry, QuietHears, QuietScript}
 use Rattle.bench_world.proofs.Complete.{of_first}

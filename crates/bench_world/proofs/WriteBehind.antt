@@ -36,7 +36,7 @@ use Rattle.bench_world.proofs.WriteLegality.{found_named}
 use Rattle.bench_world.proofs.HeldOn.{own_found}
 
 -- the last image is what the device holds at last
-last_image : (id : List ℕ) (w : BenchWorld) (es : List Event) (store : List ℕ) → last_store store (images_of id w es) ≡ held_by (device_with id (replay air w es).listeners)
+pub last_image : (id : List ℕ) (w : BenchWorld) (es : List Event) (store : List ℕ) → last_store store (images_of id w es) ≡ held_by (device_with id (replay air w es).listeners)
 last_image id w [] store = refl
 last_image id w (e ∷ es) store = last_image id (air.happens w e) es (held_by (device_with id w.listeners))
 

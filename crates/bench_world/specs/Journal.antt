@@ -1,7 +1,5 @@
 -- Which journals are legal for the lines of a script.
 use Rattle.std.specs.Prelude.{◌≡◌, ℕ, ◌+◌, List, [], ◌∷◌, map, if◌then◌else◌}
-use Rattle.bench_script.specs.declared.command.Command.{Command}
-use Rattle.bench_script.specs.declared.command.Command.TheVariants.{Put, Get, Lookup, Unlink}
 use Rattle.bench_world.specs.declared.entry.Entry.{Entry}
 use Rattle.bench_world.specs.Legal.{State, Given, Joins, EachLegal, first_state}
 use Rattle.bench_script.specs.Script.{Spells, is_skipped}
@@ -40,11 +38,3 @@ pub record Legal (lines : List (List ℕ)) (journal : List Entry) : Type 0 where
   pub numbers : List Joins
   pub last : State
   pub leads : LeadsTo lines numbers journal last
-
--- a command that talks on the link that is open, if one is
-abbrev pub IsOnLink : Command → Type 0
-IsOnLink (Put m) = Unit {0}
-IsOnLink (Get most key) = Unit {0}
-IsOnLink (Lookup name) = Unit {0}
-IsOnLink Unlink = Unit {0}
-IsOnLink c = ⊥

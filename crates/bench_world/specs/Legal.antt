@@ -422,6 +422,14 @@ AnswerLaw s g (Get most key) events answer = IfLinked s.link (λ l. GetLaw s g.j
 AnswerLaw s g (Lookup name) events answer = IfLinked s.link (λ l. LookupLaw s g.joins l name events answer) (answer ≡ answers.NoLink)
 AnswerLaw s g Unlink events answer = IfLinked s.link (λ l. UnlinkLaw s g.joins l events answer) (answer ≡ answers.NoLink)
 
+-- a command that talks on the link that is open, if one is
+abbrev pub IsOnLink : Command → Type 0
+IsOnLink (Put m) = Unit {0}
+IsOnLink (Get most key) = Unit {0}
+IsOnLink (Lookup name) = Unit {0}
+IsOnLink Unlink = Unit {0}
+IsOnLink c = ⊥
+
 -- The numbers that a command takes of these: any on the open link, since payloads are handed over there, and none else.
 abbrev pub joins_for : Command → Joins → Joins
 joins_for (Put message) joins = joins
@@ -456,11 +464,18 @@ pub record CutPut (s : State) (joins : Joins) (l : OpenLink) (message : Msg) (cu
   pub ends : (stable (world_after s joins (Put message) cut)).ends ≡ with_accepted more l.peer s.peers.numbers (stable s.world).ends
 
 -- What a command that was cut off leaves of what stays: the stores of a write keep its law, a put adds its message at
--- most, and no other command changed anything.
+-- most, and no other command in which something is sent changed anything. A command that sends nothing is never left
+-- half done: where memory is wanting nothing of it was done.
 abbrev pub CutStores : State → Joins → Command → List Event → Type 0
+CutStores s joins Find cut = LeavesStable s joins Find cut
+CutStores s joins (Read id) cut = LeavesStable s joins (Read id) cut
 CutStores s joins (Write id message) cut = StoresLaw s joins id message Stopped cut
+CutStores s joins (Link id miu window) cut = LeavesStable s joins (Link id miu window) cut
 CutStores s joins (Put message) cut = IfLinked s.link (λ l. CutPut s joins l message cut) (LeavesStable s joins (Put message) cut)
-CutStores s joins c cut = LeavesStable s joins c cut
+CutStores s joins (Get most key) cut = LeavesStable s joins (Get most key) cut
+CutStores s joins (Lookup name) cut = LeavesStable s joins (Lookup name) cut
+CutStores s joins Unlink cut = LeavesStable s joins Unlink cut
+CutStores s joins c cut = ⊥
 
 -- a front of a step that was cut off, where so many PDUs stand in each payload of the ends of a link
 abbrev pub CutFront : Joins → State → Command → List Event → State → Type 0
@@ -488,14 +503,14 @@ pub record HaltLeaves (s : State) (c : Command) (l : OpenLink) (t : State) : Typ
   pub talk : (own : List ℕ) × (place : ℕ) × TalkLeaves own place s.world.field.listeners t.world.field.listeners
   pub more : List Accepted
   pub adds : OfEnd (λ end. HaltAdds c end more) (end_of s l)
-  pub devices : (stable t.world).devices ≡ (stable s.world).devices
   pub ends : (stable t.world).ends ≡ with_accepted more l.peer s.peers.numbers (stable s.world).ends
   pub peers : t.peers ≡ ended (Some l) t.world.fars s.peers
   pub link : t.link ≡ None
 
--- Behind a front of a call on the link a request that was due passed, and as it handed a payload over the peer's end
+-- Behind a front of a command on the link a request that was due passed, and as it handed a payload over the peer's end
 -- stopped for want of memory: nothing came back.
-pub record HaltsCall (joins : Joins) (s : State) (c : Command) (cut : List Event) (t : State) : Type 0 where
+pub record PeerHalts (joins : Joins) (s : State) (c : Command) (cut : List Event) (t : State) : Type 0 where
+  pub on_link : IsOnLink c
   pub given : Given
   pub joined : given.joins ≡ joins
   pub before : List Event
@@ -511,18 +526,10 @@ pub record HaltsCall (joins : Joins) (s : State) (c : Command) (cut : List Event
   pub open_ : s.link ≡ Some on
   pub leaves : HaltLeaves s c on t
 
--- no other command hands anything over
-abbrev pub Halts : Joins → State → Command → List Event → State → Type 0
-Halts joins s (Put message) cut t = HaltsCall joins s (Put message) cut t
-Halts joins s (Get most key) cut t = HaltsCall joins s (Get most key) cut t
-Halts joins s (Lookup name) cut t = HaltsCall joins s (Lookup name) cut t
-Halts joins s Unlink cut t = HaltsCall joins s Unlink cut t
-Halts joins s c cut t = ⊥
-
 -- What want of memory leaves of a command: nothing was done, there is a front of its step, or the peer's end stopped
 -- behind one.
 abbrev pub CutOff : Joins → State → Command → List Event → State → Type 0
-CutOff joins s c cut t = ((cut ≡ []) × (t ≡ s)) ⊎ (CutShort joins s c cut t ⊎ Halts joins s c cut t)
+CutOff joins s c cut t = ((cut ≡ []) × (t ≡ s)) ⊎ (CutShort joins s c cut t ⊎ PeerHalts joins s c cut t)
 
 -- The entries lead from one state to another, each behind those before it, and each has what its step is said for.
 abbrev pub EachLegal : State → List Given → List Entry → State → Type 0

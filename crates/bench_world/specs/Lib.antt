@@ -12,6 +12,7 @@ pub mod Inbox
 pub mod Arrivals
 pub mod Arriving
 pub mod Legal
+pub mod Unfinished
 pub mod Obeying
 pub mod LinkTaken
 pub mod LinkedAt

@@ -17,7 +17,7 @@ use Rattle.bench_world.specs.declared.entry.Received.{Received}
 use Rattle.bench_world.specs.ByPayloads.{IsByPayloads}
 use Rattle.bench_world.specs.Inbox.{told_of}
 use Rattle.bench_world.specs.Journal.{LeadsTo}
-use Rattle.bench_world.specs.Legal.{State, Joins, CutShort, Halts, first_state}
+use Rattle.bench_world.specs.Legal.{State, Joins, CutShort, PeerHalts, first_state}
 use Rattle.bench_world.specs.Peers.{placed_under}
 use Rattle.bench_world.specs.Stories.{Opener, ByLink, LinkPut, Story, Stretch, state_from, stories_behind, stories_of}
 
@@ -94,5 +94,5 @@ cut_stretch c joins cut = record { command = c; joins = joins; events = cut; tol
 abbrev pub CutLinkLaw : Type 0
 CutLinkLaw =
     (lines : List (List ℕ)) (numbers : List Joins) (journal : List Entry) (last : State) → LeadsTo lines numbers journal last
-    → (joins : Joins) (c : Command) (cut : List Event) (t : State) → CutShort joins last c cut t ⊎ Halts joins last c cut t
+    → (joins : Joins) (c : Command) (cut : List Event) (t : State) → CutShort joins last c cut t ⊎ PeerHalts joins last c cut t
     → AllByRecursion KeepsLinkLaw (stories_behind last (cut_stretch c joins cut) t (stories_of numbers journal))

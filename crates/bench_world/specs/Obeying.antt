@@ -24,6 +24,7 @@ use Rattle.bench_world.specs.Calls.{IfLinked}
 use Rattle.bench_world.specs.Links.{OpenLink, ended}
 use Rattle.bench_world.specs.Opened.{IsOpen, AreServed, AreNumbered}
 use Rattle.bench_world.specs.Peers.{Peers, next_number, with_gone}
+use Rattle.bench_world.specs.Unfinished.{Unfinished}
 
 abbrev pub obey_fault_number : ObeyFault → ℕ
 obey_fault_number faults.Refused = 1
@@ -194,12 +195,14 @@ abbrev pub Obeys : Benched → Benched → ℕ → Command → Type 0
 Obeys old new line Skip = (old.spoiled ≡ false) × (new ≡ old)
 Obeys old new line c = Adds old new line c
 
--- Want of memory spoiled the bench: the journal stays, and of the command there is at most a front of its step.
+-- Want of memory spoiled the bench: the journal stays, and of the command there is at most a front of its step. What tags
+-- hold is left as an unfinished command leaves it.
 pub record Spoils (old new : Benched) (c : Command) : Type 0 where
   pub state : State
   pub cut : List Event
   pub is : new ≡ record old { state = state; cut = cut; spoiled = true }
   pub front : CutOff no_joins old.state c cut state
+  pub stores : Unfinished old.state c cut state
 
 -- ... and once it is spoiled, nothing changes
 abbrev pub LacksMemory : Benched → Benched → Command → Type 0

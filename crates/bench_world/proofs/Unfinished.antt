@@ -1,0 +1,110 @@
+-- What a command that want of memory cut off leaves of what devices hold.
+use Rattle.std.proofs.Common.{◌≡◌, ℕ, List, [], ◌∷◌, map, Option, Some, None, inl, inr, refl, sym, ◌∙◌, ap, subst}
+use Rattle.nfc_base.specs.declared.event.Event.{Event}
+use Rattle.air_core.specs.Conversation.{replay}
+use Rattle.tag_writer.specs.Law.{Stopped}
+use Rattle.bench_script.specs.declared.command.Command.{Command}
+use Rattle.bench_script.specs.declared.command.Command.TheVariants.{Find, Read, Write, Link, Put, Get, Lookup, Unlink}
+use Rattle.bench_script.specs.declared.command.DeviceId.{DeviceId}
+use Rattle.bench_script.specs.declared.message.Msg.{Msg}
+use Rattle.bench_script.specs.DeviceIds.{bytes_of}
+use Rattle.bench_script.specs.Messages.{message_of}
+use Rattle.bench_devices.specs.declared.device.Device.{Device}
+use Rattle.bench_devices.specs.Device.{BenchWorld, air, device_id, device_store, seen_of, stable_of}
+use Rattle.bench_devices.specs.Keeping.{AllKeepBut, held_by}
+use Rattle.bench_devices.specs.Placed.{device_with, IfPlaced}
+use Rattle.bench_devices.proofs.ImagesJoin.{law_start}
+use Rattle.bench_devices.proofs.TagOrPeer.{if_tag}
+use Rattle.bench_world.specs.World.{Stable, WholeWorld}
+use Rattle.bench_world.specs.Calls.{IfLinked}
+use Rattle.bench_world.specs.Links.{OpenLink}
+use Rattle.bench_world.specs.Legal.{State, Given, Joins, CutFront, CutOff, CutPut, CutShort, CutStores, FrontOf, IsOnLink, LeavesStable, PeerHalts, StoresLaw, world_after}
+use Rattle.bench_world.specs.Unfinished.{Unfinished, WriteUnfinished}
+use Rattle.bench_world.specs.Writing.{KeepsStores}
+use Rattle.bench_world.proofs.Fronts.{field_after}
+use Rattle.bench_world.proofs.OnLink.{kept_stable}
+use Rattle.bench_world.proofs.WriteBehind.{last_image}
+use Rattle.bench_world.proofs.WriteLegality.{found_named}
+
+-- a front of a command that was cut off, in whatever command
+pub short_front : (joins : Joins) (s : State) (c : Command) (cut : List Event) (t : State) → CutShort joins s c cut t → CutFront joins s c cut t
+short_front joins s (Read id) cut t (g, joined, front, stores, how) = (g, joined, front, stores)
+short_front joins s (Write id m) cut t (g, joined, front, stores, how) = (g, joined, front, stores)
+short_front joins s c cut t f = f
+
+-- Nothing was done.
+keep_all_but : (id : List ℕ) (ds : List Device) → AllKeepBut id ds ds
+keep_all_but id [] = tt
+keep_all_but id (d ∷ ds) = (record { stays = record { fixed = refl; long = refl; sound = λ k. k }; other = λ apart. refl }, keep_all_but id ds)
+
+nothing_written : (s : State) (id : DeviceId) (m : Msg) → WriteUnfinished s id m [] s
+nothing_written s id m = record {
+  passes = by_found (device_with (bytes_of id) s.world.field.listeners) refl;
+  holds = refl;
+  others = keep_all_but (bytes_of id) s.world.field.listeners;
+}
+  where
+    by_found : (o : Option Device) → device_with (bytes_of id) s.world.field.listeners ≡ o → IfPlaced (λ d. KeepsStores (message_of m) d Stopped s.world.field []) (Unit {0}) o
+    by_found None found = tt
+    by_found (Some d) found =
+        let ds : List Device = s.world.field.listeners in
+        let holds : held_by (device_with (device_id d) ds) ≡ device_store d = ap (λ i. held_by (device_with i ds)) (found_named (bytes_of id) ds d found) ∙ ap held_by found in
+        if_tag (seen_of d) _ _ (law_start (message_of m) d s.world.field holds) tt
+
+nothing_left : (s : State) (c : Command) → Unfinished s c [] s
+nothing_left s (Write id m) = nothing_written s id m
+nothing_left s c = refl
+
+-- There is a front of it.
+front_written : (s t : State) (g : Given) (id : DeviceId) (m : Msg) (cut : List Event) → FrontOf s g (Write id m) cut None t → StoresLaw s g.joins id m Stopped cut → WriteUnfinished s id m cut t
+front_written s t g id m cut front stores =
+    let there : t.world ≡ world_after s g.joins (Write id m) cut = ap (λ (x : State). x.world) front.after in
+    let on_air : (world_after s g.joins (Write id m) cut).field ≡ replay air s.world.field cut = field_after s t g (Write id m) cut (λ h. h) front in
+    record {
+      passes = stores.law;
+      holds =
+          ap (λ (w : WholeWorld). held_by (device_with (bytes_of id) w.field.listeners)) there
+          ∙ ap (λ (w : BenchWorld). held_by (device_with (bytes_of id) w.listeners)) on_air ∙ sym (last_image (bytes_of id) s.world.field cut []);
+      others = subst (λ (w : WholeWorld). AllKeepBut (bytes_of id) s.world.field.listeners w.field.listeners) (sym there) stores.others;
+    }
+
+abbrev DevicesStay : State → State → Type 0
+DevicesStay s t = map stable_of t.world.field.listeners ≡ map stable_of s.world.field.listeners
+
+front_stays : (s t : State) (g : Given) (c : Command) (cut : List Event) → FrontOf s g c cut None t → map stable_of (world_after s g.joins c cut).field.listeners ≡ map stable_of s.world.field.listeners → DevicesStay s t
+front_stays s t g c cut front stays = ap (λ (x : State). map stable_of x.world.field.listeners) front.after ∙ stays
+
+put_stays : (s : State) (joins : Joins) (m : Msg) (cut : List Event) (o : Option OpenLink) → IfLinked o (λ l. CutPut s joins l m cut) (LeavesStable s joins (Put m) cut)
+    → map stable_of (world_after s joins (Put m) cut).field.listeners ≡ map stable_of s.world.field.listeners
+put_stays s joins m cut None stays = ap (λ (z : Stable). z.devices) stays
+put_stays s joins m cut (Some l) put = put.devices
+
+front_left : (s t : State) (g : Given) (c : Command) (cut : List Event) → FrontOf s g c cut None t → CutStores s g.joins c cut → Unfinished s c cut t
+front_left s t g Find cut front stores = front_stays s t g Find cut front (ap (λ (z : Stable). z.devices) stores)
+front_left s t g (Read id) cut front stores = front_stays s t g (Read id) cut front (ap (λ (z : Stable). z.devices) stores)
+front_left s t g (Write id m) cut front stores = front_written s t g id m cut front stores
+front_left s t g (Link id miu window) cut front stores = front_stays s t g (Link id miu window) cut front (ap (λ (z : Stable). z.devices) stores)
+front_left s t g (Put m) cut front stores = front_stays s t g (Put m) cut front (put_stays s g.joins m cut s.link stores)
+front_left s t g (Get most key) cut front stores = front_stays s t g (Get most key) cut front (ap (λ (z : Stable). z.devices) stores)
+front_left s t g (Lookup name) cut front stores = front_stays s t g (Lookup name) cut front (ap (λ (z : Stable). z.devices) stores)
+front_left s t g Unlink cut front stores = front_stays s t g Unlink cut front (ap (λ (z : Stable). z.devices) stores)
+front_left s t g c cut front stores = absurd stores
+
+-- The peer's end stopped.
+halt_left : (joins : Joins) (s t : State) (c : Command) (cut : List Event) → PeerHalts joins s c cut t → Unfinished s c cut t
+halt_left joins s t c cut h = by_command c h.on_link
+  where
+    stays : DevicesStay s t
+    stays = kept_stable s.world.field.listeners t.world.field.listeners h.leaves.talk.2.same
+
+    by_command : (x : Command) → IsOnLink x → Unfinished s x cut t
+    by_command (Put m) talks = stays
+    by_command (Get most key) talks = stays
+    by_command (Lookup name) talks = stays
+    by_command Unlink talks = stays
+    by_command x talks = absurd talks
+
+pub unfinished : (joins : Joins) (s t : State) (c : Command) (cut : List Event) → CutOff joins s c cut t → Unfinished s c cut t
+unfinished joins s t c cut (inl (none, same)) = subst (λ es. Unfinished s c es t) (sym none) (subst (Unfinished s c []) (sym same) (nothing_left s c))
+unfinished joins s t c cut (inr (inl f)) = let front = short_front joins s c cut t f in front_left s t front.0 c cut front.2 front.3
+unfinished joins s t c cut (inr (inr h)) = halt_left joins s t c cut h
