@@ -43,6 +43,10 @@ unlink
 remove 01020304
 read 01020304
 """
+# A script that is swept.
+SWEEP = b"""place t5 E004010203040506 4 32 E1400F000303D00000FE
+write E004010203040506 D101
+"""
 READ_FAULT, WRITE_FAULT = 3, 4
 
 # how many bytes a line of a script may have
@@ -86,7 +90,7 @@ def by_pieces(program, words, script, size):
         return status, sink.read()
 
 
-def with_source_failing(program, script, count):
+def with_source_failing(program, words, script, count):
     """The status and the report of a run whose source fails behind so many bytes."""
     source, ours = socket.socketpair()
     # An end that is closed with bytes unread is a fault for the other one.
@@ -94,21 +98,21 @@ def with_source_failing(program, script, count):
     ours.send(script[:count])
     ours.close()
     with tempfile.TemporaryFile() as sink:
-        status = run(program, ["run"], source, sink).wait(timeout=LIMIT)
+        status = run(program, words, source, sink).wait(timeout=LIMIT)
         source.close()
         sink.seek(0)
         return status, sink.read()
 
 
-def with_sink_failing(program, count):
+def with_sink_failing(program, words, script, count):
     """The status of a run whose sink fails behind so many pieces, or one more, and these pieces."""
     ours, sink = os.pipe2(os.O_DIRECT | os.O_CLOEXEC)
     # It holds one piece, and a writer waits for the next until that one is taken.
     fcntl.fcntl(sink, fcntl.F_SETPIPE_SZ, 4096)
     with tempfile.TemporaryFile() as source:
-        source.write(SCRIPT)
+        source.write(script)
         source.seek(0)
-        bench = run(program, ["run"], source, sink)
+        bench = run(program, words, source, sink)
         os.close(sink)
         pieces = []
         while len(pieces) < count and (piece := os.read(ours, 4096)):
@@ -123,7 +127,8 @@ def stored_scripts():
         script = report.with_suffix("")
         words = Path(f"{script}.args")
         said = words.read_text().split() if words.exists() else []
-        yield script, ["run", *said], script.read_bytes(), report.read_bytes()
+        word = "sweep" if script.parent.name == "sweep" else "run"
+        yield script, [word, *said], script.read_bytes(), report.read_bytes()
 
 
 def sizes(script):
@@ -146,24 +151,33 @@ def check_source(program):
     for count in range(len(SCRIPT) + 1):
         whole = SCRIPT[: SCRIPT.rfind(b"\n", 0, count) + 1]
         wanted = by_pieces(program, ["run"], whole, 4096)[1] + b"fault 3 read\n"
-        if with_source_failing(program, SCRIPT, count) != (READ_FAULT, wanted):
+        if with_source_failing(program, ["run"], SCRIPT, count) != (READ_FAULT, wanted):
             yield f"the source fails behind byte {count}: another status or report"
 
 
 def check_sink(program):
     """In front of a sink that failed there is a prefix of the report, and no fault line."""
     status, report = by_pieces(program, ["run"], SCRIPT, 4096)
-    all_pieces = with_sink_failing(program, len(report) + 1)[1]
+    all_pieces = with_sink_failing(program, ["run"], SCRIPT, len(report) + 1)[1]
     if status != 0 or b"".join(all_pieces) != report:
         yield "the script with every kind of line: another status or report"
     # The last piece may be in the pipe before its end is closed.
     for count in range(len(all_pieces) - 1):
-        if with_sink_failing(program, count) != (WRITE_FAULT, all_pieces[:count]):
+        if with_sink_failing(program, ["run"], SCRIPT, count) != (WRITE_FAULT, all_pieces[:count]):
             yield f"the sink fails behind piece {count}: another status or report"
 
 
+def check_sweep(program):
+    """A sweep reads its whole script before it obeys a line, and writes one line behind all runs."""
+    for count in range(len(SWEEP) + 1):
+        if with_source_failing(program, ["sweep"], SWEEP, count) != (READ_FAULT, b"fault 3 read\n"):
+            yield f"the source of a sweep fails behind byte {count}: another status or report"
+    if with_sink_failing(program, ["sweep"], SWEEP, 0) != (WRITE_FAULT, []):
+        yield "the sink of a sweep fails at once: another status or report"
+
+
 def main(program):
-    faults = [fault for check in (check_pieces, check_source, check_sink) for fault in check(program)]
+    faults = [fault for check in (check_pieces, check_source, check_sink, check_sweep) for fault in check(program)]
     for fault in faults:
         print(f"ends: {fault}")
     if not faults:

@@ -35,7 +35,7 @@ use Rattle.bench_world.proofs.Quiet.{quiet_reads}
 use Rattle.bench_world.proofs.WriteBehind.{Behind, Done, images_behind, last_behind, tag_behind, last_all, all_three}
 
 -- Where a command has more transmissions than pass before a Break, none of these fates is left.
-none_left : (es : List Event) → queue_after [] es ≡ []
+pub none_left : (es : List Event) → queue_after [] es ≡ []
 none_left [] = refl
 none_left (Reset ∷ es) = none_left es
 none_left (Request f x ∷ es) = none_left es

@@ -20,11 +20,12 @@ use Rattle.bench_world.specs.Legal.{first_state}
 use Rattle.bench_world.specs.Obeying.{Benched, begun_anew, new_bench}
 use Rattle.bench_world.specs.Taking.{AreSpelled, IsTaken, standing_of}
 use Rattle.bench_world.proofs.Shapes.{TakenAlike, legal_taken, taken_at, taken_too}
-use Rattle.nfc_bench.specs.Run.{AreObeyed, FirstAreObeyed, FirstRefused, AllTaken, RefusesLine, ObeysFront, AddsFault, line_fault, read_fault, EndsDone, EndsRefused, EndsUnread, EndsUnwritten}
+use Rattle.nfc_bench.specs.Run.{AreObeyed, FirstAreObeyed, FirstRefused, AllTaken, RefusesLine, ObeysFront, AddsFault, line_fault, read_fault, EndsDone, EndsRefused, EndsUnread, EndsUnwritten, ReadsInTime}
+use Rattle.nfc_bench.specs.Reading.{ReadsAll, ReadsToLimit}
 use Rattle.nfc_bench.specs.Stops.{Follows, LineRefused, LineCut, LineLost, LineStops, Lost, ObeyedBy, RunRefused, RunUnread, RunLost, RunStops}
 use Rattle.nfc_bench.proofs.Limits.{all_at, IsShort, limits_more, no_limits}
-use Rattle.nfc_bench.proofs.Reading.{ReadsAll, ReadsToLimit, goes_on_by, goes_looking, read_at_end, read_at_limit}
-use Rattle.nfc_bench.proofs.Progress.{Progress, GaveNext, Goes, goes, whole_on, leads_to, obeyed_lost, obeyed_more, obeyed_new}
+use Rattle.nfc_bench.proofs.Reading.{goes_on_by, goes_looking, read_at_end, read_at_limit}
+use Rattle.nfc_bench.proofs.Progress.{Progress, GaveNext, Goes, goes, lines_on, whole_on, ended_on, leads_to, obeyed_lost, obeyed_more, obeyed_new}
 use Rattle.nfc_bench.proofs.Journals.{written_none}
 
 -- The lines that were obeyed are taken, and what is taken behind them is taken by the machines.

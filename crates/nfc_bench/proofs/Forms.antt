@@ -5,8 +5,15 @@ use Rattle.std.specs.Fmt.{decimal}
 use Rattle.std.proofs.lemmas.Fmt.{decimal_injective}
 use Rattle.workload.specs.Workload.{IsCount}
 use Rattle.nfc_bench.specs.declared.top.words.Form.{Form}
-use Rattle.nfc_bench.specs.declared.top.words.Form.TheVariants.{Run, Make}
+use Rattle.nfc_bench.specs.declared.top.words.Form.TheVariants.{Run, Sweep, Make}
 use Rattle.nfc_bench.specs.Run.{FormOf, most_seed}
+
+-- `run` isn't `sweep`
+run_or_sweep : (words : List (List ℕ)) → words ≡ codes "run" ∷ [] → words ≡ codes "sweep" ∷ [] → ⊥
+run_or_sweep words one two =
+    let letter : List (List ℕ) → ℕ = λ ws. get_or (get_or ws 0 []) 0 0 in
+    let same : 114 ≡ 115 = sym (ap letter one) ∙ ap letter two in
+    omega (arith, same)
 
 -- no words are of two forms
 pub one_form : (words : List (List ℕ)) (f g : Form) → FormOf words f → FormOf words g → f ≡ g
@@ -18,6 +25,13 @@ one_form words (Run false) (Make seed count) one two = absurd (omega (arith, ap 
 one_form words (Run true) (Make seed count) one two = absurd (omega (arith, ap length one, ap length two.0))
 one_form words (Make seed count) (Run false) one two = absurd (omega (arith, ap length one.0, ap length two))
 one_form words (Make seed count) (Run true) one two = absurd (omega (arith, ap length one.0, ap length two))
+one_form words Sweep Sweep one two = refl
+one_form words (Run false) Sweep one two = absurd (run_or_sweep words one two)
+one_form words Sweep (Run false) one two = absurd (run_or_sweep words two one)
+one_form words (Run true) Sweep one two = absurd (omega (arith, ap length one, ap length two))
+one_form words Sweep (Run true) one two = absurd (omega (arith, ap length one, ap length two))
+one_form words Sweep (Make seed count) one two = absurd (omega (arith, ap length one, ap length two.0))
+one_form words (Make seed count) Sweep one two = absurd (omega (arith, ap length one.0, ap length two))
 one_form words (Make seed count) (Make seed' count') one two =
     let word : ℕ → List (List ℕ) → List ℕ = λ i ws. get_or ws i [] in
     let first : decimal seed ≡ decimal seed' = sym (ap (word 1) one.0) ∙ ap (word 1) two.0 in
@@ -43,5 +57,6 @@ not_six_made n (inr (inr five)) six = omega (arith, five, six)
 pub made_words : (seed count : List ℕ) (form : Form) → FormOf (codes "make" ∷ seed ∷ count ∷ []) form → (s n : ℕ) × (seed ≡ decimal s) × (count ≡ decimal n) × (s ≤ most_seed) × IsCount n
 made_words seed count (Run false) is = absurd (omega (arith, ap length is))
 made_words seed count (Run true) is = absurd (omega (arith, ap length is))
+made_words seed count Sweep is = absurd (omega (arith, ap length is))
 made_words seed count (Make s n) (words, few, many) =
     let word : ℕ → List (List ℕ) → List ℕ = λ i ws. get_or ws i [] in (s, n, ap (word 1) words, ap (word 2) words, few, many)

@@ -9,3 +9,6 @@ pub mod Writing
 pub mod Obeying
 pub mod Counting
 pub mod Workloads
+pub mod SweptLines
+pub mod Sweeping
+pub mod BrokenRuns

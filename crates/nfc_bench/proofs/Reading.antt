@@ -12,30 +12,8 @@ use Rattle.nfc_io.proofs.Moves.{with_front-nil, read_on}
 use Rattle.nfc_io.proofs.Lines.{GoesOn, some_line, lines_longer}
 use Rattle.bench_script.specs.Limits.{most_lines, longest_line, AreWithinLimits}
 use Rattle.nfc_bench.specs.Run.{ReadsInTime}
+use Rattle.nfc_bench.specs.Reading.{Scripted, ReadsAll, ReadsToLimit, ReadsScript}
 use Rattle.nfc_bench.proofs.Progress.{HasRead, Goes, goes, lines_on, ended_on}
-
--- There is an input; it is the source's, where the source tells its bytes.
-
--- it was read to its end: these are its lines
-pub record ReadsAll (left left' : Option (List ℕ)) (lines : List (List ℕ)) : Type 0 where
-  pub input : List ℕ
-  pub told : IfSome left (λ bytes. (input ≡ bytes) × (left' ≡ Some []))
-  pub parts : lines_of input ≡ lines
-  pub limits : AreWithinLimits lines
-
--- these are the first of some lines, and the next is one too many or too long
-pub record AreCut (front lines : List (List ℕ)) : Type 0 where
-  pub line : List ℕ
-  pub after : List (List ℕ)
-  pub parts : lines ≡ front ++ line ∷ after
-  pub beyond : (most_lines < 1 + length front) ⊎ (longest_line < length line)
-
--- these are the first lines of the input, and so is the next
-pub record ReadsToLimit (left : Option (List ℕ)) (lines : List (List ℕ)) : Type 0 where
-  pub input : List ℕ
-  pub told : IfSome left (λ bytes. input ≡ bytes)
-  pub cut : AreCut lines (lines_of input)
-  pub limits : AreWithinLimits lines
 
 -- the input goes on behind the text, where the source tells it; at the source's end by nothing
 pub record GoesOnBy (left : Option (List ℕ)) (text : List ℕ) (is_ended : Bool) : Type 0 where
@@ -163,3 +141,33 @@ read_at_limit left mid left' a m done p look =
     let on : Goes a look.got mid left' = goes_looking a m mid left' (Ok false) look in
     let over : m.is_ended ≡ true = ap (λ (v : Lined). v.is_ended) look.found.1 in
     all_read left mid left' a done look.got p on look.found.0 (ended_now a look.got mid left' on p.ended (λ going. look.ended going over))
+
+-- a script that is read to its end
+pub script_whole : (left left' : Option (List ℕ)) (lines : List (List ℕ)) → ReadsAll left left' lines → ReadsScript left left' (record { lines = lines; is_cut = false })
+script_whole left left' lines r = record {
+  input = r.input;
+  told = by_left left r.told;
+  lines = record { limits = r.limits; whole = λ _. r.parts; cut = λ is. absurd cc };
+}
+  where
+    by_left : (o : Option (List ℕ)) → IfSome o (λ bytes. (r.input ≡ bytes) × (left' ≡ Some [])) → IfSome o (λ bytes. (r.input ≡ bytes) × (false ≡ false → left' ≡ Some []))
+    by_left None told = tt
+    by_left (Some bytes) told = (told.0, λ _. told.1)
+
+-- and one that is cut
+pub script_cut : (left left' : Option (List ℕ)) (lines : List (List ℕ)) → ReadsToLimit left lines → ReadsScript left left' (record { lines = lines; is_cut = true })
+script_cut left left' lines r = record {
+  input = r.input;
+  told = by_left left r.told;
+  lines = record { limits = r.limits; whole = λ is. absurd cc; cut = λ _. r.cut };
+}
+  where
+    by_left : (o : Option (List ℕ)) → IfSome o (λ bytes. r.input ≡ bytes) → IfSome o (λ bytes. (r.input ≡ bytes) × (true ≡ false → left' ≡ Some []))
+    by_left None told = tt
+    by_left (Some bytes) told = (told, λ is. absurd cc)
+
+-- by what follows the most lines that may be
+pub script_looked : (left mid left' : Option (List ℕ)) (a m : Lined) (done : List (List ℕ)) (v : Bool) → HasRead left mid a done → most_lines < 1 + length done → Looks a m mid left' (Ok v)
+    → ReadsScript left left' (record { lines = done; is_cut = v })
+script_looked left mid left' a m done true p many look = script_cut left left' done (beyond_number left mid left' a m done p many look)
+script_looked left mid left' a m done false p many look = script_whole left left' done (read_at_limit left mid left' a m done p look)

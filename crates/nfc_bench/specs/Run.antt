@@ -1,18 +1,24 @@
 -- What a run does, by its words and by the status that it ends with.
-use Rattle.std.specs.Prelude.{◌≡◌, ◌↔◌, ℕ, ◌+◌, ◌<◌, ◌≤◌, ◌⊎◌, List, [], ◌∷◌, ◌++◌, length, codes, Bool, true, false, Option, Some, IfSome}
+use Rattle.std.specs.Prelude.{◌≡◌, ◌↔◌, ℕ, ◌+◌, ◌<◌, ◌≤◌, ◌⊎◌, List, [], ◌∷◌, ◌++◌, length, get_or, codes, Bool, true, false, Option, Some, IfSome}
 use Rattle.std.specs.Fmt.{decimal}
-use Rattle.std.specs.List.{AllByRecursion}
+use Rattle.std.specs.List.{All, AllByRecursion}
 use Rattle.nfc_io.specs.declared.source.Source as sources
 use Rattle.nfc_io.specs.declared.sink.Sink as sinks
 use Rattle.nfc_io.specs.Counts.{HasRisen}
 use Rattle.nfc_io.specs.Moves.{with_front, with_end, GainsFront}
+use Rattle.nfc_base.specs.declared.event.Fate.{Fate}
 use Rattle.bench_script.specs.declared.command.Command.{Command}
+use Rattle.bench_script.specs.declared.command.Command.TheVariants.{Fates, Write}
+use Rattle.bench_script.specs.declared.command.DeviceId.{DeviceId}
+use Rattle.bench_script.specs.declared.message.Msg.{Msg}
+use Rattle.bench_script.specs.Script.{Spells}
+use Rattle.bench_world.specs.declared.entry.Answer.TheVariants.{Written}
 use Rattle.bench_world.specs.declared.entry.Entry.{Entry}
 use Rattle.nfc_io.specs.Lines.{lines_of, whole_lines}
 use Rattle.bench_script.specs.Limits.{most_lines, longest_line, AreWithinLimits}
 use Rattle.nfc_bench.specs.Limits.{chunk_size, most_read}
 use Rattle.nfc_bench.specs.declared.top.words.Form.{Form}
-use Rattle.nfc_bench.specs.declared.top.words.Form.TheVariants.{Run, Make}
+use Rattle.nfc_bench.specs.declared.top.words.Form.TheVariants.{Run, Sweep, Make}
 use Rattle.nfc_bench.specs.declared.top.program.WordsFault.{WordsFault}
 use Rattle.nfc_bench.specs.declared.top.program.WordsFault.TheVariants.{Memory, NoText}
 use Rattle.bench_world.specs.Legal.{State, no_joins}
@@ -23,6 +29,7 @@ use Rattle.bench_world.specs.Taking.{IsTaken, AreTaken, standing_of}
 use Rattle.bench_world.specs.Report.{entry_text, report_text}
 use Rattle.workload.specs.Workload.{IsCount, workload_lines, workload_commands}
 use Rattle.nfc_bench.specs.Made.{made_line}
+use Rattle.nfc_bench.specs.Sweep.{sweep_lines, read_line, last_entry, all_transmissions, found_in, found_line}
 
 -- the greatest seed of a workload
 abbrev pub most_seed : ℕ
@@ -32,6 +39,7 @@ most_seed = 65535
 abbrev pub FormOf : List (List ℕ) → Form → Type 0
 FormOf words (Run false) = words ≡ codes "run" ∷ []
 FormOf words (Run true) = words ≡ codes "run" ∷ codes "quiet" ∷ []
+FormOf words Sweep = words ≡ codes "sweep" ∷ []
 FormOf words (Make seed count) = (words ≡ codes "make" ∷ decimal seed ∷ decimal count ∷ []) × (seed ≤ most_seed) × IsCount count
 
 -- What a run sees: its source, what that has left and the sink has taken, where they tell it, how often each failed,
@@ -240,10 +248,164 @@ pub record RanWorkload {S : Type 0} (seed count : ℕ) (old new : Seen S) (n : �
   pub sound : (n ≡ 5 → ⊥) → new.bench.spoiled ≡ false
   pub runs : new.bench.finished ≡ old.bench.finished
 
+-- A sweep over a script: a write that is broken off at each of its transmissions.
+
+-- a line of fates, and one of a write
+abbrev pub IsFates : List ℕ → Type 0
+IsFates line = (fates : List Fate) × Spells line (Fates fates)
+
+abbrev pub IsWrite : List ℕ → Type 0
+IsWrite line = (id : DeviceId) × (message : Msg) × Spells line (Write id message)
+
+-- none of these lines is one of fates
+abbrev pub HaveNoFates : List (List ℕ) → Type 0
+HaveNoFates lines = All (λ l. IsFates l → ⊥) lines
+
+-- A script that may be swept: no line is one of fates, and the last is a write.
+pub record IsSwept (lines : List (List ℕ)) : Type 0 where
+  pub before : List (List ℕ)
+  pub last : List ℕ
+  pub parts : lines ≡ before ++ last ∷ []
+  pub none : HaveNoFates before
+  pub id : DeviceId
+  pub message : Msg
+  pub spelled : Spells last (Write id message)
+
+-- These runs are the first of its sweep: one of the script itself, whose last answer is `written`; and in order those with a
+-- Break at one transmission of the write, of which there are no more than it has.
+pub record AreRuns (lines : List (List ℕ)) (runs : List (List Entry)) : Type 0 where
+  pub script : IsSwept lines
+  pub first : List Entry
+  pub broken : List (List Entry)
+  pub parts : runs ≡ first ∷ broken
+  pub run : IsRunOf lines first
+  pub write : Entry
+  pub last : last_entry first ≡ Some write
+  pub written : write.answer ≡ Written
+  pub few : length broken ≤ all_transmissions write.events
+  pub each : (i : ℕ) → i < length broken → IsRunOf (sweep_lines script.before script.last (read_line script.id) i) (get_or broken i [])
+
+-- All of them are finished, one for each transmission.
+pub record HasSwept (lines : List (List ℕ)) (b : Benched) : Type 0 where
+  pub runs : AreRuns lines b.finished
+  pub all : length runs.broken ≡ all_transmissions runs.write.events
+  pub journal : b.journal ≡ []
+
+-- The first of them are finished, and of the next the first lines were obeyed; where none is left none was.
+pub record HasSweptSome (lines : List (List ℕ)) (b : Benched) : Type 0 where
+  pub runs : AreRuns lines b.finished
+  pub next : length runs.broken < all_transmissions runs.write.events
+      → FirstAreObeyed (sweep_lines runs.script.before runs.script.last (read_line runs.script.id) (length runs.broken)) b
+  pub over : length runs.broken ≡ all_transmissions runs.write.events → b.journal ≡ []
+
+-- Line n is the first for which these aren't swept: it is refused, as in a run; it is one of fates; or it is the last, and no
+-- write. Those before it were obeyed.
+pub record FirstUnswept (lines : List (List ℕ)) (b : Benched) (n : ℕ) : Type 0 where
+  pub before : List (List ℕ)
+  pub line : List ℕ
+  pub after : List (List ℕ)
+  pub parts : lines ≡ before ++ line ∷ after
+  pub commands : List Command
+  pub taken : AreTaken before commands
+  pub limits : AreWithinLimits before
+  pub none : HaveNoFates before
+  pub obeyed : AreObeyed before b
+  pub number : n ≡ 1 + length before
+  pub unswept : IsRefused (standing_of commands) n line ⊎ (IsFates line ⊎ ((after ≡ []) × (IsWrite line → ⊥)))
+
+-- the last answer isn't `written`
+abbrev pub IsUnwritten : List Entry → Type 0
+IsUnwritten journal = (e : Entry) → last_entry journal ≡ Some e → e.answer ≡ Written → ⊥
+
+-- They were all obeyed, but the answer to the last isn't `written`.
+pub record LastUnwritten (lines : List (List ℕ)) (b : Benched) (n : ℕ) : Type 0 where
+  pub script : IsSwept lines
+  pub limits : AreWithinLimits lines
+  pub obeyed : AreObeyed lines b
+  pub number : n ≡ length lines
+  pub unwritten : IsUnwritten b.journal
+
+-- So line n isn't swept. A script without a line has none that is a write: that counts as line 1.
+abbrev pub Unsweeps : List (List ℕ) → Benched → ℕ → Type 0
+Unsweeps lines b n = FirstUnswept lines b n ⊎ (LastUnwritten lines b n ⊎ ((lines ≡ []) × (n ≡ 1) × AreObeyed [] b))
+
+-- Status 0: every run is finished, and the line about them written.
+pub record EndsSwept (left left' taken taken' : Option (List ℕ)) (b : Benched) : Type 0 where
+  pub input : List ℕ
+  pub told : IfSome left (λ bytes. (input ≡ bytes) × (left' ≡ Some []))
+  pub limits : AreWithinLimits (lines_of input)
+  pub swept : HasSwept (lines_of input) b
+  pub written : taken' ≡ with_end taken (found_line (found_in b.finished))
+
+-- Status 2: a line isn't swept. No run is finished.
+pub record EndsUnswept (left taken taken' : Option (List ℕ)) (writes writes' : ℕ) (b : Benched) : Type 0 where
+  pub input : List ℕ
+  pub told : IfSome left (λ bytes. input ≡ bytes)
+  pub number : ℕ
+  pub line : Unsweeps (lines_of input) b number
+  pub runs : b.finished ≡ []
+  pub written : AddsFault [] (line_fault number) taken taken' writes writes'
+
+-- Status 3: the source failed, and no line was obeyed.
+pub record EndsUnknown (taken taken' : Option (List ℕ)) (reads reads' writes writes' : ℕ) (b : Benched) : Type 0 where
+  pub risen : HasRisen reads reads'
+  pub runs : b.finished ≡ []
+  pub journal : b.journal ≡ []
+  pub written : AddsFault [] read_fault taken taken' writes writes'
+
+-- Status 4: every run is finished, and the sink failed within the line about them.
+pub record EndsUntellable (left left' taken taken' : Option (List ℕ)) (writes writes' : ℕ) (b : Benched) : Type 0 where
+  pub risen : HasRisen writes writes'
+  pub input : List ℕ
+  pub told : IfSome left (λ bytes. (input ≡ bytes) × (left' ≡ Some []))
+  pub limits : AreWithinLimits (lines_of input)
+  pub swept : HasSwept (lines_of input) b
+  pub written : GainsFront taken taken' (found_line (found_in b.finished))
+
+-- some of its runs are finished
+pub record SweepsSome (left : Option (List ℕ)) (b : Benched) : Type 0 where
+  pub input : List ℕ
+  pub told : IfSome left (λ bytes. input ≡ bytes)
+  pub limits : AreWithinLimits (lines_of input)
+  pub swept : HasSweptSome (lines_of input) b
+
+-- Status 5: memory was wanting, in the first run or behind it.
+pub record EndsHalfSwept (left taken taken' : Option (List ℕ)) (writes writes' : ℕ) (b : Benched) : Type 0 where
+  pub runs : ((b.finished ≡ []) × ObeysFront left b) ⊎ SweepsSome left b
+  pub written : AddsFault [] memory_fault taken taken' writes writes'
+
+-- A script that may be swept, whose lines are all taken, and whose every run is told `written` at its end.
+pub record MaySweep (lines : List (List ℕ)) : Type 0 where
+  pub all : AllTaken lines
+  pub script : IsSwept lines
+  pub written : (run : List Entry) → IsRunOf lines run → (e : Entry) × (last_entry run ≡ Some e) × (e.answer ≡ Written)
+
+-- Where there is such a script and neither count rose, memory alone may be wanting.
+abbrev pub Sweeps : {S : Type 0} → Seen S → Seen S → ℕ → Type 0
+Sweeps old new n =
+    (bytes : List ℕ) → old.left ≡ Some bytes → MaySweep (lines_of bytes) → (HasRisen old.reads new.reads → ⊥)
+    → (HasRisen old.writes new.writes → ⊥) → (n ≡ 0) ⊎ (n ≡ 5)
+
+-- What a sweep did.
+pub record RanSweep {S : Type 0} (old new : Seen S) (n : ℕ) : Type 0 where
+  pub status : (n ≡ 0) ⊎ ((2 ≤ n) × (n ≤ 5))
+  pub done : n ≡ 0 → EndsSwept old.left new.left old.taken new.taken new.bench
+  pub still : n ≡ 0 → (new.reads ≡ old.reads) × (new.writes ≡ old.writes)
+  pub refused : n ≡ 2 → EndsUnswept old.left old.taken new.taken old.writes new.writes new.bench
+  pub unread : n ≡ 3 → EndsUnknown old.taken new.taken old.reads new.reads old.writes new.writes new.bench
+  pub unwritten : n ≡ 4 → EndsUntellable old.left new.left old.taken new.taken old.writes new.writes new.bench
+  pub memory : n ≡ 5 → EndsHalfSwept old.left old.taken new.taken old.writes new.writes new.bench
+  pub complete : Sweeps old new n
+  -- nothing but want of memory spoils the bench
+  pub sound : (n ≡ 5 → ⊥) → new.bench.spoiled ≡ false
+  pub stop : ReadsInTime old.left new.left
+  pub bound : ReadsAtMost most_read old.left new.left
+
 -- What a run of a form did: which statuses there are and what each means is the form's own.
 abbrev pub RanAs : {S : Type 0} → Form → Seen S → Seen S → ℕ → Type 0
 RanAs (Run quiet) old new n = RanScript quiet old new n
 RanAs (Make seed count) old new n = RanWorkload seed count old new n
+RanAs Sweep old new n = RanSweep old new n
 
 -- What is left as it was, and the fault line, where the words are of no form: nothing was read, and no line obeyed.
 pub record RefusesWords {S : Type 0} (old new : Seen S) : Type 0 where

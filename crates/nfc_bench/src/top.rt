@@ -12,8 +12,10 @@ mod card_tests;
 mod counting;
 #[cfg(test)]
 mod crowd_tests;
+mod found;
 #[cfg(test)]
 mod inbox_tests;
+pub mod law;
 mod lines;
 #[cfg(test)]
 mod make_tests;
@@ -26,8 +28,13 @@ pub mod program;
 mod report_tests;
 #[cfg(test)]
 mod runs;
+mod script;
 #[cfg(test)]
 mod store_tests;
+#[cfg(test)]
+mod sweep_tests;
+mod sweeping;
+mod swept;
 #[cfg(test)]
 mod tags_tests;
 #[cfg(test)]
@@ -46,6 +53,7 @@ use lines::{Stop, run_script};
 use making::make_and_tell;
 use nfc_io::{Sink, Source, write_all};
 use std::alloc::Global;
+use sweeping::sweep_and_tell;
 use text::{push_number, push_text};
 use words::{Form, form_of};
 
@@ -64,6 +72,7 @@ pub fn run_bench<S: Source, K: Sink>(
 {
     match form_of(words) {
         Some(Form::Run { quiet }) => run_and_tell(alloc, quiet, source, sink, bench),
+        Some(Form::Sweep) => sweep_and_tell(alloc, source, sink, bench),
         Some(Form::Make { seed, count }) => make_and_tell(alloc, seed, count, sink, bench),
         None => {
             write_fault(sink, b"fault 6 words\n");

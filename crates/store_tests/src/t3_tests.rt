@@ -11,18 +11,18 @@ const ID: [u8; 8] = [1, 2, 3, 4, 5, 6, 7, 8];
 /// The attribute block of a tag of fourteen blocks that holds a message of three bytes.
 const ATTRIBUTES: [u8; 16] = [0x10, 4, 1, 0, 0x0D, 0, 0, 0, 0, 0, 1, 0, 0, 3, 0, 0x26];
 
-/// A tag of so many blocks, 0 but for its attribute block and a message.
+/// A tag of so many blocks, at most 256, 0 but for its attribute block and a message.
 fn tag(alloc: Global, blocks: usize, attributes: &[u8]) -> Result<T3Tag, Fail> {
     let mut store = attributes.to_vec(alloc)?;
     store.extend_from_slice(&[0xD0, 0, 0])?;
-    store.resize(16 * blocks, 0)?;
+    store.resize(16 * blocks.min(256), 0)?;
     Ok(T3Tag::new(ID, store)?)
 }
 
-/// A frame: its length and a code, the identifier, and what follows.
+/// A frame: its length and a code, the identifier, and what follows, at most 245 bytes.
 fn addressed(code: u8, rest: &[u8]) -> Result<ArrayVec<u8, 255>, Fail> {
     let mut bytes: ArrayVec<u8, 255> = ArrayVec::new();
-    bytes.try_extend_from_slice(&[10 + rest.len() as u8, code])?;
+    bytes.try_extend_from_slice(&[10 + rest.len().min(245) as u8, code])?;
     bytes.try_extend_from_slice(&ID)?;
     bytes.try_extend_from_slice(rest)?;
     Ok(bytes)

@@ -13,6 +13,8 @@ use workload::Workload;
 pub enum Form {
     /// A run over a script, which reports answers alone or events too.
     Run { quiet: bool },
+    /// A run over a script, and one more for each transmission of its last line, in which a Break comes there.
+    Sweep,
     /// A run over the workload of a seed and a count, of which one line tells what came through.
     Make { seed: u16, count: u8 },
 }
@@ -64,6 +66,7 @@ pub fn form_of(words: &[String]) -> Option<Form>
         [make, seed, count] if make.as_str() == "make" => {
             form_of_workload(seed.as_str(), count.as_str())
         }
+        [sweep] if sweep.as_str() == "sweep" => Some(Form::Sweep),
         _ => None,
     }
 }

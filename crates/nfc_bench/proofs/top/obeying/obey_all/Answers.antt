@@ -1,6 +1,7 @@
 use Rattle.std.proofs.Common.{◌≡◌, ◌<◌, ◌≤◌, ◌+◌, List, ℕ, [], length, get_or, Err, refl, sym, ◌∙◌, ap, subst, arith}
 use Rattle.std.proofs.lemmas.List.{take_all}
 use Rattle.bench_world.specs.Obeying.{Benched}
+use Rattle.bench_world.specs.declared.bench.ObeyFault.TheVariants.{Refused, Memory}
 use Rattle.nfc_bench.specs.Stops.{Follows, ObeyedBy}
 use Rattle.nfc_bench.proofs.Progress.{obeyed_new}
 use Rattle.nfc_bench.proofs.Obeying.{obeyed_next, untaken_next, front_obeyed}

@@ -1,0 +1,9 @@
+//! What a sweep finds, as a law. The call does nothing: it stands for this law.
+
+ghost use Rattle.nfc_bench.specs.SweptReads.{SweptIsRead};
+
+/// Wherever the tag is pulled away during the write of a sweep, the read behind it tells a message: the one that the tag
+/// held before the write, the empty one, or the new one.
+pub fn swept_is_read()
+    ensures { SweptIsRead }
+{}
