@@ -36,11 +36,12 @@ use Rattle.bench_world.proofs.HeldOn.{nothing_sent}
 use Rattle.bench_world.proofs.OneForm.{one_store_form}
 use Rattle.bench_world.proofs.OneJournal.{same_answers, same_state}
 use Rattle.bench_world.proofs.Reached.{first_ready, ready_behind}
-use Rattle.bench_world.proofs.WriteBehind.{Done, named_so, tag_behind, written_placed}
+use Rattle.bench_world.proofs.WriteBehind.{Done, tag_behind}
 use Rattle.nfc_bench.specs.Run.{IsFates, HaveNoFates, IsRunOf, AreRuns}
 use Rattle.nfc_bench.specs.Sweep.{sweep_lines, break_lines, read_line, last_entry, all_transmissions, told_in, told_if, message_told}
 use Rattle.nfc_bench.specs.SweptReads.{HeldBehind, TellsThree, SweptIsRead}
 use Rattle.nfc_bench.proofs.Journals.{asking_more, asks_something}
+use Rattle.nfc_bench.proofs.WrittenTag.{named_so, written_placed}
 use Rattle.nfc_bench.proofs.SweptLines.{break_fates, break_commands, breaks_are, breaks_spelled, read_spelled, spelled_append, some_fates, all_breaks, all_of}
 
 -- no entry has numbers

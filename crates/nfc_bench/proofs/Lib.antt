@@ -11,4 +11,5 @@ pub mod Counting
 pub mod Workloads
 pub mod SweptLines
 pub mod Sweeping
+pub mod WrittenTag
 pub mod BrokenRuns

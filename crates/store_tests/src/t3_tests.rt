@@ -45,7 +45,7 @@ fn obeys(rt: &impl Abort, tag: &mut T3Tag, rows: &[Row]) -> Result<(), Fail> {
         let told = tag.obey(&addressed(*code, rest)?);
         let mut bytes: ArrayVec<u8, 255> = ArrayVec::new();
         if !answer.is_empty() {
-            bytes = addressed(*code + 1, answer)?;
+            bytes = addressed(code.saturating_add(1), answer)?;
         }
         assert!(rt; is_answer(&told, &bytes), "at {code} {rest:?}: {told:?}");
     }
