@@ -26,7 +26,7 @@ use Rattle.snep_core.proofs.Jobs.{heard_lets}
 use Rattle.snep_core.proofs.Readied.{Readies, elsewhere, one_ready}
 
 -- None of these is that SAP.
-abbrev NotAmong : ℕ → List ℕ → Type 0
+abbrev pub NotAmong : ℕ → List ℕ → Type 0
 NotAmong s ss = AllByRecursion (λ z. (s == z) ≡ false) ss
 
 is_other : (m n : ℕ) → (m == n) ≡ false → (n == m) ≡ false

@@ -4,14 +4,14 @@ use Rattle.nfc_base.specs.declared.carrier.EndCause.{EndCause}
 use Rattle.nfc_base.specs.declared.carrier.LinkEnd.{LinkEnd}
 use Rattle.nfc_base.specs.Links.{CarrierView, FarStep, Stepped, SwapDone, SwapFailed, SwapRefused, Swapped, AskedBy}
 use Rattle.llcp_link.specs.Answering.{Gives}
-use Rattle.llcp_link.specs.Asking.{has_waiting_of}
 use Rattle.llcp_link.specs.Taking.{taken_from}
 use Rattle.llcp_link.specs.Giving.{given}
 use Rattle.snep_core.specs.declared.fault.SnepFault.{SnepFault}
 use Rattle.snep_core.specs.declared.fault.SnepFault.TheVariants.{Memory}
-use Rattle.snep_core.specs.declared.job.Passed.{Passed}
+use Rattle.snep_core.specs.declared.job.Awaiting.{Awaiting}
+use Rattle.snep_core.specs.Listening.{all_awaiting}
 use Rattle.snep_core.specs.Calling.{Exchanged, IsCut, fault_of}
-use Rattle.snep_core.specs.Talk.{EndState, gave_something, own_of, silent}
+use Rattle.snep_core.specs.Talk.{EndState, OnSap, silent}
 
 module _ {C A : Type 0} (seen : C → CarrierView) (swaps : C → List ℕ → List FarStep → C → Type 0) (steps : A → List ℕ → List ℕ → A → Type 0)
     (stops : A → List ℕ → A → Type 0) (link : C) (far : A) (now : C) (after : A) (llc mid : EndState) (count : ℕ) (out : List ℕ)
@@ -59,15 +59,13 @@ module _ {C A : Type 0} (seen : C → CarrierView) (swaps : C → List ℕ → L
     swapped = subst (λ b. Swapped swaps steps stops link b far now after (λ did. did ≡ Stepped b reply ∷ [])) g.bytes_are swapped;
   }))
 
-  pub exchanged : (sap : ℕ) (reply : List ℕ) (passed : Passed) (new : EndState) → SwapDone steps (seen link) (seen now) out reply far after
+  pub exchanged : (jobs : List OnSap) (reply : List ℕ) (all : List Awaiting) (new : EndState) → SwapDone steps (seen link) (seen now) out reply far after
       → Swapped swaps steps stops link out far now after (λ did. did ≡ Stepped out reply ∷ []) → new ≡ taken_from silent mid reply
-      → passed.gave ≡ gave_something (own_of sap mid) (own_of sap new) → passed.waiting ≡ has_waiting_of (own_of sap mid)
-      → Exchanged seen swaps steps stops count sap llc link far passed new now after
-  exchanged sap reply passed new done swapped took something waiting = record {
+      → all ≡ all_awaiting mid jobs → Exchanged seen swaps steps stops count jobs llc link far all new now after
+  exchanged jobs reply all new done swapped took awaited = record {
     reply = reply;
     swap = subst (λ b. SwapDone steps (seen link) (seen now) b reply far after) g.bytes_are done;
     swapped = subst (λ b. Swapped swaps steps stops link b far now after (λ did. did ≡ Stepped b reply ∷ [])) g.bytes_are swapped;
     took = took ∙ ap (λ l. taken_from silent l reply) g.left;
-    something = something ∙ ap (λ l. gave_something (own_of sap l) (own_of sap new)) g.left;
-    waiting = waiting ∙ ap (λ l. has_waiting_of (own_of sap l)) g.left;
+    awaited = awaited ∙ ap (λ l. all_awaiting l jobs) g.left;
   }

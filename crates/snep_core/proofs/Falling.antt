@@ -1,21 +1,14 @@
 -- What is still to come falls by each reply that gives something.
-use Rattle.std.proofs.Common.{◌≡◌, ◌<◌, ◌≤◌, ℕ, ◌==◌, ◌&&◌, ◌||◌, ◌+◌, ◌-◌, ◌*◌, not, Bool, true, false, List, Option, refl, sym, ap, subst, ◌∙◌, arith, if◌then◌else◌}
+use Rattle.std.proofs.Common.{◌≡◌, ◌<◌, ◌≤◌, ℕ, ◌==◌, ◌&&◌, ◌||◌, ◌+◌, ◌-◌, ◌*◌, not, Bool, true, false, Option, refl, sym, ap, arith, if◌then◌else◌}
 use Rattle.std.proofs.lemmas.Bool.Decides.{nat_tests}
 use Rattle.llcp_link.specs.State.{OwnState}
 use Rattle.llcp_link.specs.declared.standing.Standing.{Standing}
 use Rattle.llcp_link.specs.declared.standing.Standing.TheVariants as stands
 use Rattle.llcp_link.specs.Asking.{acked_of, is_open_by, standing_of}
-use Rattle.llcp_link.specs.Taking.{taken_from}
-use Rattle.llcp_link.specs.Giving.{after_giving}
 use Rattle.llcp_link.specs.Waning.{pending}
-use Rattle.llcp_link.proofs.Waning.{Wanes, is_of, acknowledged_falls, answer_falls, given_wanes, pending_wanes, taken_wanes}
-use Rattle.snep_core.specs.declared.job.Turn.{Turn}
-use Rattle.snep_core.specs.declared.job.Turn.TheVariants.{Ended, Went, GaveUp}
-use Rattle.snep_core.specs.Jobs.{Job}
-use Rattle.snep_core.specs.RepliesLeft.{job_left, to_come}
-use Rattle.snep_core.specs.Waning.{Falls, GoesAs, Lessens, LessensTo, one_job}
-use Rattle.snep_core.proofs.Owned.{pending_emptied}
-use Rattle.snep_core.specs.Talk.{EndState, emptied, gave_something, idle_after, is_waiting, most_idle, own_of, silent}
+use Rattle.llcp_link.proofs.Waning.{Wanes, is_of, acknowledged_falls, answer_falls, pending_wanes}
+use Rattle.snep_core.specs.Waning.{LessensTo}
+use Rattle.snep_core.specs.Talk.{gave_something, idle_after, is_waiting, most_idle}
 
 both : (a b : Bool) → (a && b) ≡ true → (a ≡ true) × (b ≡ true)
 both true b e = (refl, e)
@@ -60,23 +53,6 @@ module _ (sap : ℕ) (a b : Option OwnState) (w : Wanes (is_of sap a) (is_of sap
   gave_lessens true e = gave_falls (sym e)
   gave_lessens false e = pending_wanes sap a b w
 
--- one exchange
-pub exchange_falls : (sap : ℕ) (l mid new : EndState) (n : ℕ) (reply : List ℕ) (gave : Bool) → mid ≡ after_giving silent n l → new ≡ taken_from silent mid reply
-    → acked_of (own_of sap mid) < 4294967296 → gave ≡ gave_something (own_of sap mid) (own_of sap new) → Lessens gave (own_of sap l) (own_of sap new)
-exchange_falls sap l mid new n reply gave e i few g = go gave (gave_lessens sap (own_of sap mid) (own_of sap new) two few gave g)
-  where
-    one : pending (own_of sap mid) ≤ pending (own_of sap l)
-    one =
-        pending_wanes sap (own_of sap l) (own_of sap mid)
-        (subst (λ z. Wanes (is_of sap (own_of sap l)) (is_of sap (own_of sap z))) (sym e) (given_wanes silent sap n l))
-
-    two : Wanes (is_of sap (own_of sap mid)) (is_of sap (own_of sap new))
-    two = subst (λ z. Wanes (is_of sap (own_of sap mid)) (is_of sap (own_of sap z))) (sym i) (taken_wanes silent sap mid reply)
-
-    go : (b : Bool) → LessensTo b (pending (own_of sap mid)) (pending (own_of sap new)) → Lessens b (own_of sap l) (own_of sap new)
-    go true h = (let x = one in omega arith)
-    go false h = (let x = one in omega arith)
-
 -- each of two leaves less where it gave something
 pub both_lessen : (a b : Bool) (x y u v : ℕ) → LessensTo a x y → LessensTo b u v → LessensTo (a || b) (x + u) (y + v)
 both_lessen true true x y u v g s = omega arith
@@ -89,18 +65,3 @@ pub turn_falls : (old between new idle : ℕ) (gave : Bool) → between ≤ old 
     → 17 * new + (most_idle - idle_after gave idle) < 17 * old + (most_idle - idle)
 turn_falls old between new idle true r g n = omega arith
 turn_falls old between new idle false r g n = omega arith
-
--- so does one whose job came to this
-pub goes_falls : (sap : ℕ) (l between mid last : EndState) (job now next : Job) (idle : ℕ) (gave some : Bool) (turn : Turn) (new : EndState)
-    → to_come (own_of sap between) now ≤ to_come (own_of sap l) job → Lessens gave (own_of sap between) (own_of sap mid)
-    → LessensTo some (job_left now) (job_left next) → last ≡ emptied mid sap → GoesAs next (idle_after (gave || some) idle) last turn new
-    → Falls sap (one_job l sap job idle) turn new
-goes_falls sap l between mid last job now next idle gave some (Ended e) new r g s k goes = tt
-goes_falls sap l between mid last job now next idle gave some (GaveUp came) new r g s k goes = tt
-goes_falls sap l between mid last job now next idle gave some (Went j n) new r g s k goes =
-    let p : pending (own_of sap new) ≡ pending (own_of sap mid) = ap (λ z. pending (own_of sap z)) (goes.3 ∙ k) ∙ pending_emptied sap mid in
-    let less = both_lessen gave some (pending (own_of sap between)) (pending (own_of sap mid)) (job_left now) (job_left next) g s in
-    let f = turn_falls (to_come (own_of sap l) job) (to_come (own_of sap between) now) (pending (own_of sap mid) + job_left next) idle (gave || some) r less goes.2 in
-    let a = ap job_left goes.0 in
-    let b = goes.1 in
-    (subst (λ z. z < most_idle) (sym b) goes.2, omega arith)

@@ -16,6 +16,8 @@ pub mod Links
 pub mod Owned
 pub mod OnConnection
 pub mod Jobs
+pub mod AllJobs
+pub mod Following
 pub mod Submits
 pub mod Connecting
 pub mod Cutting

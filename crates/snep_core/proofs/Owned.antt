@@ -169,10 +169,10 @@ module _ (sap : ℕ) (l new : EndState) (job : Job) (u : List ℕ) (some : Bool)
   hears_early waiting f = ap (λ b. told_in b job (units_of (own_of sap l))) f ∙ ap (told_in true job) one.units_are
 
 -- the far end refused the connection of a job that needs it, or closed it
-pub lost_so : (sap : ℕ) (waiting : Bool) (l mid new : EndState) (job now : Job) → told_in waiting job (units_of (own_of sap l)) ≡ Some now → mid ≡ emptied l sap
-    → is_lost mid sap now ≡ true → new ≡ forgotten mid sap → (heard waiting l sap job ≡ None) × (new ≡ forgotten l sap)
-lost_so sap waiting l mid new job now t e b f = (
+pub lost_so : (sap : ℕ) (waiting : Bool) (l mid : EndState) (job now : Job) → told_in waiting job (units_of (own_of sap l)) ≡ Some now → mid ≡ emptied l sap
+    → is_lost mid sap now ≡ true → (heard waiting l sap job ≡ None) × (forgotten mid sap ≡ forgotten l sap)
+lost_so sap waiting l mid job now t e b = (
   ap (heard_so (emptied l sap) sap) t
       ∙ ap (λ x. if x then None else Some (finished (emptied l sap) sap now)) (ap (λ z. is_lost z sap now) (sym e) ∙ b),
-  f ∙ ap (λ z. forgotten z sap) e ∙ forgotten_emptied sap l,
+  ap (λ z. forgotten z sap) e ∙ forgotten_emptied sap l,
 )

@@ -1,18 +1,22 @@
 -- A call goes on by one exchange more.
-use Rattle.std.proofs.Common.{◌≡◌, ℕ, Bool, true, false, List, [], ◌∷◌, ◌++◌, ◌||◌, Option, Some, None, refl, sym, ap, subst, ◌∙◌, inr, append-nil}
+use Rattle.std.proofs.Common.{◌≡◌, ℕ, Bool, true, false, List, [], ◌∷◌, ◌++◌, ◌||◌, eqb, nat_lt, Option, Some, None, refl, sym, ap, subst, ◌∙◌, inl, inr, append-nil, if◌then◌else◌}
+use Rattle.std.specs.List.{IsDistinct}
 use Rattle.std.proofs.lemmas.List.{append_assoc}
 use Rattle.nfc_base.specs.Choosing.{first_number, later_numbers}
 use Rattle.nfc_base.specs.Links.{CarrierView, FarStep, Stepped, Stopped, FarMoved, SwapDone, Swapped, BySwaps, payload_of}
-use Rattle.llcp_link.specs.Asking.{forgotten, has_waiting_of}
+use Rattle.llcp_link.specs.Asking.{has_waiting_of}
 use Rattle.llcp_link.specs.Giving.{given, after_giving}
-use Rattle.snep_core.specs.declared.job.Passed.{Passed}
+use Rattle.snep_core.specs.declared.job.Awaiting.{Awaiting}
+use Rattle.snep_core.specs.declared.job.HeardAll.{HeardAll}
 use Rattle.snep_core.specs.declared.job.Turn.{Turn}
-use Rattle.snep_core.specs.declared.job.Turn.TheVariants.{GaveUp}
+use Rattle.snep_core.specs.declared.job.Turn.TheVariants.{Ended, Went, GaveUp}
 use Rattle.snep_core.specs.declared.fault.SnepFault.{SnepFault}
 use Rattle.snep_core.specs.declared.fault.SnepFault.TheVariants.{Memory}
-use Rattle.snep_core.specs.Calling.{Breaks, Exchanged, IsCut, Talks, Turned, gives_up, last_of, payloads, step_of}
+use Rattle.snep_core.specs.Calling.{Breaks, Exchanged, FailsBy, IsCut, IsStep, Talks, Turned, TurnedTo, gives_up, last_of, payloads}
 use Rattle.snep_core.specs.Jobs.{Job, has_byte}
-use Rattle.snep_core.specs.Talk.{EndState, Ends, GivesUp, Goes, Ready, Step, Told, Working, emptied, gave_something, heard, heard_with, idle_after, numbers_behind, one_on, own_of, payload, ready, readied, ready_so, replied, replied_ready, settled, silent, told_by, took, units_of}
+use Rattle.snep_core.specs.Listening.{HearsAll, all_awaiting, all_come, awaited_saps, empties, forgets, gave_one}
+use Rattle.snep_core.proofs.AllJobs.{awaited_so, come_saps, come_so, empties_so, forgets_so, gave_so, ready_saps}
+use Rattle.snep_core.specs.Talk.{AllReady, AreApart, EndState, Ends, GivesUp, Goes, OnSap, Step, Told, Working, all_emptied, all_heard, all_over, all_readied, as_they_came, emptied, gave_any, gave_something, given_up, goes_on, heard, heard_with, idle_after, most_idle, numbers_behind, one_on, own_of, payload, ready, replied, replied_ready, saps, settled, silent, told_by, took, units_of}
 
 told_more : (from : Step) (ns : List ℕ) (did : List FarStep) (w : Working) (reply : List ℕ) (to : Step) → Told ns from did (Goes w)
     → replied (first_number (numbers_behind did ns)) w reply ≡ to
@@ -61,6 +65,17 @@ module _ {C A : Type 0} (seen : C → CarrierView) (swaps : C → List ℕ → L
     far_moved = refl;
   }
 
+  -- memory was wanting before anything was handed over
+  pub talks_rests : (numbers : List ℕ) (w : Working) (link : C) (far : A) (e : SnepFault) (new : EndState) → e ≡ Memory
+      → FailsBy seen swaps steps stops numbers (Goes w) link far e new link far
+  talks_rests numbers w link far e new f = inr (record {
+    at = w;
+    mid = link;
+    mid_far = far;
+    talks = talks_none numbers (Goes w) link far;
+    cut = inl (inl (record { fault = f; link_is = refl; far_is = refl }));
+  })
+
   -- a call came so far, and these numbers are left to it
   pub record TalksTo (numbers : List ℕ) (from : Step) (link : C) (far : A) (left : List ℕ) (to : Step) (now : C) (after : A) : Type 0 where
     pub talks : Talks seen swaps steps stops numbers from link far to now after
@@ -71,16 +86,16 @@ module _ {C A : Type 0} (seen : C → CarrierView) (swaps : C → List ℕ → L
 
   module _ (numbers : List ℕ) (from : Step) (link : C) (far : A) (left : List ℕ) (w : Working) (mid : C) (mid_far : A)
       (t : TalksTo numbers from link far left (Goes w) mid mid_far) where
-    goes_on : (sap : ℕ) (turn : Turn) (new : EndState) (now : C) (after : A)
-        → Turned seen swaps steps stops (first_number (numbers_behind t.talks.did numbers)) sap w mid mid_far turn new now after
-        → TalksTo numbers from link far (later_numbers left) (step_of sap turn new) now after
-    goes_on sap turn new now after u =
+    went_on : (to : Step) (now : C) (after : A)
+        → TurnedTo seen swaps steps stops (first_number (numbers_behind t.talks.did numbers)) w mid mid_far to now after
+        → TalksTo numbers from link far (later_numbers left) to now after
+    went_on to now after u =
         let did = t.talks.did in
         let out = given silent (first_number (numbers_behind did numbers)) (ready w).llc in
         let x : FarStep = Stepped out u.reply in record {
           talks = record {
             did = did ++ x ∷ [];
-            told = told_more from numbers did w u.reply (step_of sap turn new) t.talks.told u.step;
+            told = told_more from numbers did w u.reply to t.talks.told u.step;
             handed =
                 u.swap.handed ∙ ap (λ z. z ++ out ∷ []) t.talks.handed ∙ append_assoc (seen link).handed (payloads did) (out ∷ [])
                 ∙ ap (λ z. (seen link).handed ++ z) (sym (payloads_more did x));
@@ -92,10 +107,10 @@ module _ {C A : Type 0} (seen : C → CarrierView) (swaps : C → List ℕ → L
           left_is = ap later_numbers t.left_is ∙ sym (behind_more did x numbers);
         }
 
-    pub talks_on : (sap : ℕ) (turn : Turn) (new : EndState) (now : C) (after : A) → Turned seen swaps steps stops (first_number left) sap w mid mid_far turn new now after
-        → TalksTo numbers from link far (later_numbers left) (step_of sap turn new) now after
-    talks_on sap turn new now after u =
-        goes_on sap turn new now after (subst (λ z. Turned seen swaps steps stops (first_number z) sap w mid mid_far turn new now after) t.left_is u)
+    pub talks_on : (to : Step) (now : C) (after : A) → TurnedTo seen swaps steps stops (first_number left) w mid mid_far to now after
+        → TalksTo numbers from link far (later_numbers left) to now after
+    talks_on to now after u =
+        went_on to now after (subst (λ z. TurnedTo seen swaps steps stops (first_number z) w mid mid_far to now after) t.left_is u)
 
     pub talks_break : (e : SnepFault) (new : EndState) (now : C) (after : A) → IsCut seen swaps steps stops (first_number left) (ready w).llc mid mid_far e new now after
         → Breaks seen swaps steps stops numbers from link far e new now after
@@ -113,14 +128,6 @@ module _ (sap : ℕ) (old mid new : EndState) (job now : Job) (idle : ℕ) where
   or_false true = refl
   or_false false = refl
 
-  pub took_none : heard (has_waiting_of (own_of sap old)) mid sap now ≡ None → new ≡ forgotten mid sap
-      → took old mid (one_on sap now) idle ≡ step_of sap (GaveUp None) new
-  took_none h e =
-      ap (λ o. told_by mid (one_on sap now) (record { sap = sap; job = o } ∷ [])
-      (idle_after ((gave_something (own_of sap old) (own_of sap mid) || has_byte (units_of (own_of sap mid))) || false) idle)
-      (heard_with sap o (Some []))) h
-      ∙ ap (gives_up (record { sap = sap; job = None } ∷ [])) (sym e)
-
   pub took_some : (next : Job) (gave : Bool) → heard (has_waiting_of (own_of sap old)) mid sap now ≡ Some next
       → gave ≡ (gave_something (own_of sap old) (own_of sap mid) || has_byte (units_of (own_of sap mid)))
       → took old mid (one_on sap now) idle ≡ settled (emptied mid sap) (one_on sap next) (idle_after gave idle)
@@ -131,48 +138,88 @@ module _ (sap : ℕ) (old mid new : EndState) (job now : Job) (idle : ℕ) where
       ∙ ap (λ b. settled (emptied mid sap) (one_on sap next) (idle_after b idle))
       (or_false (gave_something (own_of sap old) (own_of sap mid) || has_byte (units_of (own_of sap mid))) ∙ sym e)
 
-module _ {C A : Type 0} (seen : C → CarrierView) (swaps : C → List ℕ → List FarStep → C → Type 0) (steps : A → List ℕ → List ℕ → A → Type 0)
-    (stops : A → List ℕ → A → Type 0) (link : C) (far : A) (over : C) (after : A) (sap : ℕ) (l mid heard_end : EndState) (job now : Job) (idle : ℕ)
-    (r : readied l sap job ≡ ready_so mid now) (count : ℕ) (passed : Passed)
-    (x : Exchanged seen swaps steps stops count sap mid link far passed heard_end over after) where
-  abbrev working : Working
-  working = record { llc = l; jobs = one_on sap job; idle = idle }
+-- The sixteenth reply in a row that gave nothing gives the far end up.
+pub settle_gives_up : (l new : EndState) (jobs : List OnSap) (n : ℕ) → all_over jobs ≡ false → nat_lt n most_idle ≡ false → new ≡ forgets (saps jobs) l
+    → settled l jobs n ≡ gives_up (as_they_came jobs) new
+settle_gives_up l new jobs n o k e =
+    ap (λ b. if b then Ends jobs l else goes_on l jobs n) o
+    ∙ ap (λ b. if b then Goes (record { llc = l; jobs = jobs; idle = n }) else given_up l jobs (as_they_came jobs)) k
+    ∙ ap (gives_up (as_they_came jobs)) (sym (e ∙ forgets_so jobs l))
 
-  abbrev turned_by : (turn : Turn) (new : EndState) → took (after_giving silent count mid) heard_end (one_on sap now) idle ≡ step_of sap turn new
-      → Turned seen swaps steps stops count sap working link far turn new over after
-  turned_by turn new e = record {
+-- What all jobs come to, behind a payload and its reply.
+module _ (old mid new : EndState) (jobs : List OnSap) (idle : ℕ) where
+  all_none : all_come mid (all_awaiting old jobs) ≡ None → new ≡ forgets (saps jobs) mid
+      → took old mid jobs idle ≡ gives_up (all_heard old mid jobs) new
+  all_none h e =
+      ap (told_by mid jobs (all_heard old mid jobs) (idle_after (gave_any old mid jobs) idle)) (sym (come_so old mid jobs) ∙ h)
+      ∙ ap (gives_up (all_heard old mid jobs)) (sym (e ∙ forgets_so jobs mid))
+
+  all_some : (now : List OnSap) (gave : Bool) → all_come mid (all_awaiting old jobs) ≡ Some now → gave ≡ gave_one mid (all_awaiting old jobs)
+      → took old mid jobs idle ≡ settled (empties (all_awaiting old jobs) mid) now (idle_after gave idle)
+  all_some now gave h g =
+      ap (told_by mid jobs (all_heard old mid jobs) (idle_after (gave_any old mid jobs) idle)) (sym (come_so old mid jobs) ∙ h)
+      ∙ ap (λ b. settled (all_emptied jobs mid) now (idle_after b idle)) (sym (g ∙ gave_so old mid jobs))
+      ∙ ap (λ z. settled z now (idle_after gave idle)) (sym (empties_so old mid jobs))
+
+module _ {C A : Type 0} (seen : C → CarrierView) (swaps : C → List ℕ → List FarStep → C → Type 0) (steps : A → List ℕ → List ℕ → A → Type 0)
+    (stops : A → List ℕ → A → Type 0) (link : C) (far : A) (over : C) (after : A) (l mid heard_end : EndState) (jobs now : List OnSap) (idle : ℕ)
+    (r : all_readied jobs l ≡ record { llc = mid; jobs = now }) (count : ℕ) (all : List Awaiting)
+    (x : Exchanged seen swaps steps stops count now mid link far all heard_end over after) where
+  abbrev working : Working
+  working = record { llc = l; jobs = jobs; idle = idle }
+
+  turned_by : (to : Step) → took (after_giving silent count mid) heard_end now idle ≡ to → TurnedTo seen swaps steps stops count working link far to over after
+  turned_by to e = record {
     reply = x.reply;
-    swap = subst (λ (z : Ready). SwapDone steps (seen link) (seen over) (given silent count z.llc) x.reply far after) (sym r) x.swap;
-    swapped = subst (λ (z : Ready). Swapped swaps steps stops link (given silent count z.llc) far over after
+    swap = subst (λ (z : AllReady). SwapDone steps (seen link) (seen over) (given silent count z.llc) x.reply far after) (sym r) x.swap;
+    swapped = subst (λ (z : AllReady). Swapped swaps steps stops link (given silent count z.llc) far over after
         (λ did. did ≡ Stepped (given silent count z.llc) x.reply ∷ [])) (sym r) x.swapped;
     step =
-        ap (λ (z : Ready). replied_ready count (record { llc = z.llc; jobs = record { sap = sap; job = z.job } ∷ []; idle = idle }) x.reply) r
-        ∙ ap (λ z. took (after_giving silent count mid) z (one_on sap now) idle) (sym x.took) ∙ e;
+        ap (λ (z : AllReady). replied_ready count (record { llc = z.llc; jobs = z.jobs; idle = idle }) x.reply) r
+        ∙ ap (λ z. took (after_giving silent count mid) z now idle) (sym x.took) ∙ e;
   }
 
-  heard_where : (o : Option Job) → heard passed.waiting heard_end sap now ≡ o
-      → heard (has_waiting_of (own_of sap (after_giving silent count mid))) heard_end sap now ≡ o
-  heard_where o h = ap (λ b. heard b heard_end sap now) (sym x.waiting) ∙ h
+  -- the SAPs stay
+  same_saps : saps now ≡ saps jobs
+  same_saps = sym (ap (λ (z : AllReady). saps z.jobs) r) ∙ ready_saps jobs l
+
+  pub saps_awaited : awaited_saps all ≡ saps jobs
+  saps_awaited = ap awaited_saps x.awaited ∙ awaited_so (after_giving silent count mid) now ∙ same_saps
+
+  pub apart_awaited : AreApart jobs → IsDistinct eqb (awaited_saps all)
+  apart_awaited d = subst (IsDistinct eqb) (sym saps_awaited) d
 
   -- the far end was at fault
-  pub turned_none : (new : EndState) → heard passed.waiting heard_end sap now ≡ None → new ≡ forgotten heard_end sap
-      → Turned seen swaps steps stops count sap working link far (GaveUp None) new over after
-  turned_none new h e =
-      turned_by (GaveUp None) new (took_none sap (after_giving silent count mid) heard_end new job now idle (heard_where None h) e)
+  pub turned_none : (left new : EndState) → HearsAll heard_end all None left → new ≡ forgets (saps jobs) left
+      → Turned seen swaps steps stops count working link far GaveUp new over after
+  turned_none left new h e = (
+    all_heard (after_giving silent count mid) heard_end now,
+    turned_by (gives_up (all_heard (after_giving silent count mid) heard_end now) new)
+        (all_none (after_giving silent count mid) heard_end new now idle (ap (all_come heard_end) (sym x.awaited) ∙ h.0)
+        (e ∙ ap (λ ss. forgets ss left) (sym saps_awaited) ∙ h.1 ∙ ap (λ ss. forgets ss heard_end) (saps_awaited ∙ sym same_saps))),
+  )
 
-  -- its job came to this
-  pub turned_some : (turn : Turn) (new : EndState) (next : Job) (some : Bool) → heard passed.waiting heard_end sap now ≡ Some next
-      → some ≡ has_byte (units_of (own_of sap heard_end))
-      → settled (emptied heard_end sap) (one_on sap next) (idle_after (passed.gave || some) idle) ≡ step_of sap turn new
-      → Turned seen swaps steps stops count sap working link far turn new over after
-  turned_some turn new next some h s e =
-      turned_by turn new
-      (took_some sap (after_giving silent count mid) heard_end new job now idle next (passed.gave || some) (heard_where (Some next) h)
-      (ap (λ b. b || some) x.something ∙ ap (λ b. gave_something (own_of sap (after_giving silent count mid)) (own_of sap heard_end) || b) s) ∙ e)
+  -- its jobs came to this
+  took_heard : (h : HeardAll) (left : EndState) → HearsAll heard_end all (Some h) left
+      → took (after_giving silent count mid) heard_end now idle ≡ settled left h.jobs (idle_after h.gave idle)
+  took_heard h left e =
+      all_some (after_giving silent count mid) heard_end left now idle h.jobs h.gave (ap (all_come heard_end) (sym x.awaited) ∙ e.0)
+      (e.1 ∙ ap (gave_one heard_end) x.awaited)
+      ∙ ap (λ z. settled z h.jobs (idle_after h.gave idle)) (ap (λ xs. empties xs heard_end) (sym x.awaited) ∙ sym e.2)
+
+  pub turned_some : (h : HeardAll) (left : EndState) → HearsAll heard_end all (Some h) left → (turn : Turn) (new : EndState)
+      → IsStep (settled left h.jobs (idle_after h.gave idle)) turn new → Turned seen swaps steps stops count working link far turn new over after
+  turned_some h left e (Ended ended) new s = turned_by (Ends ended new) (took_heard h left e ∙ s)
+  turned_some h left e (Went went n) new s = turned_by (Goes (record { llc = new; jobs = went; idle = n })) (took_heard h left e ∙ s)
+  turned_some h left e GaveUp new (came, s) = (came, turned_by (gives_up came new) (took_heard h left e ∙ s))
+
+  -- the jobs are on the same connections as before
+  pub heard_saps : (h : HeardAll) (left : EndState) → HearsAll heard_end all (Some h) left → saps h.jobs ≡ saps jobs
+  heard_saps h left e = come_saps heard_end all h.jobs e.0 ∙ saps_awaited
 
   -- it was answered, and memory was wanting as the reply was read
   pub unread : (e : SnepFault) (new : EndState) → e ≡ Memory → IsCut seen swaps steps stops count (ready working).llc link far e new over after
-  unread e new f = subst (λ (z : Ready). IsCut seen swaps steps stops count z.llc link far e new over after) (sym r) (inr (inr (record {
+  unread e new f = subst (λ (z : AllReady). IsCut seen swaps steps stops count z.llc link far e new over after) (sym r) (inr (inr (record {
     reply = x.reply;
     fault = f;
     swap = x.swap;

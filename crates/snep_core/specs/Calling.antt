@@ -5,17 +5,17 @@ use Rattle.nfc_base.specs.declared.carrier.EndCause.{EndCause}
 use Rattle.nfc_base.specs.declared.carrier.EndCause.TheVariants as cause
 use Rattle.nfc_base.specs.declared.carrier.LinkEnd.{LinkEnd}
 use Rattle.nfc_base.specs.Links.{CarrierView, FarStep, Stepped, FarMoved, SwapDone, SwapFailed, Swapped, AskedBy, BySwaps, payload_of}
-use Rattle.llcp_link.specs.Asking.{has_waiting_of}
 use Rattle.llcp_link.specs.Taking.{taken_from}
 use Rattle.llcp_link.specs.Giving.{given, after_giving}
 use Rattle.snep_core.specs.declared.fault.SnepFault.{SnepFault}
 use Rattle.snep_core.specs.declared.fault.SnepFault.TheVariants.{LinkEnded, Memory, BadPeer}
 use Rattle.snep_core.specs.declared.fault.SnepFault.TheVariants as faults
 use Rattle.snep_core.specs.Jobs.{Over, Refused}
-use Rattle.snep_core.specs.Talk.{EndState, Step, Goes, Ends, GivesUp, Told, Working, CameTo, alone, gave_something, numbers_behind, one_on, own_of, ready, replied, silent}
+use Rattle.snep_core.specs.Listening.{all_awaiting}
+use Rattle.snep_core.specs.Talk.{EndState, Step, Goes, Ends, GivesUp, Told, Working, CameTo, OnSap, alone, numbers_behind, ready, replied, silent}
 use Rattle.snep_core.specs.declared.job.Refusal.{Refusal}
 use Rattle.snep_core.specs.declared.job.Refusal.TheVariants as refusals
-use Rattle.snep_core.specs.declared.job.Passed.{Passed}
+use Rattle.snep_core.specs.declared.job.Awaiting.{Awaiting}
 use Rattle.snep_core.specs.declared.job.Turn.{Turn}
 use Rattle.snep_core.specs.declared.job.Turn.TheVariants.{Ended, Went, GaveUp}
 
@@ -56,11 +56,11 @@ refused_by refusals.NotImplemented = faults.NotImplemented
 abbrev pub gives_up : List CameTo → EndState → Step
 gives_up came l = GivesUp (record { came = came; llc = l })
 
--- what a call of one job is behind an exchange
-abbrev pub step_of : ℕ → Turn → EndState → Step
-step_of sap (Ended e) l = Ends (one_on sap (Over e)) l
-step_of sap (Went job idle) l = Goes (record { llc = l; jobs = one_on sap job; idle = idle })
-step_of sap (GaveUp came) l = gives_up (record { sap = sap; job = came } ∷ []) l
+-- a call is so behind an exchange
+abbrev pub IsStep : Step → Turn → EndState → Type 0
+IsStep step (Ended jobs) l = step ≡ Ends jobs l
+IsStep step (Went jobs idle) l = step ≡ Goes (record { llc = l; jobs = jobs; idle = idle })
+IsStep step GaveUp l = (came : List CameTo) × (step ≡ gives_up came l)
 
 module _ {C A : Type 0} (seen : C → CarrierView) (swaps : C → List ℕ → List FarStep → C → Type 0) (steps : A → List ℕ → List ℕ → A → Type 0)
     (stops : A → List ℕ → A → Type 0) where
@@ -75,24 +75,30 @@ module _ {C A : Type 0} (seen : C → CarrierView) (swaps : C → List ℕ → L
     pub swapped : BySwaps swaps did link now
     pub far_moved : FarMoved steps stops did far after
 
-  -- One exchange: the next payload, with so many PDUs, was answered, and the reply taken. It showed this on the
-  -- connection from a SAP.
-  pub record Exchanged (count sap : ℕ) (old : EndState) (link : C) (far : A) (passed : Passed) (new : EndState) (now : C) (after : A) : Type 0 where
+  -- One exchange: the next payload, with so many PDUs, was answered, and the reply taken. Between the two these jobs
+  -- stood so.
+  pub record Exchanged (count : ℕ) (jobs : List OnSap) (old : EndState) (link : C) (far : A) (all : List Awaiting) (new : EndState) (now : C) (after : A) : Type 0 where
     pub reply : List ℕ
     pub swap : SwapDone steps (seen link) (seen now) (given silent count old) reply far after
     pub swapped : Swapped swaps steps stops link (given silent count old) far now after
         (λ did. did ≡ Stepped (given silent count old) reply ∷ [])
     pub took : new ≡ taken_from silent (after_giving silent count old) reply
-    pub something : passed.gave ≡ gave_something (own_of sap (after_giving silent count old)) (own_of sap new)
-    pub waiting : passed.waiting ≡ has_waiting_of (own_of sap (after_giving silent count old))
+    pub awaited : all ≡ all_awaiting (after_giving silent count old) jobs
 
-  -- one exchange, and what the call is then
-  pub record Turned (count sap : ℕ) (w : Working) (link : C) (far : A) (turn : Turn) (new : EndState) (now : C) (after : A) : Type 0 where
+  -- one exchange, behind which the call is at this step
+  pub record TurnedTo (count : ℕ) (w : Working) (link : C) (far : A) (to : Step) (now : C) (after : A) : Type 0 where
     pub reply : List ℕ
     pub swap : SwapDone steps (seen link) (seen now) (given silent count (ready w).llc) reply far after
     pub swapped : Swapped swaps steps stops link (given silent count (ready w).llc) far now after
         (λ did. did ≡ Stepped (given silent count (ready w).llc) reply ∷ [])
-    pub step : replied count w reply ≡ step_of sap turn new
+    pub step : replied count w reply ≡ to
+
+  -- one exchange, and what the call is then
+  abbrev pub Turned : ℕ → Working → C → A → Turn → EndState → C → A → Type 0
+  Turned count w link far (Ended jobs) new now after = TurnedTo count w link far (Ends jobs new) now after
+  Turned count w link far (Went jobs idle) new now after =
+      TurnedTo count w link far (Goes (record { llc = new; jobs = jobs; idle = idle })) now after
+  Turned count w link far GaveUp new now after = (came : List CameTo) × TurnedTo count w link far (gives_up came new) now after
 
   -- Nothing was handed over: memory was wanting before.
   pub record Rests (link : C) (far : A) (e : SnepFault) (now : C) (after : A) : Type 0 where

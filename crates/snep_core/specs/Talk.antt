@@ -15,6 +15,7 @@ use Rattle.llcp_link.specs.Taking.{taken_from}
 use Rattle.llcp_link.specs.Giving.{given, after_giving}
 use Rattle.snep_core.specs.declared.silent.NoService.{NoService}
 use Rattle.snep_core.specs.declared.client.Stands.{Stands}
+pub use Rattle.snep_core.specs.declared.job.OnSap.{OnSap}
 use Rattle.snep_core.specs.Message.{continue_code, four_bytes, get_code, message_of_code, put_code}
 use Rattle.snep_core.specs.Jobs.{Job, Begins, Waits, Sends, Asks, Collects, Looks, Closes, Over, Done, Sap, told_in, has_byte}
 
@@ -50,11 +51,6 @@ pub data Task : Type 0 where
   Gets : ℕ → List ℕ → Task
   Finds : List ℕ → Task
   Leaves : Task
-
--- a job, on the connection from a SAP
-pub record OnSap : Type 0 where
-  pub sap : ℕ
-  pub job : Job
 
 -- a task, on the connection from a SAP
 pub record TaskOn : Type 0 where

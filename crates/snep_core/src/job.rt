@@ -2,7 +2,9 @@
 
 ghost use Rattle.std.specs.Prelude.{◌≡◌};
 ghost use Rattle.snep_core.specs.Calling.{refused_by};
+ghost use Rattle.snep_core.specs.Talk.{is_over as over_by};
 
+use crate::client::Stands;
 use crate::fault::SnepFault;
 use bytes::Bytes;
 use nfc_base::Items;
@@ -26,6 +28,22 @@ pub enum Job {
     Closes,
     /// Nothing more: it came to this.
     Over(Ending),
+}
+
+impl Job {
+    /// Nothing more is to be done for it.
+    pub(crate) fn is_over(&self) -> bool
+        ensures { result ≡ over_by self.now }
+    {
+        matches!(self, Job::Over(_))
+    }
+}
+
+/// A job, on the connection from a SAP.
+#[derive(Debug, Drop)]
+pub struct OnSap {
+    pub sap: u8,
+    pub job: Job,
 }
 
 /// What a job comes to.
@@ -67,19 +85,27 @@ pub struct Heard {
     pub(crate) some: bool,
 }
 
-/// What an exchange showed on the connection: whether its reply gave something, and whether a unit of the client waited to be
-/// given as it came.
-#[derive(Clone, Copy, Debug)]
-pub struct Passed {
-    pub(crate) gave: bool,
+/// A job whose payload was given: how its connection stood then, and whether a unit waited there to be given.
+#[derive(Debug, Drop)]
+pub struct Awaiting {
+    pub(crate) sap: u8,
+    pub(crate) job: Job,
+    pub(crate) before: Stands,
     pub(crate) waiting: bool,
 }
 
-/// What a call is behind an exchange: at its end; going on after so many replies that gave nothing; or the far end is given
-/// up, with what the job came to, if it wasn't at fault there.
+/// What a reply makes of all jobs, and whether it gave something to one of them.
+#[derive(Debug, Drop)]
+pub struct HeardAll {
+    pub(crate) jobs: Items<OnSap>,
+    pub(crate) gave: bool,
+}
+
+/// What a call is behind an exchange: at its end, with all its jobs over; going on after so many replies that gave nothing;
+/// or the far end is given up.
 #[derive(Debug, Drop)]
 pub enum Turn {
-    Ended(Ending),
-    Went(Job, u8),
-    GaveUp(Option<Job>),
+    Ended(Items<OnSap>),
+    Went(Items<OnSap>, u8),
+    GaveUp,
 }

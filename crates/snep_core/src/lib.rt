@@ -23,7 +23,7 @@ mod turning;
 
 pub use client::{CLIENT_SAP, Client};
 pub use fault::SnepFault;
-pub use job::{Ending, Job, Refusal};
+pub use job::{Ending, Job, OnSap, Refusal};
 pub use law::{
     any_table, calls_end, cut_off, fronts, in_order, last_put, link, one_list, payloads, peer,
 };

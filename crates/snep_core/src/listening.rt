@@ -1,16 +1,18 @@
 //! What a client makes of a reply that its end took.
 
-ghost use Rattle.std.specs.Prelude.{◌≡◌, ◌||◌, [], ◌∷◌, true, IfOk, IfErr, OnOk};
+ghost use Rattle.std.specs.List.{IsDistinct};
+ghost use Rattle.std.specs.Prelude.{◌≡◌, ◌||◌, [], ◌∷◌, eqb, true, IfOk, IfErr, OnOk};
 ghost use Rattle.snep_core.specs.Jobs.{has_byte};
-ghost use Rattle.snep_core.specs.Listening.{Hears, HearsUnits};
+ghost use Rattle.snep_core.specs.Listening.{Hears, HearsAll, HearsUnits, awaited_saps};
 ghost use Rattle.snep_core.specs.Talk.{finished as finished_by, is_lost as lost_by, is_there as there_by};
 ghost use Rattle.snep_core.specs.declared.fault.SnepFault.{SnepFault};
 
-use crate::client::{Client, is_waiting};
+use crate::client::{Client, gave_between, is_waiting};
 use crate::fault::SnepFault;
 use crate::hearing::hear_unit;
-use crate::job::{Ending, Heard, Job};
+use crate::job::{Awaiting, Ending, Heard, HeardAll, Job, OnSap};
 use llcp_link::Standing;
+use nfc_base::Items;
 
 /// A connection is open, or its CC or DM is awaited.
 fn is_there(standing: Standing) -> bool
@@ -35,9 +37,16 @@ fn gives_more(some: bool, bytes: &[u8]) -> bool
     }
 }
 
+/// A job before gave something, or this one did: on its connection, or by a unit with a byte.
+fn gave_so_far(gave: bool, given: bool, some: bool) -> bool
+    ensures { result ≡ ((gave || given) || some) }
+{
+    gave || given || some
+}
+
 impl Client {
-    /// The units that were handed up on the connection from a SAP, each taken away. None where one of them puts the far
-    /// end at fault, or comes while one of this end's waits to be given.
+    /// The units that were handed up on the connection from a SAP, each taken away. None where one of them puts the far end
+    /// at fault, or comes while one of this end's waits to be given.
     fn hear_units(&mut self, sap: u8, first: Job, waiting: bool) -> Result<Option<Heard>, SnepFault>
         ensures ok { IfOk result (λ heard. HearsUnits sap waiting self.old.llc first heard self.new.llc) }
         ensures going { OnOk result (self.new.spent ≡ self.old.spent) }
@@ -97,14 +106,9 @@ impl Client {
         }
     }
 
-    /// What was heard makes of the job on the connection from a SAP, where a unit of this end waits to be given or none
-    /// does. None where the far end is at fault: the connection is forgotten.
-    pub(crate) fn hear(
-        &mut self,
-        sap: u8,
-        job: Job,
-        waiting: bool,
-    ) -> Result<Option<Heard>, SnepFault>
+    /// What was heard makes of the job on the connection from a SAP, where a unit of this end waits to be given or none does.
+    /// None where the far end is at fault.
+    fn hear(&mut self, sap: u8, job: Job, waiting: bool) -> Result<Option<Heard>, SnepFault>
         ensures ok { IfOk result (λ heard. Hears sap waiting self.old.llc job heard self.new.llc) }
         ensures going { OnOk result (self.new.spent ≡ self.old.spent) }
         ensures err { IfErr result (λ e. e ≡ SnepFault.Memory) }
@@ -115,17 +119,51 @@ impl Client {
             Ok(heard) => heard,
         };
         let Some(heard) = heard else {
-            self.llc.forget(sap);
             return Ok(None);
         };
         if self.is_lost(sap, &heard.job) {
-            self.llc.forget(sap);
             return Ok(None);
         }
         let Heard { job, some } = heard;
         Ok(Some(Heard {
             job: self.finished(sap, job),
             some,
+        }))
+    }
+
+    /// What was heard makes of all jobs, each on a connection of its own, and whether the reply gave something to one of
+    /// them. None where the far end is at fault.
+    pub(crate) fn all_hear(&mut self, all: Vec<Awaiting>) -> Result<Option<HeardAll>, SnepFault>
+        requires apart { IsDistinct eqb (awaited_saps all.items) }
+        ensures ok { IfOk result (λ heard. HearsAll self.old.llc all.items heard self.new.llc) }
+        ensures going { OnOk result (self.new.spent ≡ self.old.spent) }
+        ensures err { IfErr result (λ e. e ≡ SnepFault.Memory) }
+        ensures spent { IfErr result (λ e. self.new.spent ≡ true) }
+    {
+        let mut jobs = Vec::new(self.alloc);
+        let mut gave = false;
+        'all: for one in all {
+            let Awaiting {
+                sap,
+                job,
+                before,
+                waiting,
+            } = one;
+            let given = gave_between(before, self.stands(sap));
+            let heard = match self.hear(sap, job, waiting) {
+                Err(fault) => return Err(fault),
+                Ok(None) => return Ok(None),
+                Ok(Some(heard)) => heard,
+            };
+            let Heard { job, some } = heard;
+            gave = gave_so_far(gave, given, some);
+            if jobs.push(OnSap { sap, job }).is_err() {
+                return Err(self.spend());
+            }
+        }
+        Ok(Some(HeardAll {
+            jobs: Items::new(jobs),
+            gave,
         }))
     }
 }

@@ -3,14 +3,14 @@
 ghost use Rattle.std.specs.Prelude.{◌≡◌, ◌≤◌, ◌<◌, true, take, drop, if◌then◌else◌, IfOk, IfErr, IfSome, OnOk};
 ghost use Rattle.llcp_link.specs.Asking.{standing_of};
 ghost use Rattle.snep_core.specs.Listening.{Offered};
-ghost use Rattle.snep_core.specs.Talk.{asks_on, begins_on, miu_of, own_of, readied, ready_so, sends_on};
+ghost use Rattle.snep_core.specs.Talk.{all_readied, asks_on, begins_on, miu_of, own_of, readied, ready_so, sends_on};
 ghost use Rattle.snep_core.specs.Waning.{Aim, Serves};
 ghost use Rattle.snep_core.specs.declared.fault.SnepFault.{SnepFault};
 ghost use Rattle.snep_core.specs.declared.job.Job.{Job};
 
 use crate::client::Client;
 use crate::fault::SnepFault;
-use crate::job::Job;
+use crate::job::{Job, OnSap};
 use bytes::Bytes;
 use llcp_conn::ConnFault;
 use llcp_link::Standing;
@@ -136,5 +136,24 @@ impl Client {
             Job::Closes => Ok(Job::Closes),
             Job::Over(ending) => Ok(Job::Over(ending)),
         }
+    }
+
+    /// What all jobs submit before a payload is given, one after the other.
+    pub(crate) fn all_ready(&mut self, jobs: Vec<OnSap>) -> Result<Vec<OnSap>, SnepFault>
+        ensures ok { IfOk result (λ now.
+            all_readied jobs.items self.old.llc ≡ record { llc = self.new.llc; jobs = now.items }) }
+        ensures going { OnOk result (self.new.spent ≡ self.old.spent) }
+        ensures err { IfErr result (λ e. e ≡ SnepFault.Memory) }
+        ensures spent { IfErr result (λ e. self.new.spent ≡ true) }
+    {
+        let mut now = Vec::new(self.alloc);
+        'jobs: for one in jobs {
+            let OnSap { sap, job } = one;
+            let job = self.ready(sap, job)?;
+            if now.push(OnSap { sap, job }).is_err() {
+                return Err(self.spend());
+            }
+        }
+        Ok(now)
     }
 }

@@ -1,5 +1,4 @@
-use Rattle.std.proofs.Common.{rules, ◌≡◌, sym, subst, ◌∙◌, Option}
-use Rattle.llcp_link.specs.Asking.{forgotten}
+use Rattle.std.proofs.Common.{sym, subst, ◌∙◌, Option}
 use Rattle.snep_core.specs.declared.job.Heard.{Heard}
 use Rattle.snep_core.specs.Listening.{HearsUnits}
 use Rattle.snep_core.proofs.Owned.{lost_so}
@@ -9,6 +8,5 @@ pub returns-then-is_lost-clause-ok : goal.returns-then-is_lost-clause-ok
 returns-then-is_lost-clause-ok c =
     let h =
     subst (λ (o : Option Heard). HearsUnits c.args.sap c.args.waiting c.args.self.now.llc c.args.job o c.hear_units.new.self.llc) c.in-Some.is c.in-Ok.ensures.ok in
-    let f : c.forget-then-is_lost.new.self ≡ forgotten c.hear_units.new.self.llc c.args.sap = search rules in
-    lost_so c.args.sap c.args.waiting c.args.self.now.llc c.hear_units.new.self.llc c.forget-then-is_lost.new.self c.args.job c.in-Some.heard.job h.0 h.2
-    (sym c.is_lost.ensures ∙ c.if-is_lost.true) f
+    lost_so c.args.sap c.args.waiting c.args.self.now.llc c.hear_units.new.self.llc c.args.job c.in-Some.heard.job h.0 h.2
+    (sym c.is_lost.ensures ∙ c.if-is_lost.true)
