@@ -6,18 +6,18 @@ use Rattle.t5t_tag.specs.Slots.{slot_of}
 use Rattle.t5t_tag.specs.Store.{id_size}
 
 -- eight bytes, one by one
-record Eight (i : List ℕ) : Type 0 where
-  a : ℕ
-  b : ℕ
-  c : ℕ
-  d : ℕ
-  e : ℕ
-  f : ℕ
-  g : ℕ
-  h : ℕ
-  is : i ≡ a ∷ b ∷ c ∷ d ∷ e ∷ f ∷ g ∷ h ∷ []
+pub record Eight (i : List ℕ) : Type 0 where
+  pub a : ℕ
+  pub b : ℕ
+  pub c : ℕ
+  pub d : ℕ
+  pub e : ℕ
+  pub f : ℕ
+  pub g : ℕ
+  pub h : ℕ
+  pub is : i ≡ a ∷ b ∷ c ∷ d ∷ e ∷ f ∷ g ∷ h ∷ []
 
-eight_of : (i : List ℕ) → length i ≡ 8 → Eight i
+pub eight_of : (i : List ℕ) → length i ≡ 8 → Eight i
 eight_of [] n = absurd cc
 eight_of (a ∷ []) n = absurd cc
 eight_of (a ∷ b ∷ []) n = absurd cc

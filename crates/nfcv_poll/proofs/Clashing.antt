@@ -1,5 +1,5 @@
 -- Where tags clash in a round, two of them at least have its mask and this slot.
-use Rattle.std.proofs.Common.{◌≡◌, ◌⊎◌, inl, inr, ◌<◌, ◌≤◌, ℕ, ◌+◌, ◌*◌, List, [], ◌∷◌, length, map, filter_map, Bool, true, ◌&&◌, nat_eq, if◌then◌else◌, Option, Some, None, refl, sym, ◌∙◌, ap, subst, arith}
+use Rattle.std.proofs.Common.{◌≡◌, ◌⊎◌, inl, inr, ◌≤◌, ℕ, ◌+◌, ◌*◌, List, [], ◌∷◌, length, map, filter_map, Bool, true, ◌&&◌, nat_eq, if◌then◌else◌, Option, Some, None, refl, sym, ◌∙◌, ap, subst, arith}
 use Rattle.std.specs.List.{cons_option}
 use Rattle.std.specs.Cmp.Lexicographic.{pointwise}
 use Rattle.nfc_base.specs.declared.frame.Tech.{Tech}
@@ -17,7 +17,7 @@ use Rattle.t5t_tag.specs.Store.{T5State}
 use Rattle.t5t_tag.proofs.Bytes.{bytes_self}
 use Rattle.nfcv_poll.specs.declared.mask.Mask.{Mask}
 use Rattle.nfcv_poll.specs.Tags.{StepAsTags, id_if, tag_ids}
-use Rattle.nfcv_poll.proofs.Forks.{Fork, IsFork, shares, sharing, one_if, most_depths}
+use Rattle.nfcv_poll.proofs.Forks.{Fork, shares, sharing, one_if}
 use Rattle.nfcv_poll.proofs.Standing.{said_tag, said_other, stepped_tag, stepped_other}
 use Rattle.nfcv_poll.proofs.Together.{mask_bytes, Answers, InRound, Turns}
 
@@ -107,6 +107,6 @@ module _ {L : Type 0} (m : Machine L) (tag : L → T5State) (lit : L → Bool) (
               let its : id_if m tag l ≡ Some (tag l).id = ap (λ t. if same_tech V t then Some (tag l).id else None) e in
               subst (λ o. C o (id_if m tag l)) (sym said) (subst (λ i. C (sent (t5_turn (tag l) f).answer) i) (sym its) (by_answer (t5_turn (tag l) f).answer t.turn.answers rest))
 
-      -- So a clash is in a slot in which two of them clash.
-      pub clash_is_fork : (ls : List L) (k : Signal) → AreTurning ls → joint (filter_map saying ls) ≡ Clashing k → depth < most_depths → IsFork (tag_ids m tag ls) fork
-      clash_is_fork ls k h e shallow = record { clash = omega (arith, two_at_least (filter_map saying ls) k e, answered_share ls h); depth = shallow }
+      -- Where they clash, two of them at least have its mask and this slot.
+      pub clash_shares : (ls : List L) (k : Signal) → AreTurning ls → joint (filter_map saying ls) ≡ Clashing k → 2 ≤ sharing fork (tag_ids m tag ls)
+      clash_shares ls k h e = omega (arith, two_at_least (filter_map saying ls) k e, answered_share ls h)

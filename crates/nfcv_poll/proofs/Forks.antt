@@ -79,10 +79,10 @@ right_true true b h = h
 right_true false b h = absurd cc
 
 -- the mask and the slot of an identifier behind so many bits are its own
-mask_is : (i : List ℕ) (f : Fork) → shares i f ≡ true → f.mask ≡ mask_of i (4 * f.depth)
+pub mask_is : (i : List ℕ) (f : Fork) → shares i f ≡ true → f.mask ≡ mask_of i (4 * f.depth)
 mask_is i f h = equal_bytes f.mask (mask_of i (4 * f.depth)) (left_true (pointwise nat_eq f.mask (mask_of i (4 * f.depth))) (nat_eq (slot_of i (4 * f.depth)) f.slot) h)
 
-slot_is : (i : List ℕ) (f : Fork) → shares i f ≡ true → slot_of i (4 * f.depth) ≡ f.slot
+pub slot_is : (i : List ℕ) (f : Fork) → shares i f ≡ true → slot_of i (4 * f.depth) ≡ f.slot
 slot_is i f h = same_number (slot_of i (4 * f.depth)) f.slot (right_true (pointwise nat_eq f.mask (mask_of i (4 * f.depth))) (nat_eq (slot_of i (4 * f.depth)) f.slot) h)
 
 depth_apart : (i : List ℕ) (f : Fork) (fs : List Fork) → shares i f ≡ true → Each (Differs f) fs → AllByRecursion (λ d. eqb f.depth d ≡ false) (depths fs i)

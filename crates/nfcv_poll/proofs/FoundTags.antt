@@ -53,7 +53,7 @@ use Rattle.nfcv_poll.proofs.TagSteps.{at_slots, at_next, at_question, at_quiet}
 use Rattle.nfcv_poll.proofs.Standing.{TellsOne, Fares, fares_on, fares_hushed, IsPlaced, ArePlaced, placed_more, placed_reset, ids_reset, same_ids, still_placed, answers_tell, said_tag}
 
 -- it is asked who is left
-abbrev IsAsking : Stage → Type 0
+abbrev pub IsAsking : Stage → Type 0
 IsAsking (stages.Slot m slot) = ⊥
 IsAsking (stages.Hush id next) = ⊥
 IsAsking (stages.WhoIsLeft asked) = Unit {0}
@@ -103,33 +103,33 @@ none_more test (u ∷ us) t h here = by_first (test u) (λ k. none_more test us 
 
 module _ {L : Type 0} (m : Machine L) (tag : L → T5State) (lit : L → Bool) (are : StepAsTags m tag lit) (ids : List (List ℕ)) (eight : Each (λ i. length i ≡ id_size) ids) where
   -- it was asked who is left, and nothing was heard: all are found, or noise met it
-  record IsQuestion (found : List (List ℕ)) (t : Turn) : Type 0 where
-    asks : t.request ≡ inventory_all
-    missed : Each (λ i. IsOneOf i found) ids ⊎ (1 ≤ other_than_pass t.fate + noise_back t.back)
+  pub record IsQuestion (found : List (List ℕ)) (t : Turn) : Type 0 where
+    pub asks : t.request ≡ inventory_all
+    pub missed : Each (λ i. IsOneOf i found) ids ⊎ (1 ≤ other_than_pass t.fate + noise_back t.back)
 
   -- so it was asked so often at last
-  record Asked (found : List (List ℕ)) (n : ℕ) (ts : List Turn) : Type 0 where
-    before : List Turn
-    last : List Turn
-    parts : ts ≡ before ++ last
-    count : length last ≡ n
-    each : Each (IsQuestion found) last
+  pub record Asked (found : List (List ℕ)) (n : ℕ) (ts : List Turn) : Type 0 where
+    pub before : List Turn
+    pub last : List Turn
+    pub parts : ts ≡ before ++ last
+    pub count : length last ≡ n
+    pub each : Each (IsQuestion found) last
 
-  abbrev AtStage : List (List ℕ) → Stage → List Turn → Type 0
+  abbrev pub AtStage : List (List ℕ) → Stage → List Turn → Type 0
   AtStage found (stages.Slot m slot) ts = Unit {0}
   AtStage found (stages.Hush id next) ts = IsOneOf id found
   AtStage found (stages.WhoIsLeft asked) ts = (asked < 4) × Asked found asked ts
   AtStage found stages.Over ts = Asked found 4 ts
   AtStage found (stages.Fails fault) ts = Unit {0}
 
-  record Stands (s : Search) (w : World L) (ts : List Turn) : Type 0 where
-    same : tag_ids m tag w.listeners ≡ ids
-    placed : ArePlaced m tag lit are ids s.found w.listeners
-    known : Each (λ i. IsOneOf i ids) s.found
-    at : AtStage s.found s.stage ts
-    plain : list_any is_strange ts ≡ false
+  pub record Stands (s : Search) (w : World L) (ts : List Turn) : Type 0 where
+    pub same : tag_ids m tag w.listeners ≡ ids
+    pub placed : ArePlaced m tag lit are ids s.found w.listeners
+    pub known : Each (λ i. IsOneOf i ids) s.found
+    pub at : AtStage s.found s.stage ts
+    pub plain : list_any is_strange ts ≡ false
 
-  abbrev Inv : Course → World L → List Event → Type 0
+  abbrev pub Inv : Course → World L → List Event → Type 0
   Inv Begins w es = (tag_ids m tag w.listeners ≡ ids) × (list_any is_strange (turns es) ≡ false)
   Inv (Runs s) w es = Stands s w (turns es)
 
@@ -155,11 +155,11 @@ module _ {L : Type 0} (m : Machine L) (tag : L → T5State) (lit : L → Bool) (
   }
 
   -- a reset
-  no_light : (o : Option Signal) → asked_for o ≡ LightUp → ⊥
+  pub no_light : (o : Option Signal) → asked_for o ≡ LightUp → ⊥
   no_light None e = cc
   no_light (Some f) e = cc
 
-  lights : (s : Course) (w : World L) (es : List Event) → Inv s w es → course_next s ≡ LightUp → Inv (finding_all.light s) (reset_by (muted m) w) (es ++ Reset ∷ [])
+  pub lights : (s : Course) (w : World L) (es : List Event) → Inv s w es → course_next s ≡ LightUp → Inv (finding_all.light s) (reset_by (muted m) w) (es ++ Reset ∷ [])
   lights Begins w es h due =
       stands_early [] fresh (reset_by (muted m) w) (turns (es ++ Reset ∷ [])) (record { found' = refl; early = tt }) (ids_reset m tag lit are ids w.listeners ∙ h.0)
       (placed_reset m tag lit are ids [] w.listeners (subst (λ is. Each (λ l. m.tech l ≡ V → IsOneOf (tag l).id is) w.listeners) h.0 (their_own m tag w.listeners))) tt
@@ -170,7 +170,7 @@ module _ {L : Type 0} (m : Machine L) (tag : L → T5State) (lit : L → Bool) (
   heard_none : (h : Heard) → Some h ≡ None → ⊥
   heard_none h e = cc
 
-  back_same : (P : World L → Type 0) (w : World L) (j : Joint) (y : Fate) (h : Heard) → Some h ≡ heard_by Pass (joint_back j y) → P w → P (replay (mute_air m) w (joint_events j y))
+  pub back_same : (P : World L → Type 0) (w : World L) (j : Joint) (y : Fate) (h : Heard) → Some h ≡ heard_by Pass (joint_back j y) → P w → P (replay (mute_air m) w (joint_events j y))
   back_same P w Nothing y h e p = p
   back_same P w (Single g) Pass h e p = p
   back_same P w (Single g) Damage h e p = p
@@ -208,24 +208,24 @@ module _ {L : Type 0} (m : Machine L) (tag : L → T5State) (lit : L → Bool) (
   whole_back (Clashing k) Lose g e = absurd (no_whole g Silent e (inr (inl refl)))
   whole_back (Clashing k) Break g e = absurd (heard_none (Whole g) e)
 
-  whole_turn : (w : World L) (f : Signal) (x y : Fate) (g : Signal) → Some (Whole g) ≡ turn_heard (mute_air m) w f x y → (mute_air m).joint w f ≡ Single g
+  pub whole_turn : (w : World L) (f : Signal) (x y : Fate) (g : Signal) → Some (Whole g) ≡ turn_heard (mute_air m) w f x y → (mute_air m).joint w f ≡ Single g
   whole_turn w f Pass y g e = whole_back ((mute_air m).joint w f) y g e
   whole_turn w f Damage y g e = absurd (no_whole g Silent e (inr (inl refl)))
   whole_turn w f Lose y g e = absurd (no_whole g Silent e (inr (inl refl)))
   whole_turn w f Break y g e = absurd (heard_none (Whole g) e)
 
-  abbrev question_frame : Signal
+  abbrev pub question_frame : Signal
   question_frame = command_frame (Inventory 0 (replicate id_size 0))
 
-  abbrev saying : Signal → L → Option Signal
+  abbrev pub saying : Signal → L → Option Signal
   saying f l = answered_by (muted m) l f None
 
   -- a request of a search, at which each tag fares well
-  record IsHeeded (found : List (List ℕ)) (f : Signal) : Type 0 where
-    of_v : f.tech ≡ V
-    fares : (t : T5State) → Fares found t f
+  pub record IsHeeded (found : List (List ℕ)) (f : Signal) : Type 0 where
+    pub of_v : f.tech ≡ V
+    pub fares : (t : T5State) → Fares found t f
 
-  request_heeded : (found : List (List ℕ)) (stage : Stage) (f : Signal) → Each (λ i. IsOneOf i ids) found → IsEarly found stage ⊎ IsAsking stage → stage_request stage ≡ Some f → IsHeeded found f
+  pub request_heeded : (found : List (List ℕ)) (stage : Stage) (f : Signal) → Each (λ i. IsOneOf i ids) found → IsEarly found stage ⊎ IsAsking stage → stage_request stage ≡ Some f → IsHeeded found f
   request_heeded found (stages.Slot n slot) f known e due = by_slot (nat_eq slot 0) due
     where
       by_slot : (v : Bool) → Some (if v then slots_frame n else command_frame NextSlot) ≡ Some f → IsHeeded found f
@@ -245,11 +245,11 @@ module _ {L : Type 0} (m : Machine L) (tag : L → T5State) (lit : L → Bool) (
   request_heeded found (stages.Fails fault) f known e due = absurd cc
 
   -- behind a turn the tags stand as before
-  record Stay (found : List (List ℕ)) (w : World L) : Type 0 where
-    same : tag_ids m tag w.listeners ≡ ids
-    placed : ArePlaced m tag lit are ids found w.listeners
+  pub record Stay (found : List (List ℕ)) (w : World L) : Type 0 where
+    pub same : tag_ids m tag w.listeners ≡ ids
+    pub placed : ArePlaced m tag lit are ids found w.listeners
 
-  stay_on : (found : List (List ℕ)) (w : World L) (f : Signal) (x y : Fate) (h : Heard) → IsHeeded found f → Some h ≡ turn_heard (mute_air m) w f x y → Stay found w
+  pub stay_on : (found : List (List ℕ)) (w : World L) (f : Signal) (x y : Fate) (h : Heard) → IsHeeded found f → Some h ≡ turn_heard (mute_air m) w f x y → Stay found w
       → Stay found (replay (mute_air m) w (turn_events (mute_air m) w f x y))
   stay_on found w f x y h heeded e s =
       turn_leaves (Stay found) w f x y h e (record {
@@ -258,7 +258,7 @@ module _ {L : Type 0} (m : Machine L) (tag : L → T5State) (lit : L → Bool) (
       }) s
 
   -- what was told in a slot is the identifier of a tag
-  told_there : (found : List (List ℕ)) (w : World L) (f : Signal) (x y : Fate) (h : Heard) (id : List ℕ) → IsHeeded found f → Some h ≡ turn_heard (mute_air m) w f x y → Stay found w → said h ≡ told.Tag id → IsOneOf id ids
+  pub told_there : (found : List (List ℕ)) (w : World L) (f : Signal) (x y : Fate) (h : Heard) (id : List ℕ) → IsHeeded found f → Some h ≡ turn_heard (mute_air m) w f x y → Stay found w → said h ≡ told.Tag id → IsOneOf id ids
   told_there found w f x y h id heeded e s is =
       let whole = told_whole h id is in
       let single : (mute_air m).joint w f ≡ Single whole.0 = whole_turn w f x y whole.0 (ap Some (sym whole.1.0) ∙ e) in
@@ -267,7 +267,7 @@ module _ {L : Type 0} (m : Machine L) (tag : L → T5State) (lit : L → Bool) (
       subst (λ i. IsOneOf i ids) (let d : Some (Present tells.0) ≡ Some (Present id) = sym reads ∙ whole.1.1 in cc) tells.1
 
   -- a whole frame that is heard is a tag's answer
-  not_strange : (found : List (List ℕ)) (w : World L) (f : Signal) (x y : Fate) (h : Heard) → IsHeeded found f → Some h ≡ turn_heard (mute_air m) w f x y → Stay found w
+  pub not_strange : (found : List (List ℕ)) (w : World L) (f : Signal) (x y : Fate) (h : Heard) → IsHeeded found f → Some h ≡ turn_heard (mute_air m) w f x y → Stay found w
       → by_heard (Some h) (λ g. is_strange_said (said_by (spelled_answer g))) (λ g. false) false false false ≡ false
   not_strange found w f x y (Whole g) heeded e s =
       let single : (mute_air m).joint w f ≡ Single g = whole_turn w f x y g e in
@@ -279,25 +279,25 @@ module _ {L : Type 0} (m : Machine L) (tag : L → T5State) (lit : L → Bool) (
   not_strange found w f x y Silent heeded e s = refl
 
   -- the turn that a request makes
-  abbrev turn_at : World L → Signal → Fate → Fate → Turn
+  abbrev pub turn_at : World L → Signal → Fate → Fate → Turn
   turn_at w f Pass y = record { request = f; fate = Pass; back = joint_back ((mute_air m).joint w f) y }
   turn_at w f Damage y = record { request = f; fate = Damage; back = backs.Nothing }
   turn_at w f Lose y = record { request = f; fate = Lose; back = backs.Nothing }
   turn_at w f Break y = record { request = f; fate = Break; back = backs.Nothing }
 
-  turn_made : (w : World L) (f : Signal) (x y : Fate) → turns (turn_events (mute_air m) w f x y) ≡ turn_at w f x y ∷ []
+  pub turn_made : (w : World L) (f : Signal) (x y : Fate) → turns (turn_events (mute_air m) w f x y) ≡ turn_at w f x y ∷ []
   turn_made w f Pass y = joint_turns f Pass ((mute_air m).joint w f) y
   turn_made w f Damage y = refl
   turn_made w f Lose y = refl
   turn_made w f Break y = refl
 
-  turn_request : (w : World L) (f : Signal) (x y : Fate) → (turn_at w f x y).request ≡ f
+  pub turn_request : (w : World L) (f : Signal) (x y : Fate) → (turn_at w f x y).request ≡ f
   turn_request w f Pass y = refl
   turn_request w f Damage y = refl
   turn_request w f Lose y = refl
   turn_request w f Break y = refl
 
-  turn_hears : (w : World L) (f : Signal) (x y : Fate) → backs.heard (turn_at w f x y) ≡ turn_heard (mute_air m) w f x y
+  pub turn_hears : (w : World L) (f : Signal) (x y : Fate) → backs.heard (turn_at w f x y) ≡ turn_heard (mute_air m) w f x y
   turn_hears w f Pass y = refl
   turn_hears w f Damage y = refl
   turn_hears w f Lose y = refl
@@ -373,13 +373,13 @@ module _ {L : Type 0} (m : Machine L) (tag : L → T5State) (lit : L → Bool) (
 
   -- the events of a turn, behind others, are one turn more
   module _ (w : World L) (f : Signal) (x y : Fate) where
-    abbrev fs : List Event
+    abbrev pub fs : List Event
     fs = turn_events (mute_air m) w f x y
 
-    abbrev turn : Turn
+    abbrev pub turn : Turn
     turn = turn_at w f x y
 
-    turns_more : (es : List Event) → turns (es ++ fs) ≡ turns es ++ turn ∷ []
+    pub turns_more : (es : List Event) → turns (es ++ fs) ≡ turns es ++ turn ∷ []
     turns_more es = turns-append es fs (turn_fresh (mute_air m) w f x y) ∙ ap (λ ts. turns es ++ ts) (turn_made w f x y)
 
   -- A search goes on by what was heard of a request, and the tags stand as it says.
@@ -472,11 +472,11 @@ module _ {L : Type 0} (m : Machine L) (tag : L → T5State) (lit : L → Bool) (
     by_stage stages.Over at due = absurd cc
     by_stage (stages.Fails fault) at due = absurd cc
 
-  due_some : (o : Option Signal) (f : Signal) → asked_for o ≡ Asks f → o ≡ Some f
+  pub due_some : (o : Option Signal) (f : Signal) → asked_for o ≡ Asks f → o ≡ Some f
   due_some None f e = absurd cc
   due_some (Some g) f e = ap Some (let d : g ≡ f = cc in d)
 
-  asks : (s : Course) (w : World L) (es : List Event) (f : Signal) (x y : Fate) (h : Heard) → Inv s w es → course_next s ≡ Asks f → Some h ≡ turn_heard (mute_air m) w f x y
+  pub asks : (s : Course) (w : World L) (es : List Event) (f : Signal) (x y : Fate) (h : Heard) → Inv s w es → course_next s ≡ Asks f → Some h ≡ turn_heard (mute_air m) w f x y
       → Inv (course_step s h) (replay (mute_air m) w (turn_events (mute_air m) w f x y)) (es ++ turn_events (mute_air m) w f x y)
   asks Begins w es f x y h k due heard = absurd cc
   asks (Runs s) w es f x y h k due heard = by_stage s w es f x y h k heard s.stage k.at (due_some (due_request s) f due)

@@ -10,7 +10,16 @@ pub mod Paths
 pub mod Forks
 pub mod Together
 pub mod Clashing
+pub mod Alone
+pub mod Nibbles
 pub mod FoundTags
+pub mod Sought
+pub mod Parted
+pub mod Quietly
+pub mod Counting
+pub mod Passing
+pub mod NoRound
+pub mod Crowding
 pub mod Ascending
 pub mod Causes
 pub mod Losses

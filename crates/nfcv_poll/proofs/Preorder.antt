@@ -97,7 +97,7 @@ clashed_slot asked p slot cs ws s =
       turned = (each_map (IsChild p slot) (λ q. Left q (p ++ slot ∷ [])) (λ c k. subst (λ q. Left q (p ++ slot ∷ [])) (sym k.is) (left_children p k.at slot k.less)) cs s.children, s.turned);
     }
 
-turned_over : (cs : List (List ℕ)) (c : List ℕ) (ws : List (List ℕ)) → reverse (c ∷ cs) ++ ws ≡ reverse cs ++ c ∷ ws
+pub turned_over : {X : Type 0} (cs : List X) (c : X) (ws : List X) → reverse (c ∷ cs) ++ ws ≡ reverse cs ++ c ∷ ws
 turned_over cs c ws = ap (λ x. x ++ ws) (reverse-append (c ∷ []) cs) ∙ append_assoc (reverse cs) (c ∷ []) ws
 
 -- the clashes of a round, the lowest slot first, and then what waited

@@ -8,6 +8,7 @@ ghost use Rattle.nfca_poll.specs.declared.fault.PollFault.TheVariants.{FieldLost
 ghost use Rattle.nfcv_poll.specs.Search.{finding_all};
 ghost use Rattle.nfcv_poll.specs.Finding.{identifiers, AreAscending, HasCauses};
 ghost use Rattle.nfcv_poll.specs.Tags.{FindsTags};
+ghost use Rattle.nfcv_poll.specs.Crowd.{SearchesCrowd};
 
 use crate::search::{Search, Stage};
 use air_core::{Field, Listener};
@@ -23,6 +24,7 @@ pub fn find_all_v<L: Listener>(
 ) -> Result<Vec<[u8; 8]>, PollFault>
     ensures turns { Enquires finding_all L.machine field.old (identifiers result) field.new }
     ensures tags { FindsTags L.machine field.old (identifiers result) field.new }
+    ensures crowd { SearchesCrowd L.machine field.old (identifiers result) field.new }
     ensures ascending { AreAscending (identifiers result) }
     ensures causes { HasCauses (turns_since field.old field.new) (identifiers result) }
     ensures lost { (identifiers result ≡ Err FieldLost)

@@ -14,6 +14,7 @@ use Rattle.nfcv_poll.proofs.Ascending.{finds_ascending}
 use Rattle.nfcv_poll.proofs.Causes.{has_causes}
 use Rattle.nfcv_poll.proofs.Ends.{due_not_over, over_well}
 use Rattle.nfcv_poll.proofs.Falls.{left, falls}
+use Rattle.nfcv_poll.proofs.Crowding.{searches_crowd}
 use Rattle.nfcv_poll.proofs.FoundTags.{finds_tags}
 use Rattle.nfcv_poll.proofs.Losses.{loses_exactly}
 use Rattle.nfcv_poll.proofs.finding.find_all_v.Goals as goal
@@ -24,6 +25,9 @@ returns-then-is_err-clause-turns g c =
     let same : c.reset.new.self ≡ c.args.field.now = grind (arith, common_steps) in
     let R : Air _ → Type 0 = λ a. Reached finding_all m c.args.field.now a Begins in
     enquires_so finding_all m c.args.field.now c.reset.new.self Begins (Err faults.Memory) (subst R (sym same) (reached_start finding_all m c.args.field.now)) refl
+
+pub returns-then-is_err-clause-crowd : goal.returns-then-is_err-clause-crowd
+returns-then-is_err-clause-crowd g c = searches_crowd g.L.Listener.machine c.args.field.now c.reset.new.self (Err faults.Memory) (returns-then-is_err-clause-turns g c)
 
 pub requests-init : goal.requests-init
 requests-init g c =
@@ -48,6 +52,9 @@ returns-in_err-heard-clause-turns g c =
 
 pub returns-in_err-heard-clause-causes : goal.returns-in_err-heard-clause-causes
 returns-in_err-heard-clause-causes g c = has_causes g.L.Listener.machine c.args.field.now c.ask.new.field (identifiers c.from_residual.result) (returns-in_err-heard-clause-turns g c)
+
+pub returns-in_err-heard-clause-crowd : goal.returns-in_err-heard-clause-crowd
+returns-in_err-heard-clause-crowd g c = searches_crowd g.L.Listener.machine c.args.field.now c.ask.new.field (identifiers c.from_residual.result) (returns-in_err-heard-clause-turns g c)
 
 pub returns-in_err-heard-clause-lost : goal.returns-in_err-heard-clause-lost
 returns-in_err-heard-clause-lost g c = loses_exactly g.L.Listener.machine c.args.field.now c.ask.new.field (identifiers c.from_residual.result) (returns-in_err-heard-clause-turns g c)
@@ -89,6 +96,10 @@ pub returns-in_err-hear-clause-causes : goal.returns-in_err-hear-clause-causes
 returns-in_err-hear-clause-causes g c =
     has_causes g.L.Listener.machine c.args.field.now c.ask.new.field (identifiers c.from_residual-in_err-hear.result) (returns-in_err-hear-clause-turns g c)
 
+pub returns-in_err-hear-clause-crowd : goal.returns-in_err-hear-clause-crowd
+returns-in_err-hear-clause-crowd g c =
+    searches_crowd g.L.Listener.machine c.args.field.now c.ask.new.field (identifiers c.from_residual-in_err-hear.result) (returns-in_err-hear-clause-turns g c)
+
 pub returns-in_err-hear-clause-lost : goal.returns-in_err-hear-clause-lost
 returns-in_err-hear-clause-lost g c =
     loses_exactly g.L.Listener.machine c.args.field.now c.ask.new.field (identifiers c.from_residual-in_err-hear.result) (returns-in_err-hear-clause-turns g c)
@@ -103,6 +114,12 @@ pub returns-in-Fails-clause-tags : goal.returns-in-Fails-clause-tags
 returns-in-Fails-clause-tags g c =
     let m = g.L.Listener.machine in
     finds_tags m c.args.field.now c.requests.field (Err c.in-Fails.fault)
+    (enquires_end finding_all m c.args.field.now c.requests.field (Runs c.requests.search) (Err c.in-Fails.fault) c.requests.invariant.so_far (ap (over_at c.requests.search.found) c.in-Fails.is))
+
+pub returns-in-Fails-clause-crowd : goal.returns-in-Fails-clause-crowd
+returns-in-Fails-clause-crowd g c =
+    let m = g.L.Listener.machine in
+    searches_crowd m c.args.field.now c.requests.field (Err c.in-Fails.fault)
     (enquires_end finding_all m c.args.field.now c.requests.field (Runs c.requests.search) (Err c.in-Fails.fault) c.requests.invariant.so_far (ap (over_at c.requests.search.found) c.in-Fails.is))
 
 pub returns-in-Fails-clause-lost : goal.returns-in-Fails-clause-lost
@@ -121,6 +138,7 @@ returns g c =
     record {
       turns = turns;
       tags = finds_tags m c.args.field.now c.requests.field (Ok c.into_vec.result.items) turns;
+      crowd = searches_crowd m c.args.field.now c.requests.field (Ok c.into_vec.result.items) turns;
       ascending = finds_ascending m c.args.field.now c.requests.field (Ok c.into_vec.result.items) turns;
       causes = has_causes m c.args.field.now c.requests.field (Ok c.into_vec.result.items) turns;
       lost = loses_exactly m c.args.field.now c.requests.field (Ok c.into_vec.result.items) turns;
