@@ -33,7 +33,7 @@ use Rattle.snep_core.specs.Accord.{PeerState}
 use Rattle.snep_core.specs.Calling.{payloads}
 use Rattle.snep_core.specs.Server.{serving}
 use Rattle.snep_core.specs.Talk.{Step, Goes, Ends, GivesUp, Told, replied}
-use Rattle.link_calls.specs.Arriving.{Arrives, IsCounted, all_answered, answered}
+use Rattle.link_calls.specs.Arriving.{Arrives, IsCounted, StopsAtLast, all_answered, answered}
 use Rattle.link_calls.specs.CallTurns.{swaps}
 
 -- whole steps of a far end, with payloads of bytes
@@ -99,6 +99,19 @@ module _ {L : Type 0} (k : Ghosts L) (target : L → TargetState) where
     arrives_so ps far after handed r =
         let same : ps ≡ brought i.core.number (drop (length old.trace) p.air.trace) = sym handed ∙ ap (λ n. brought n (since p)) first ∙ ap (brought i.core.number) since_is in
         record { bytes = subst (AllByRecursion AreBytes) same r.bytes; after_is = r.after_is ∙ ap (λ xs. all_answered xs far) same }
+
+    -- as the last of them came the end stopped
+    pub stops_so : (ps : List (List ℕ)) (out : List ℕ) (far half after : Choosing PeerState) → brought p.first (since p) ≡ ps ++ out ∷ [] → Ran ps far half → AreBytes out → StopsCounted serving half out after
+        → StopsAtLast i.core.number (drop (length old.trace) p.air.trace) far after
+    stops_so ps out far half after handed r bytes stops =
+        let same : ps ++ out ∷ [] ≡ brought i.core.number (drop (length old.trace) p.air.trace) = sym handed ∙ ap (λ n. brought n (since p)) first ∙ ap (brought i.core.number) since_is in
+        record {
+          bytes = subst (AllByRecursion AreBytes) same (bytes_then ps (out ∷ []) r.bytes (bytes, tt));
+          before = ps;
+          last = out;
+          split = sym same;
+          stops = subst (λ h. StopsCounted serving h out after) r.after_is stops;
+        }
 
   -- nothing arrived on a link that was just made
   pub none_yet : (a : DepSeen L) (old : Air L) (i : InitState) → a ≡ first_seen old i → brought a.first (since a) ≡ []

@@ -1,5 +1,5 @@
 -- What ending a connection and releasing its link comes to.
-use Rattle.std.proofs.Common.{◌≡◌, ◌≤◌, ◌⊎◌, ℕ, List, [], ◌∷◌, length, Bool, true, false, if◌then◌else◌, Option, Some, None, Ok, Err, refl, sym, ◌∙◌, ap, subst, inl, inr}
+use Rattle.std.proofs.Common.{◌≡◌, ◌≤◌, ◌⊎◌, ℕ, List, [], ◌∷◌, length, drop, Bool, true, false, if◌then◌else◌, Option, Some, None, Ok, Err, refl, sym, ◌∙◌, ap, subst, inl, inr}
 use Rattle.std.specs.List.{AllByRecursion}
 use Rattle.nfc_base.specs.Choosing.{Choosing}
 use Rattle.nfc_base.specs.Signal.{Signal}
@@ -30,10 +30,10 @@ use Rattle.snep_core.specs.declared.fault.SnepFault.TheVariants.{BadPeer, Excess
 use Rattle.snep_core.specs.Accord.{PeerState}
 use Rattle.snep_core.specs.Server.{serving}
 use Rattle.snep_core.specs.Calling.{Talks, FailsBy, fault_of, gives_up}
-use Rattle.snep_core.specs.Talk.{EndState, OnSap, Step, Ends}
+use Rattle.snep_core.specs.Talk.{EndState, Step, Ends}
 use Rattle.link_calls.specs.CallDue.{CallStanding, Carries, Comes, BrokenBy, Strays, call_due_at}
-use Rattle.link_calls.specs.CallTurns.{HaltsAt, sees, swaps}
-use Rattle.link_calls.specs.Arriving.{all_answered}
+use Rattle.link_calls.specs.CallTurns.{HaltsInCall, sees, swaps}
+use Rattle.link_calls.specs.Arriving.{Arrives, all_answered}
 use Rattle.link_calls.specs.Calls.{IsOpen, IsCutOff}
 use Rattle.link_calls.specs.ClosingDue.{Releasing, closing_at, closing_due_at}
 use Rattle.link_calls.specs.Closing.{ClosingTurns, ClosingFails, HaltsAtRls, SendsRls, IsReleased}
@@ -51,7 +51,7 @@ due_same Strays f e = absurd cc
 -- how a call was left off, so was the closing
 module _ {L : Type 0} (k : Ghosts L) (target : L → TargetState) (linked : L → Bool) (new : Air L) (after : Choosing PeerState) (mid : Air L) (half : Choosing PeerState) where
   abbrev HaltsBy : Next → Type 0
-  HaltsBy due = HaltsAt k target linked peer_ends (StopsCounted serving) due mid new half after
+  HaltsBy due = HaltsInCall k target linked peer_ends (StopsCounted serving) due mid new half after
 
   left_so : (s : CallStanding) → ((new ≡ mid) × (after ≡ half)) ⊎ HaltsBy (call_due_at s)
       → ((new ≡ mid) × (after ≡ half)) ⊎ (HaltsBy (closing_due_at (closing_at s)) ⊎ HaltsAtRls k linked peer_ends (closing_at s) mid new)
@@ -108,6 +108,7 @@ module _ {L C : Type 0} (k : Ghosts L) (target : L → TargetState) (see : C →
           turns = of_call k linked peer_ends place os ns from i old far z.mid z.half target z.standing z.turns z.under_way;
           left = left_so k target linked (see b).air half z.mid z.half z.standing z.left;
         };
+    arrives = λ quiet. c.arrives;
     setting = λ quiet. c.setting;
   }
 
@@ -121,7 +122,7 @@ module _ {L C : Type 0} (k : Ghosts L) (target : L → TargetState) (see : C →
       )
   closing_failed client e (inr broke) = cut_closing client e (cut_off k target see laws a b far half old i is open_ ready ns from e client broke)
 
-  module _ (jobs : List OnSap) (client : EndState) (talk : Talks (sees see) (swaps k target see) (AnswersCounted serving) (StopsCounted serving) ns from a far (Ends jobs client) b half) (is_stuck : Choosing PeerState → Bool) (new : Air L)
+  module _ (jobs : _) (client : EndState) (talk : Talks (sees see) (swaps k target see) (AnswersCounted serving) (StopsCounted serving) ns from a far (Ends jobs client) b half) (is_stuck : Choosing PeerState → Bool) (new : Air L)
       (after : Choosing PeerState)
       (same : ((l : L) → k.machine.handed l rls_frame ≡ Untouched) → after ≡ half) where
     -- RLS_REQ is due
@@ -133,6 +134,9 @@ module _ {L C : Type 0} (k : Ghosts L) (target : L → TargetState) (see : C →
 
     set_still : ((l : L) → k.machine.handed l rls_frame ≡ Untouched) → setting_of after.end ≡ setting_of far.end
     set_still quiet = ap (λ (p : Choosing PeerState). setting_of p.end) (same quiet) ∙ (made k target see laws a b far half old i is open_ ready ns from (Ends jobs client) talk (λ left. refl)).carried.setting
+
+    call_arrives : Arrives i.core.number (drop (length old.trace) (see b).air.trace) far half
+    call_arrives = (made k target see laws a b far half old i is open_ ready ns from (Ends jobs client) talk (λ left. refl)).carried.arrives
 
     sends_rls : (heard : Option Heard) → TurnIs k.machine (RestartsCounted serving) (AnswersCounted serving) (see b).air rls_frame half heard new after → SendsRls k target ns from old i far new after heard
     sends_rls heard turn =
@@ -180,6 +184,9 @@ module _ {L C : Type 0} (k : Ghosts L) (target : L → TargetState) (see : C →
       front = λ linked links place there os.
           let z = due_rls linked links place there os in
           record { standing = Releasing (Ends jobs client); mid = (see b).air; half = half; turns = z.0; left = inl rests };
+      arrives = λ quiet.
+          let A : Air L → Choosing PeerState → Type 0 = λ x y. Arrives i.core.number (drop (length old.trace) x.trace) far y in
+          inl (subst (A new) (sym rests.1) (subst (λ x. A x half) (sym rests.0) call_arrives));
       setting = set_still;
     }
     release_failed answered cause.Memory (q, (lit, inr stops)) = record {
@@ -198,6 +205,7 @@ module _ {L C : Type 0} (k : Ghosts L) (target : L → TargetState) (see : C →
               hands = λ quiet. none_stops k.machine (RestartsCounted serving) (AnswersCounted serving) (StopsCounted serving) is_stuck quiet (see b).air.listeners half stops.listeners after stops.some;
             }));
           };
+      arrives = λ quiet. absurd (none_stops k.machine (RestartsCounted serving) (AnswersCounted serving) (StopsCounted serving) is_stuck quiet (see b).air.listeners half stops.listeners after stops.some);
       setting = set_still;
     }
     release_failed answered cause.SixBad (q, never) = absurd never

@@ -28,12 +28,12 @@ use Rattle.snep_core.specs.declared.job.Job.TheVariants.{Over}
 use Rattle.snep_core.specs.declared.job.Ending.TheVariants.{Refused}
 use Rattle.snep_core.specs.Talk.{EndState, Step, Goes, Ends, GivesUp, Told, Working, alone, numbers_behind, replied}
 use Rattle.snep_core.specs.Talk.{ready as ready_of}
-use Rattle.link_calls.specs.Arriving.{Arrives}
+use Rattle.link_calls.specs.Arriving.{Arrives, ArrivesCut}
 use Rattle.link_calls.specs.CallDue.{CallStanding, Comes, call_at}
 use Rattle.link_calls.specs.CallTurns.{CallTurns, CutBy, sees, swaps}
 use Rattle.link_calls.specs.Calls.{IsOpen, IsCarried, IsMade, IsCutOff, CallFails, RequestFails}
 use Rattle.link_calls.specs.Staying.{setting_of}
-use Rattle.link_calls.proofs.Arriving.{AreWhole, arrives_so, counted_so, firsts, none_yet, ran, ran_then, told_whole}
+use Rattle.link_calls.proofs.Arriving.{AreWhole, Ran, arrives_so, counted_so, firsts, none_yet, ran, ran_then, stops_so, told_whole}
 use Rattle.link_calls.proofs.CallWalk.{talks_far, breaks_by}
 use Rattle.link_calls.proofs.Open.{in_step, swap_open}
 use Rattle.link_calls.proofs.Settings.{set_still}
@@ -165,31 +165,37 @@ module _ {L C : Type 0} (k : Ghosts L) (target : L → TargetState) (see : C →
         (stops_far k laws target linked peer_ends (RestartsCounted serving) (AnswersCounted serving) (StopsCounted serving) (λ c. c)) (StopsCounted serving) (λ u payload v stop. stop)
         links peer_table peer_kind ns from a b far after e new broke was_open place (subst A (sym is) there) os)
 
+    -- what arrived until want of memory cut it off
+    abbrev Came : Type 0
+    Came = ArrivesCut i.core.number (drop (length old.trace) (see b).air.trace) far after
+
     -- what its swaps left, where the last one failed by this cause
     abbrev Left : EndCause → Type 0
     Left c = IsCarried k target old i far (see b).air (see b).initiator after (Some c) × (c ≡ cause.SixBad → 0 < noise (drop (length old.trace) (see b).air.trace))
 
-    by_cause : (ns : List ℕ) (from : Step) (e : SnepFault) (new : EndState) → Breaking ns from e new → (c : EndCause) → e ≡ fault_of c → (c ≡ cause.Protocol → ⊥) → ((c ≡ cause.Memory → ⊥) → Left c) → setting_of after.end ≡ setting_of far.end → Cut ns from e
-    by_cause ns from e new broke cause.FieldLost q never left set =
+    by_cause : (ns : List ℕ) (from : Step) (e : SnepFault) (new : EndState) → Breaking ns from e new → (c : EndCause) → e ≡ fault_of c → (c ≡ cause.Protocol → ⊥) → ((c ≡ cause.Memory → ⊥) → Left c) → (c ≡ cause.Memory → Came)
+        → setting_of after.end ≡ setting_of far.end → Cut ns from e
+    by_cause ns from e new broke cause.FieldLost q never left came set =
         let z = left (λ m. cc) in
         subst (Cut ns from) (sym q) (record {
           turns = λ linked links place there os. subst (CutBy k target linked peer_ends (StopsCounted serving) ns from i old (see b).air place os far after) q (broken ns from e new broke linked links place there os);
           carried = z.0;
           noisy = z.1;
         })
-    by_cause ns from e new broke cause.SixBad q never left set =
+    by_cause ns from e new broke cause.SixBad q never left came set =
         let z = left (λ m. cc) in
         subst (Cut ns from) (sym q) (record {
           turns = λ linked links place there os. subst (CutBy k target linked peer_ends (StopsCounted serving) ns from i old (see b).air place os far after) q (broken ns from e new broke linked links place there os);
           carried = z.0;
           noisy = z.1;
         })
-    by_cause ns from e new broke cause.Memory q never left set =
+    by_cause ns from e new broke cause.Memory q never left came set =
         subst (Cut ns from) (sym q) (record {
           front = λ linked links place there os. subst (CutBy k target linked peer_ends (StopsCounted serving) ns from i old (see b).air place os far after) q (broken ns from e new broke linked links place there os);
+          arrives = came refl;
           setting = set;
         })
-    by_cause ns from e new broke cause.Protocol q never left set = absurd (never refl)
+    by_cause ns from e new broke cause.Protocol q never left came set = absurd (never refl)
 
     -- a peer in step never sends a frame that isn't allowed
     never_so : (o : Option EndCause) (given : Option (List ℕ)) (j : InitState) (s : Standing) → StandsAt o given j s → o ≡ Some cause.Protocol → ⊥
@@ -214,17 +220,38 @@ module _ {L C : Type 0} (k : Ghosts L) (target : L → TargetState) (see : C →
     asked_whole mid false c out did one (inl e) calm = let P : List FarStep → Type 0 = λ ds. AreWhole ds × (handed_of out ds ≡ payloads ds) in subst P (sym e) (tt, refl)
     asked_whole mid false c out did one (inr (memory, e)) calm = absurd (calm memory)
 
-    last_arrives : (ns : List ℕ) (did : List FarStep) (from to : Step) (mid : C) (half : Choosing PeerState) → Told ns from did to → BySwaps (swaps k target see) did a mid
-        → brought (see mid).first (since (see mid)) ≡ brought (see a).first (since (see a)) ++ payloads did → FarMoved (AnswersCounted serving) (StopsCounted serving) did far half
-        → (answered : Bool) (c : EndCause) (out : List ℕ) (more : List FarStep) → swaps k target see mid out more b → FarMoved (AnswersCounted serving) (StopsCounted serving) more half after
-        → AskedBy answered c out more → (c ≡ cause.Memory → ⊥) → Arrives i.core.number (drop (length old.trace) (see b).air.trace) far after
-    last_arrives ns did from to mid half told by handed moved answered c out more one last asked calm =
-        let whole = asked_whole mid answered c out more one asked calm in
-        let all : brought (see b).first (since (see b)) ≡ payloads did ++ payloads more =
-        handed_on k target (see mid) (see b) out more one ∙ ap (λ ps. ps ++ handed_of out more) (handed ∙ ap (λ ps. ps ++ payloads did) (none_yet k target (see a) old i is))
-        ∙ ap (λ ps. payloads did ++ ps) whole.1 in
-        arrives_so k target old i (see b) (one.same.0 ∙ first_is did mid by) (one.same.1 ∙ start_is did mid by) (payloads did ++ payloads more) far after all
-        (ran_then (payloads did) (payloads more) far half after (ran did (told_whole k target see ns did from to a mid told by) far half moved) (ran more whole.0 half after last))
+    -- swaps, and one more, of which the far end made each step whole
+    module _ (ns : List ℕ) (did : List FarStep) (from to : Step) (mid : C) (half : Choosing PeerState) (told : Told ns from did to) (by : BySwaps (swaps k target see) did a mid)
+        (handed : brought (see mid).first (since (see mid)) ≡ brought (see a).first (since (see a)) ++ payloads did) (moved : FarMoved (AnswersCounted serving) (StopsCounted serving) did far half) where
+      came_before : brought (see mid).first (since (see mid)) ≡ payloads did
+      came_before = handed ∙ ap (λ ps. ps ++ payloads did) (none_yet k target (see a) old i is)
+
+      ran_before : Ran (payloads did) far half
+      ran_before = ran did (told_whole k target see ns did from to a mid told by) far half moved
+
+      rests_arrives : Arrives i.core.number (drop (length old.trace) (see mid).air.trace) far half
+      rests_arrives = arrives_so k target old i (see mid) (first_is did mid by) (start_is did mid by) (payloads did) far half came_before ran_before
+
+      module _ (out : List ℕ) (more : List FarStep) (one : swaps k target see mid out more b) (last : FarMoved (AnswersCounted serving) (StopsCounted serving) more half after) where
+        came_all : brought (see b).first (since (see b)) ≡ payloads did ++ handed_of out more
+        came_all = handed_on k target (see mid) (see b) out more one ∙ ap (λ ps. ps ++ handed_of out more) came_before
+
+        whole_arrives : AreWhole more × (handed_of out more ≡ payloads more) → Arrives i.core.number (drop (length old.trace) (see b).air.trace) far after
+        whole_arrives whole =
+            arrives_so k target old i (see b) (one.same.0 ∙ first_is did mid by) (one.same.1 ∙ start_is did mid by) (payloads did ++ payloads more) far after
+            (came_all ∙ ap (λ ps. payloads did ++ ps) whole.1) (ran_then (payloads did) (payloads more) far half after ran_before (ran more whole.0 half after last))
+
+        last_arrives : (answered : Bool) (c : EndCause) → AskedBy answered c out more → (c ≡ cause.Memory → ⊥) → Arrives i.core.number (drop (length old.trace) (see b).air.trace) far after
+        last_arrives answered c asked calm = whole_arrives (asked_whole mid answered c out more one asked calm)
+
+        -- for want of memory it may have stopped
+        cut_arrives : (answered : Bool) (c : EndCause) → AskedBy answered c out more → Came
+        cut_arrives true c (reply, e) = inl (let P : List FarStep → Type 0 = λ ds. AreWhole ds × (handed_of out ds ≡ payloads ds) in whole_arrives (subst P (sym e) ((one.bytes, tt), refl)))
+        cut_arrives false c (inl e) = inl (let P : List FarStep → Type 0 = λ ds. AreWhole ds × (handed_of out ds ≡ payloads ds) in whole_arrives (subst P (sym e) (tt, refl)))
+        cut_arrives false c (inr (memory, e)) =
+            let M : List FarStep → Type 0 = λ ds. FarMoved (AnswersCounted serving) (StopsCounted serving) ds half after in
+            inr (stops_so k target old i (see b) (one.same.0 ∙ first_is did mid by) (one.same.1 ∙ start_is did mid by) (payloads did) out far half after
+            (came_all ∙ ap (λ ds. payloads did ++ handed_of out ds) e) ran_before one.bytes (subst M e last).0)
 
     -- the last swap failed
     last_left : (ns : List ℕ) (from : Step) (w : Working) (mid : C) (mid_far : Choosing PeerState) (talk : Talks (sees see) (swaps k target see) (AnswersCounted serving) (StopsCounted serving) ns from a far (Goes w) mid mid_far) (e : SnepFault) (new : EndState)
@@ -235,7 +262,7 @@ module _ {L C : Type 0} (k : Ghosts L) (target : L → TargetState) (see : C →
         left = (refl, refl, c.swap.over);
         swaps = (chain_to talk.did c.swapped.did _ a mid b talk.swapped c.swapped.link).0;
         chain = subst (λ (p : DepSeen L). Chained k target (chain_to talk.did c.swapped.did _ a mid b talk.swapped c.swapped.link).0 p (see b)) is (chain_to talk.did c.swapped.did _ a mid b talk.swapped c.swapped.link).1;
-        arrives = last_arrives ns talk.did from (Goes w) mid mid_far talk.told talk.swapped talk.handed talk.far_moved c.why.answered c.why.cause _ c.swapped.did c.swapped.link c.swapped.far_moved c.swapped.tells calm;
+        arrives = last_arrives ns talk.did from (Goes w) mid mid_far talk.told talk.swapped talk.handed talk.far_moved _ c.swapped.did c.swapped.link c.swapped.far_moved c.why.answered c.why.cause c.swapped.tells calm;
         counted = λ none. absurd (let over = c.swap.over in cc);
         setting = set_still c.swapped.did mid_far after c.swapped.far_moved ∙ set_still talk.did far mid_far talk.far_moved;
       },
@@ -247,14 +274,24 @@ module _ {L C : Type 0} (k : Ghosts L) (target : L → TargetState) (see : C →
     cut_so : (ns : List ℕ) (from : Step) (e : SnepFault) (new : EndState) (broke : Breaking ns from e new)
         → IsCut (sees see) (swaps k target see) (AnswersCounted serving) (StopsCounted serving) (first_number (numbers_behind broke.talks.did ns)) (ready_of broke.at).llc broke.mid broke.mid_far e new b after → Cut ns from e
     cut_so ns from e new broke (inl (inl c)) =
-        by_cause ns from e new broke cause.Memory c.fault (λ q. cc) (λ n. absurd (n refl)) (ap (λ (p : Choosing PeerState). setting_of p.end) c.far_is ∙ set_still broke.talks.did far broke.mid_far broke.talks.far_moved)
+        let talk = broke.talks in
+        let A : C → Choosing PeerState → Type 0 = λ x y. Arrives i.core.number (drop (length old.trace) (see x).air.trace) far y in
+        let came : A broke.mid broke.mid_far = rests_arrives ns talk.did from (Goes broke.at) broke.mid broke.mid_far talk.told talk.swapped talk.handed talk.far_moved in
+        by_cause ns from e new broke cause.Memory c.fault (λ q. cc) (λ n. absurd (n refl)) (λ m. inl (subst (A b) (sym c.far_is) (subst (λ x. A x broke.mid_far) (sym c.link_is) came)))
+        (ap (λ (p : Choosing PeerState). setting_of p.end) c.far_is ∙ set_still broke.talks.did far broke.mid_far broke.talks.far_moved)
     cut_so ns from e new broke (inl (inr c)) = absurd (let over = c.over in let goes : (see broke.mid).over ≡ None = broke.talks.over ∙ was_open in cc)
     cut_so ns from e new broke (inr (inl c)) =
+        let talk = broke.talks in
         by_cause ns from e new broke c.why.cause c.fault (λ q. never_odd broke.mid _ c.swapped.did c.swapped.link (c.swap.over ∙ ap Some q))
         (λ n. last_left ns from broke.at broke.mid broke.mid_far broke.talks e new c n)
+        (λ m. cut_arrives ns talk.did from (Goes broke.at) broke.mid broke.mid_far talk.told talk.swapped talk.handed talk.far_moved _ c.swapped.did c.swapped.link c.swapped.far_moved c.why.answered c.why.cause c.swapped.tells)
         (set_still c.swapped.did broke.mid_far after c.swapped.far_moved ∙ set_still broke.talks.did far broke.mid_far broke.talks.far_moved)
     cut_so ns from e new broke (inr (inr c)) =
+        let talk = broke.talks in
+        let P : List ℕ → List FarStep → Type 0 = λ out ds. AreWhole ds × (handed_of out ds ≡ payloads ds) in
         by_cause ns from e new broke cause.Memory c.fault (λ q. cc) (λ n. absurd (n refl))
+        (λ m. inl (whole_arrives ns talk.did from (Goes broke.at) broke.mid broke.mid_far talk.told talk.swapped talk.handed talk.far_moved _ c.swapped.did c.swapped.link c.swapped.far_moved
+        (subst (P _) (sym c.swapped.tells) ((c.swapped.link.bytes, tt), refl))))
         (set_still c.swapped.did broke.mid_far after c.swapped.far_moved ∙ set_still broke.talks.did far broke.mid_far broke.talks.far_moved)
 
     pub cut_off : (ns : List ℕ) (from : Step) (e : SnepFault) (new : EndState) → Breaking ns from e new → Cut ns from e

@@ -1,5 +1,5 @@
 -- What arrives at a link's peer, and what its end does by that (NFCIP-1, ISO/IEC 18092; NFC Forum LLCP 1.3 and SNEP 1.0).
-use Rattle.std.specs.Prelude.{◌≡◌, ℕ, List, [], ◌∷◌}
+use Rattle.std.specs.Prelude.{◌≡◌, ◌⊎◌, ℕ, List, [], ◌∷◌, ◌++◌}
 use Rattle.std.specs.List.{AllByRecursion}
 use Rattle.nfc_base.specs.Choosing.{Choosing, first_number, later_numbers}
 use Rattle.nfc_base.specs.LinkTurns.{arrived}
@@ -8,6 +8,7 @@ use Rattle.dep_link.specs.Payloads.{begins, cut_by}
 use Rattle.dep_link.specs.Exchange.{frames_of}
 use Rattle.dep_link.specs.DepLinks.{brought}
 use Rattle.llcp_link.specs.Giving.{after_giving}
+use Rattle.llcp_link.specs.Counting.{StopsCounted}
 use Rattle.llcp_link.specs.Running.{AreBytes}
 use Rattle.llcp_link.specs.Taking.{taken_from}
 use Rattle.snep_core.specs.Accord.{PeerState}
@@ -28,6 +29,19 @@ all_answered (p ∷ ps) far =
 pub record Arrives (first : ℕ) (events : List Event) (far after : Choosing PeerState) : Type 0 where
   pub bytes : AllByRecursion AreBytes (brought first events)
   pub after_is : after ≡ all_answered (brought first events) far
+
+-- As some events brought payloads to a peer, counted from this PNI, its end answered all before the last, and as it took
+-- the last it stopped for want of memory.
+pub record StopsAtLast (first : ℕ) (events : List Event) (far after : Choosing PeerState) : Type 0 where
+  pub bytes : AllByRecursion AreBytes (brought first events)
+  pub before : List (List ℕ)
+  pub last : List ℕ
+  pub split : brought first events ≡ before ++ last ∷ []
+  pub stops : StopsCounted serving (all_answered before far) last after
+
+-- What arrives in a call that want of memory cut off: the end answered it all, or stopped at the last payload.
+abbrev pub ArrivesCut : ℕ → List Event → Choosing PeerState → Choosing PeerState → Type 0
+ArrivesCut first events far after = Arrives first events far after ⊎ StopsAtLast first events far after
 
 -- Behind these events, counted from that PNI, this PNI is next, and no piece of a payload came.
 abbrev pub IsCounted : ℕ → List Event → ℕ → Type 0

@@ -44,7 +44,7 @@ module _ {L F : Type 0} (k : Ghosts L) (target : L → TargetState) (linked : L 
   module _ (halts : Choosing F → List ℕ → Choosing F → Type 0) where
     -- The request passed that was due, and as it handed a payload over the far end stopped for want of memory: it was
     -- heard up to the peer, and nothing came back of it.
-    pub record HaltsAt (due : Next) (mid new : Air L) (half after : Choosing F) : Type 0 where
+    pub record HaltsInCall (due : Next) (mid new : Air L) (half after : Choosing F) : Type 0 where
       pub sent : Signal
       pub asked : due ≡ Asks sent
       pub passes : first_fate mid.fates ≡ Pass
@@ -61,7 +61,7 @@ module _ {L F : Type 0} (k : Ghosts L) (target : L → TargetState) (linked : L 
       pub half : Choosing F
       pub turns : CallTurns numbers from i old mid place os far half standing
       pub under_way : standing ≡ Strays → ⊥
-      pub left : ((new ≡ mid) × (after ≡ half)) ⊎ HaltsAt (call_due_at standing) mid new half after
+      pub left : ((new ≡ mid) × (after ≡ half)) ⊎ HaltsInCall (call_due_at standing) mid new half after
 
     -- how a call was cut off: by its link, or by want of memory
     abbrev pub CutBy : List ℕ → Step → InitState → Air L → Air L → ℕ → List (Option F) → Choosing F → Choosing F → SnepFault → Type 0

@@ -25,7 +25,7 @@ use Rattle.snep_core.specs.declared.job.Ending.TheVariants.{Refused}
 use Rattle.snep_core.specs.Talk.{CameTo, EndState, Step, Ends, alone}
 use Rattle.link_calls.specs.CallDue.{CallStanding, BrokenBy, Comes}
 use Rattle.link_calls.specs.CallTurns.{CallTurns, CallFront}
-use Rattle.link_calls.specs.Arriving.{Arrives, IsCounted}
+use Rattle.link_calls.specs.Arriving.{Arrives, ArrivesCut, IsCounted}
 use Rattle.link_calls.specs.Staying.{setting_of}
 
 module _ {L : Type 0} (k : Ghosts L) (target : L → TargetState) where
@@ -72,10 +72,12 @@ module _ {L : Type 0} (k : Ghosts L) (target : L → TargetState) where
       pub carried : IsCarried old i far new j after (Some c)
       pub noisy : c ≡ cause.SixBad → 0 < noise (drop (length old.trace) new.trace)
 
-    -- Memory was wanting: there is a front of it, and nothing that is set of the end changed.
+    -- Memory was wanting: there is a front of it, the peer's end answered what arrived, but for the last payload where it
+    -- stopped at that, and nothing that is set of the end changed.
     pub record IsCutShort : Type 0 where
       pub front : (linked : L → Bool) → IsLinked k.machine linked → (place : ℕ) → Stands k target linked peer_ends old place → (os : List (Option PeerState))
           → CallFront k target linked peer_ends (StopsCounted serving) numbers from i old new place os far after
+      pub arrives : ArrivesCut i.core.number (drop (length old.trace) new.trace) far after
       pub setting : setting_of after.end ≡ setting_of far.end
 
     -- It was cut off, by its link or by want of memory.

@@ -29,8 +29,8 @@ use Rattle.snep_core.specs.Server.{serving}
 use Rattle.snep_core.specs.Calling.{gives_up}
 use Rattle.snep_core.specs.Talk.{CameTo, EndState, Step}
 use Rattle.link_calls.specs.CallDue.{BrokenBy, Comes}
-use Rattle.link_calls.specs.Arriving.{Arrives}
-use Rattle.link_calls.specs.CallTurns.{HaltsAt}
+use Rattle.link_calls.specs.Arriving.{Arrives, ArrivesCut}
+use Rattle.link_calls.specs.CallTurns.{HaltsInCall}
 use Rattle.link_calls.specs.Calls.{IsCarried, IsMade}
 use Rattle.link_calls.specs.ClosingDue.{ClosingStanding, Calls, Released, closing_stand, closing_due, closing_due_at}
 use Rattle.link_calls.specs.Staying.{setting_of}
@@ -59,7 +59,7 @@ module _ {L F : Type 0} (k : Ghosts L) (linked : L → Bool) (t : FarTable F) wh
     pub half : Choosing F
     pub turns : ClosingTurns numbers from i old mid place os far half standing
     pub left : ((new ≡ mid) × (after ≡ half))
-        ⊎ (HaltsAt k target linked t halts (closing_due_at standing) mid new half after ⊎ HaltsAtRls standing mid new)
+        ⊎ (HaltsInCall k target linked t halts (closing_due_at standing) mid new half after ⊎ HaltsAtRls standing mid new)
 
 module _ {L : Type 0} (k : Ghosts L) (target : L → TargetState) where
   -- a closing from a moment of the field, its initiator and its peer's end to others
@@ -96,10 +96,12 @@ module _ {L : Type 0} (k : Ghosts L) (target : L → TargetState) where
       pub how : IsCarried k target old i far new j after (Some c) ⊎ ((c ≡ cause.FieldLost) × SendsRls None)
       pub noisy : c ≡ cause.SixBad → 0 < noise (drop (length old.trace) new.trace)
 
-    -- Memory was wanting: there is a front of it, and nothing that is set of the end changed.
+    -- Memory was wanting: there is a front of it, the peer's end answered what arrived, but for the last payload where it
+    -- stopped at that, and nothing that is set of the end changed.
     pub record IsClosingShort : Type 0 where
       pub front : (linked : L → Bool) → IsLinked k.machine linked → (place : ℕ) → Stands k target linked peer_ends old place → (os : List (Option PeerState))
           → ClosingFront k linked peer_ends target (StopsCounted serving) numbers from i old new place os far after
+      pub arrives : ((l : L) → k.machine.handed l rls_frame ≡ Untouched) → ArrivesCut i.core.number (drop (length old.trace) new.trace) far after
       pub setting : ((l : L) → k.machine.handed l rls_frame ≡ Untouched) → setting_of after.end ≡ setting_of far.end
 
     -- It failed: the far end was given up, the link ended, or memory was wanting.
