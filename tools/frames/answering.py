@@ -4,7 +4,7 @@ from __future__ import annotations
 
 from frames.line import Frame, FrameLine, bytes_of
 from frames.polling import CASCADE_TAG, GOES_ON, LEVELS, PRESENCE, SELECTING, SLP_REQ
-from frames.type5 import ADDRESSED, IDENTIFIER_LENGTH, INVENTORY, ONE_SLOT
+from frames.type5 import ADDRESSED, IDENTIFIER_LENGTH, INVENTORY, ONE_SLOT, SLOTS
 from frames.words import hexadecimal
 
 LEVEL_LENGTH = 5
@@ -38,7 +38,8 @@ class Answering:
 
     def present(self, answer: Frame) -> str:
         """The tag of NFC-V that answers an inventory by its identifier, or any other request that was for it."""
-        if self.asked.data[:2] == bytes([ONE_SLOT, INVENTORY]):
+        asked = self.asked.data
+        if not asked or (asked[0] in SLOTS and asked[1:2] == bytes([INVENTORY])):
             whole = len(answer.data) == 2 + IDENTIFIER_LENGTH
             return hexadecimal(answer.data[2:][::-1]) if whole else ""
         return self.addressed(self.asked)

@@ -41,7 +41,8 @@ class Protocols:
 
     def __init__(self) -> None:
         # ISO-DEP stands before Type 5: to an activated card goes a block, which may look like a Type 5 request.
-        self.in_order: list[Protocol] = [Polling(), IsoDep(), Type2(), NfcDep(), Type5()]
+        self.type5 = Type5()
+        self.in_order: list[Protocol] = [Polling(), IsoDep(), Type2(), NfcDep(), self.type5]
         self.current: Protocol | None = None
 
     def request(self, frame: Frame) -> str | None:
@@ -50,6 +51,8 @@ class Protocols:
             told = protocol.request(frame)
             if told is not None:
                 self.current = protocol
+                if protocol is not self.type5:
+                    self.type5.is_alone = False
                 return told
         return None
 

@@ -22,9 +22,11 @@ NAMES = {
     SYSTEM_INFORMATION: "GET SYSTEM INFORMATION",
 }
 ERRORS = {0x0F: "no reason given", 0x10: "no such block", 0x12: "the block is locked"}
-ONE_SLOT = 0x26
+ONE_SLOT, SIXTEEN_SLOTS = 0x26, 0x06
 HIGH_RATE, SELECTED, ADDRESSED, OPTION = 0x02, 0x10, 0x20, 0x40
 IDENTIFIER_LENGTH = 8
+MOST_BITS = {ONE_SLOT: 8 * IDENTIFIER_LENGTH, SIXTEEN_SLOTS: 8 * IDENTIFIER_LENGTH - 4}
+SLOTS = {ONE_SLOT: "one slot", SIXTEEN_SLOTS: "sixteen slots"}
 
 
 class Type5:
@@ -33,20 +35,25 @@ class Type5:
     def __init__(self) -> None:
         self.asked = 0
         self.what = ""
+        # Until something of NFC-A is asked behind a reset, an empty frame moves a round of slots on.
+        self.is_alone = True
 
     def request(self, frame: Frame) -> str | None:
         data = frame.data
+        if frame.is_whole and not data and self.is_alone:
+            self.asked = INVENTORY
+            return "next slot"
         if not frame.is_whole or len(data) < 2:
             return None
-        if data[0] == ONE_SLOT:
-            return self.inventory(data[1:])
+        if data[0] in SLOTS:
+            return self.inventory(data[0], data[1:])
         if data[0] & ~OPTION not in (HIGH_RATE, HIGH_RATE | SELECTED, HIGH_RATE | ADDRESSED):
             return None
         return self.command(data[0], data[1], data[2:])
 
-    def inventory(self, data: bytes) -> str | None:
-        """An inventory of one slot: how many bits the mask has, and the mask in whole bytes, lowest bits first."""
-        if len(data) < 2 or data[0] != INVENTORY or data[1] > 8 * IDENTIFIER_LENGTH:
+    def inventory(self, flags: int, data: bytes) -> str | None:
+        """An inventory: how many bits the mask has, and the mask in whole bytes, lowest bits first."""
+        if len(data) < 2 or data[0] != INVENTORY or data[1] > MOST_BITS[flags]:
             return None
         bits, mask = data[1], data[2:]
         value = int.from_bytes(mask, "little")
@@ -54,10 +61,10 @@ class Type5:
             return None
         self.asked = INVENTORY
         if bits == 0:
-            return "INVENTORY of one slot, no mask"
+            return f"INVENTORY of {SLOTS[flags]}, no mask"
         if bits == 8 * IDENTIFIER_LENGTH:
-            return f"INVENTORY of one slot, mask: all of {identifier(mask)}"
-        return f"INVENTORY of one slot, mask of {counted(bits, 'bit')}: {value:0{(bits + 3) // 4}X}h"
+            return f"INVENTORY of {SLOTS[flags]}, mask: all of {identifier(mask)}"
+        return f"INVENTORY of {SLOTS[flags]}, mask of {counted(bits, 'bit')}: {value:0{(bits + 3) // 4}X}h"
 
     def command(self, flags: int, number: int, rest: bytes) -> str | None:
         """Any other request, addressed to one tag, to the selected one, or to all that aren't quiet."""

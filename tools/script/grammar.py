@@ -73,6 +73,7 @@ IN_ORDER = (
     Command("dump", (ANY_ID,), Field.dump, "a tag with this ID is placed"),
     Command("inbox", (ANY_ID,), Field.inbox, "a peer with this ID is placed"),
     Command("find", ()),
+    Command("crowd", ()),
     Command("read", (ANY_ID,)),
     Command("write", (ANY_ID, MSG)),
     Command("link", (NFCA_ID, MIU, RW)),

@@ -29,6 +29,7 @@ LEGAL = {
     "dump": "dump 01020304",
     "inbox": "inbox 08010203",
     "find": "find",
+    "crowd": "crowd",
     "read": "read 02020202",
     "write": "write 02020202 00",
     "link": "link 02020202 128 1",

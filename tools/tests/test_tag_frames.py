@@ -323,6 +323,28 @@ class Type5Frames(unittest.TestCase):
             ],
         )
 
+    def test_rounds_of_slots(self) -> None:
+        self.assertEqual(
+            told(
+                "> 060100 pass",
+                "* 000006/4 pass",
+                "> - lose",
+                "> - pass",
+                "< 000007050403020104E0 pass",
+                "> 06010406 pass",
+                "> 06013D00000000000000 pass",
+            ),
+            [
+                "INVENTORY of sixteen slots, no mask",
+                "answer to INVENTORY, clash behind 20 common bits",
+                "next slot (nobody heard it)",
+                "next slot",
+                "present: E004010203040507",
+                "INVENTORY of sixteen slots, mask of 4 bits: 6h",
+                "?",
+            ],
+        )
+
     def test_commands_to_one_tag(self) -> None:
         whom = "to E004010203040506"
         for code, rest, answer, command, meaning in (

@@ -25,8 +25,9 @@ use Rattle.bench_script.specs.declared.command.DeviceId.{DeviceId}
 use Rattle.bench_script.specs.declared.command.DeviceId.TheVariants as ids
 use Rattle.bench_devices.specs.declared.polling.SeenKind.{SeenKind}
 use Rattle.bench_devices.specs.declared.polling.SeenKind.TheVariants as seen
-use Rattle.bench_devices.specs.Calm.{IsCalmDue, CalmFinding, CalmSelecting, IsCalmAsking, CalmReading, CalmWriting, CalmUnasked}
+use Rattle.bench_devices.specs.Calm.{IsCalmDue, CalmFinding, CalmCrowding, CalmSelecting, IsCalmAsking, CalmReading, CalmWriting, CalmUnasked}
 use Rattle.bench_devices.specs.CardAsking.{CardStanding, Activates, Exchanges, heard_ats, told_code, bad_again, card_noted, card_stand, card_due, tag_next}
+use Rattle.bench_devices.specs.Crowding.{crowding}
 use Rattle.bench_devices.specs.Device.{devices, device_linked}
 use Rattle.bench_devices.specs.Keeping.{EachAsked}
 use Rattle.bench_devices.specs.Polling as polls
@@ -34,6 +35,7 @@ use Rattle.bench_devices.specs.Polling.{Followed, Told, follows, selecting, find
 use Rattle.bench_devices.specs.PeerUpper.{no_atr_req}
 use Rattle.bench_devices.specs.TagAsking.{then_asks, tag_due}
 use Rattle.bench_devices.proofs.CalmFrames.{IsOther, other_tech, block_other, read_other, write_other}
+use Rattle.bench_devices.proofs.CrowdSteps.{of_nfc_v}
 use Rattle.bench_devices.proofs.Following.{kind_asks, asks_same}
 use Rattle.bench_devices.proofs.FoundAll.{others_ask}
 use Rattle.bench_devices.proofs.Inventoried.{inventory_closes, inventory_other}
@@ -73,6 +75,10 @@ find_other ns f e =
 
 pub calm_finding : CalmFinding
 calm_finding = calm_due (λ ns. asks (finding_all ns)) find_other
+
+-- a search of all Type 5 tags
+pub calm_crowding : CalmCrowding
+calm_crowding = calm_due crowding (λ ns f e. other_tech f (of_nfc_v ns f e))
 
 -- selecting a device
 select_other : (id : DeviceId) → AsksOther (λ ns. asks (selecting id ns))

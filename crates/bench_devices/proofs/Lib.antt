@@ -75,3 +75,5 @@ pub mod LinkingNotes
 pub mod LinkFar
 pub mod FarLeaves
 pub mod LinkedPeer
+pub mod CrowdSteps
+pub mod CrowdFound

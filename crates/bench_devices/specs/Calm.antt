@@ -10,6 +10,7 @@ use Rattle.bench_script.specs.declared.command.DeviceId.{DeviceId}
 use Rattle.bench_devices.specs.declared.device.Device.{Device}
 use Rattle.bench_devices.specs.declared.polling.SeenKind.{SeenKind}
 use Rattle.bench_devices.specs.CardAsking.{tag_next}
+use Rattle.bench_devices.specs.Crowding.{crowding}
 use Rattle.bench_devices.specs.Device.{devices, device_linked}
 use Rattle.bench_devices.specs.Polling.{asks, selecting, finding_all}
 use Rattle.bench_devices.specs.Reading.{AsksOf}
@@ -26,6 +27,9 @@ IsCalmDue due = (es : List Event) → EachDue due [] es → AreCalm devices devi
 
 abbrev pub CalmFinding : Type 0
 CalmFinding = IsCalmDue (λ ns. asks (finding_all ns))
+
+abbrev pub CalmCrowding : Type 0
+CalmCrowding = IsCalmDue crowding
 
 abbrev pub CalmSelecting : Type 0
 CalmSelecting = (id : DeviceId) → IsCalmDue (λ ns. asks (selecting id ns))

@@ -24,3 +24,4 @@ pub mod Calm
 pub mod Beside
 pub mod Opening
 pub mod LinkLaws
+pub mod Crowding

@@ -1,7 +1,7 @@
 //! Laws of the devices. The calls do nothing: they stand for these laws.
 
 ghost use Rattle.bench_devices.specs.Keeping.{DevicesStay, ImagesStay, AsideKeeps, OthersKeep};
-ghost use Rattle.bench_devices.specs.Calm.{DevicesLink, CalmFinding, CalmSelecting, CalmReading, CalmWriting, CalmUnasked};
+ghost use Rattle.bench_devices.specs.Calm.{DevicesLink, CalmFinding, CalmCrowding, CalmSelecting, CalmReading, CalmWriting, CalmUnasked};
 ghost use Rattle.nfc_base.specs.Choosing.{Choosing};
 ghost use Rattle.far_air.specs.FarEnds.{FarTable};
 ghost use Rattle.bench_devices.specs.LinkLaws.{LinkAsks, PeerStands, OthersAside, SwapsLeave, ReadyInStep, LinkedInStep, InStepTakesRls, NoneAtRls, TurnLeaves, ReleaseLeaves, OpensFar, SelectsFar, FarLeaves};
@@ -22,6 +22,7 @@ pub fn devices_stay()
 pub fn peers_stay_unlinked()
     ensures links { DevicesLink }
     ensures find { CalmFinding }
+    ensures crowd { CalmCrowding }
     ensures select { CalmSelecting }
     ensures read { CalmReading }
     ensures write { CalmWriting }

@@ -3,11 +3,12 @@
 //! `device` holds Type 2 and Type 4 tags and peers under a listener front, and Type 5 tags, as listeners. `peer` is the
 //! machine of a peer, whose far end stands beside the field. `polling` selects the one with an identifier, `reading`
 //! reads the message of the tag that is selected, `writing` writes one to it, `opening` opens a link to the peer that is
-//! selected, `sweeping` searches for all.
+//! selected, `sweeping` searches for all, `crowding` for every Type 5 tag.
 //! `specs/Polling.antt` and `specs/CardAsking.antt` say which request is due in each of these, `specs/Answering.antt` how
 //! each may end and why, `specs/Phases.antt` what each does to the field. Nothing here knows of commands or answers.
 #![tactic(auto)]
 
+mod crowding;
 mod device;
 mod law;
 mod opening;
@@ -17,6 +18,7 @@ mod reading;
 mod sweeping;
 mod writing;
 
+pub use crowding::sweep_tags;
 pub use device::{Device, PoweredTag, T2Upper, T4Upper};
 pub use law::{devices_stay, links_far, links_open, peers_stay_unlinked};
 pub use opening::open_link;

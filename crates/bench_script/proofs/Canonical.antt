@@ -16,7 +16,7 @@ use Rattle.hex.proofs.HexLemmas.{length-encode_with, decode_of-encode_upper, dec
 use Rattle.nfc_base.specs.declared.event.Fate.{Fate}
 use Rattle.nfc_base.specs.declared.event.Fate.TheVariants.{Pass, Damage, Lose, Break}
 use Rattle.bench_script.specs.declared.command.Command.{Command}
-use Rattle.bench_script.specs.declared.command.Command.TheVariants.{Skip, Fates, PlaceT2, PlaceT4, PlaceT5, PlacePeer, Lock, Busy, Offer, Remove, Dump, Inbox, Find, Read, Write, Link, Put, Get, Lookup, Unlink}
+use Rattle.bench_script.specs.declared.command.Command.TheVariants.{Skip, Fates, PlaceT2, PlaceT4, PlaceT5, PlacePeer, Lock, Busy, Offer, Remove, Dump, Inbox, Find, Crowd, Read, Write, Link, Put, Get, Lookup, Unlink}
 use Rattle.bench_script.specs.declared.command.DeviceId.{DeviceId}
 use Rattle.bench_script.specs.declared.command.DeviceId.TheVariants.{A, V}
 use Rattle.bench_script.specs.declared.message.Msg.{Msg}
@@ -373,6 +373,7 @@ all_too (Inbox id) ws (i, e, p) =
       are = (literal (codes "inbox") refl, x.is);
     }
 all_too Find ws e = record { spells = refl; sizes = ap (map length) e; are = literal (codes "find") refl }
+all_too Crowd ws e = record { spells = refl; sizes = ap (map length) e; are = literal (codes "crowd") refl }
 all_too (Read id) ws (i, e, p) =
     let x = id_too i id p in
     record {

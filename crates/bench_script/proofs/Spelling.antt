@@ -8,7 +8,7 @@ use Rattle.nfc_base.specs.declared.event.Fate.TheVariants.{Pass, Damage, Lose, B
 use Rattle.hex.specs.Hex.{decode_of}
 use Rattle.hex.proofs.HexLemmas.{decode_of-same}
 use Rattle.bench_script.specs.declared.command.Command.{Command}
-use Rattle.bench_script.specs.declared.command.Command.TheVariants.{Skip, Fates, PlaceT2, PlaceT4, PlaceT5, PlacePeer, Lock, Busy, Offer, Remove, Dump, Inbox, Find, Read, Write, Link, Put, Get, Lookup, Unlink}
+use Rattle.bench_script.specs.declared.command.Command.TheVariants.{Skip, Fates, PlaceT2, PlaceT4, PlaceT5, PlacePeer, Lock, Busy, Offer, Remove, Dump, Inbox, Find, Crowd, Read, Write, Link, Put, Get, Lookup, Unlink}
 use Rattle.bench_script.specs.declared.command.DeviceId.{DeviceId}
 use Rattle.bench_script.specs.declared.command.DeviceId.TheVariants.{A, V}
 use Rattle.bench_script.specs.declared.message.Msg.{Msg}
@@ -140,6 +140,7 @@ key_of (Remove a) = 654
 key_of (Dump a) = 438
 key_of (Inbox a) = 544
 key_of Find = 417
+key_of Crowd = 543
 key_of (Read a) = 412
 key_of (Write a b) = 555
 key_of (Link a b c) = 430
@@ -162,6 +163,7 @@ key_at ws (Remove a) (w, is, p) = ap key_by is
 key_at ws (Dump a) (w, is, p) = ap key_by is
 key_at ws (Inbox a) (w, is, p) = ap key_by is
 key_at ws Find e = ap key_by e
+key_at ws Crowd e = ap key_by e
 key_at ws (Read a) (w, is, p) = ap key_by is
 key_at ws (Write a b) (w, x, is, p, q) = ap key_by is
 key_at ws (Link a b c) (w, x, y, is, p, q, r) = ap key_by is
@@ -207,6 +209,7 @@ spelled_alike ws (Dump i) (Dump j) key (v, e, p) (w, f, q) =
     let same : v ≡ w = ap (word 1) (sym e ∙ f) in
     ap (λ x. let c : Command = Dump x in c) (id_one w i j (let P : List ℕ → Type 0 = λ t. SpellsId t i in subst P same p) q)
 spelled_alike ws Find Find key p q = refl
+spelled_alike ws Crowd Crowd key p q = refl
 spelled_alike ws (Read i) (Read j) key (v, e, p) (w, f, q) =
     let same : v ≡ w = ap (word 1) (sym e ∙ f) in
     ap (λ x. let c : Command = Read x in c) (id_one w i j (let P : List ℕ → Type 0 = λ t. SpellsId t i in subst P same p) q)
@@ -300,6 +303,7 @@ nameless w ws none some (Inbox id) (i, e, p) = none names.Inbox (let h : w ≡ c
 nameless w ws none some (Dump id) (i, e, p) = none names.Dump (let h : w ≡ codes "dump" = cc in h)
 nameless w ws none some (Remove id) (i, e, p) = none names.Remove (let h : w ≡ codes "remove" = cc in h)
 nameless w ws none some Find e = some (let h : ws ≡ [] = cc in h)
+nameless w ws none some Crowd e = some (let h : ws ≡ [] = cc in h)
 nameless w ws none some (Read id) (i, e, p) = none names.Read (let h : w ≡ codes "read" = cc in h)
 nameless w ws none some (Write id message) (i, m, e, p, q) = none names.Write (let h : w ≡ codes "write" = cc in h)
 nameless w ws none some (Link id miu rw) (i, m, v, e, p, q, r) = none names.Link (let h : w ≡ codes "link" = cc in h)
@@ -390,6 +394,7 @@ hash_begins_none ws (Inbox id) (i, e, p) h = omega (arith, h, ap first_byte e)
 hash_begins_none ws (Dump id) (i, e, p) h = omega (arith, h, ap first_byte e)
 hash_begins_none ws (Remove id) (i, e, p) h = omega (arith, h, ap first_byte e)
 hash_begins_none ws Find e h = omega (arith, h, ap first_byte e)
+hash_begins_none ws Crowd e h = omega (arith, h, ap first_byte e)
 hash_begins_none ws (Read id) (i, e, p) h = omega (arith, h, ap first_byte e)
 hash_begins_none ws (Write id message) (i, m, e, p, q) h = omega (arith, h, ap first_byte e)
 hash_begins_none ws (Link id miu rw) (i, m, w, e, p, q, r) h = omega (arith, h, ap first_byte e)

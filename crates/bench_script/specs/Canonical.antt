@@ -6,7 +6,7 @@ use Rattle.std.specs.Fmt.{decimal}
 use Rattle.hex.specs.Hex.{encode_upper}
 use Rattle.nfc_base.specs.declared.event.Fate.{Fate}
 use Rattle.bench_script.specs.declared.command.Command.{Command}
-use Rattle.bench_script.specs.declared.command.Command.TheVariants.{Skip, Fates, PlaceT2, PlaceT4, PlaceT5, PlacePeer, Lock, Busy, Offer, Remove, Dump, Inbox, Find, Read, Write, Link, Put, Get, Lookup, Unlink}
+use Rattle.bench_script.specs.declared.command.Command.TheVariants.{Skip, Fates, PlaceT2, PlaceT4, PlaceT5, PlacePeer, Lock, Busy, Offer, Remove, Dump, Inbox, Find, Crowd, Read, Write, Link, Put, Get, Lookup, Unlink}
 use Rattle.bench_script.specs.declared.command.DeviceId.{DeviceId}
 use Rattle.bench_script.specs.declared.message.Msg.{Msg}
 use Rattle.bench_script.specs.declared.message.Msg.TheVariants.{Hex, Gen}
@@ -52,6 +52,7 @@ canonical_words (Remove id) = codes "remove" ∷ id_text id ∷ []
 canonical_words (Dump id) = codes "dump" ∷ id_text id ∷ []
 canonical_words (Inbox id) = codes "inbox" ∷ id_text id ∷ []
 canonical_words Find = codes "find" ∷ []
+canonical_words Crowd = codes "crowd" ∷ []
 canonical_words (Read id) = codes "read" ∷ id_text id ∷ []
 canonical_words (Write id message) = codes "write" ∷ id_text id ∷ message_text message ∷ []
 canonical_words (Link id miu rw) = codes "link" ∷ encode_upper id ∷ decimal miu ∷ decimal rw ∷ []

@@ -104,6 +104,8 @@ pub enum Command {
     },
     /// Finds all devices.
     Find,
+    /// Finds all Type 5 tags.
+    Crowd,
     /// Reads the NDEF message of a tag.
     Read {
         id: DeviceId,
@@ -186,6 +188,7 @@ impl Command {
             Command::Dump { id } => Ok(Command::Dump { id: id.copy() }),
             Command::Inbox { id } => Ok(Command::Inbox { id: id.copy() }),
             Command::Find => Ok(Command::Find),
+            Command::Crowd => Ok(Command::Crowd),
             Command::Read { id } => Ok(Command::Read { id: id.copy() }),
             Command::Write { id, message } => copy_write(alloc, id, message),
             Command::Link { id, miu, rw } => Ok(Command::Link {

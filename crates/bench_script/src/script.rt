@@ -141,6 +141,9 @@ fn lone_word(name: &[u8]) -> Result<Command, LineFault>
     if name == b"find".as_slice() {
         return Ok(Command::Find);
     }
+    if name == b"crowd".as_slice() {
+        return Ok(Command::Crowd);
+    }
     if name == b"unlink".as_slice() {
         return Ok(Command::Unlink);
     }

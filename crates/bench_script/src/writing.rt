@@ -83,6 +83,7 @@ impl Command {
             Command::Dump { id } => add_named(line, b"dump", id),
             Command::Inbox { id } => add_named(line, b"inbox", id),
             Command::Find => line.extend_from_slice(b"find"),
+            Command::Crowd => line.extend_from_slice(b"crowd"),
             Command::Read { id } => add_named(line, b"read", id),
             Command::Write { id, message } => {
                 add_named(line, b"write", id)?;

@@ -37,6 +37,8 @@ const READS: Lines = &[
     ("read 01020388050607", 1),
 ];
 
+const CROWDS: Lines = &[("crowd", 0), ("crowd ", 1), ("crowd x", 1), ("Crowd", 1)];
+
 const PLACES_T2: Lines = &[
     ("place t2 01020304 4 -", 0),
     ("place t2 01020304 256 00E1", 0),
@@ -165,7 +167,8 @@ const FINDS: Lines = &[
 #[test]
 fn lines(rt: HostRuntime) {
     let tables = [
-        SKIPPED, READS, PLACES_T2, PLACES_T5, PLACES_T4, FATES, REMOVALS, LOCKS, BUSY, DUMPS, FINDS,
+        SKIPPED, READS, PLACES_T2, PLACES_T5, PLACES_T4, FATES, REMOVALS, LOCKS, BUSY, DUMPS,
+        FINDS, CROWDS,
     ];
     for rows in tables {
         faults(&rt, rt.alloc(), rows);

@@ -8,6 +8,9 @@ returns-clause-links c = links.devices_link
 pub returns-clause-find : goal.returns-clause-find
 returns-clause-find c = laws.calm_finding
 
+pub returns-clause-crowd : goal.returns-clause-crowd
+returns-clause-crowd c = laws.calm_crowding
+
 pub returns-clause-select : goal.returns-clause-select
 returns-clause-select c = laws.calm_selecting
 
