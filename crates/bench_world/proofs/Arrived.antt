@@ -9,11 +9,11 @@ use Rattle.far_air.specs.FarEnds.{by_link}
 use Rattle.far_air.specs.FarLaws.{seen, shown}
 use Rattle.far_air.specs.FarTurns.{FarGoing}
 use Rattle.peer_air.specs.PeerFars.{peer_ends}
-use Rattle.link_calls.specs.Arriving.{Arrives, IsCounted}
+use Rattle.link_calls.specs.Arriving.{Arrives, ArrivesCut, IsCounted}
 use Rattle.bench_devices.specs.declared.device.Device.{Device}
 use Rattle.bench_devices.specs.Device.{devices, device_linked}
 use Rattle.bench_world.specs.World.{FarEnd, WholeWorld}
-use Rattle.bench_world.specs.Arriving.{ArrivesAt}
+use Rattle.bench_world.specs.Arriving.{ArrivesAt, ArrivesCutAt}
 use Rattle.bench_world.specs.Calls.{IfLinked, OfEnd}
 use Rattle.bench_world.specs.Links.{OpenLink, end_numbered}
 use Rattle.bench_world.specs.Obeying.{IsSettled, linked_at, state_at, under}
@@ -23,7 +23,7 @@ use Rattle.bench_world.proofs.OnLink.{Ends, as_many, bench, end_is, end_shown, e
 use Rattle.bench_world.proofs.Restarted.{set_there}
 
 -- what is accepted stays, whether the end is whole or not
-same_accepted : (v : Bool) (end : FarEnd) → OfEnd (λ e. e.service.accepted ≡ end.service.accepted) (by_link peer_ends v (Some end))
+pub same_accepted : (v : Bool) (end : FarEnd) → OfEnd (λ e. e.service.accepted ≡ end.service.accepted) (by_link peer_ends v (Some end))
 same_accepted true end = refl
 same_accepted false end = refl
 
@@ -71,6 +71,18 @@ module _ (air : Air Device) (ends : Ends) (peers : Peers) (l : OpenLink) (settle
     end_there l.peer place peers.numbers b.listeners os after.end (opened air ends peers l settled).number long h.0 stands_then,
     subst (λ es. IsCounted first es k.initiator.core.number) events_are h.1,
   )
+
+  -- a command that want of memory cut off
+  pub cut_at : (w : WholeWorld) → seen device_linked peer_ends (world b) os [] ≡ w → ArrivesCut first (drop (length air.trace) b.trace) (record { end = end; numbers = numbers }) after
+      → ArrivesCutAt l peers.numbers numbers (state_at (bench air ends peers l settled)).world.fars w.fars events
+  cut_at w is arrives = record {
+    old = end;
+    stood = end_is air ends peers l settled;
+    new = after;
+    arrives = subst (λ es. ArrivesCut first es (record { end = end; numbers = numbers }) after) events_are arrives;
+    accepted = subst (λ (v : WholeWorld). OfEnd (λ e. e.service.accepted ≡ after.end.service.accepted) (end_numbered l.peer peers.numbers v.fars)) is
+        (subst (OfEnd (λ e. e.service.accepted ≡ after.end.service.accepted)) (sym shown_then) (same_accepted (linked_at place b.listeners) after.end));
+  }
 
   pub came_at : (w : WholeWorld) → seen device_linked peer_ends (world b) os [] ≡ w → (link : Option OpenLink) → Arrives first (drop (length air.trace) b.trace) (record { end = end; numbers = numbers }) after → GoesOn link
       → ArrivesAt l peers.numbers numbers (state_at (bench air ends peers l settled)).world.fars w.fars events link

@@ -6,7 +6,7 @@ use Rattle.nfc_base.specs.declared.frame.Tech.TheVariants as techs
 use Rattle.nfc_base.specs.Trace.{transmissions}
 use Rattle.nfc_base.specs.declared.event.Event.{Event}
 use Rattle.nfc_base.specs.declared.event.Event.TheVariants.{Reset, Request, Answer, Clash}
-use Rattle.air_core.specs.Conversation.{Over, queue_after, receptions, FatesFrom}
+use Rattle.air_core.specs.Conversation.{Over, queue_after, receptions, replay, FatesFrom}
 use Rattle.tlv_area.specs.Form.{Message}
 use Rattle.tag_reader.specs.Kinds.{IsStoreForm}
 use Rattle.tag_writer.specs.Law.{IsEmptied, IsWritten}
@@ -15,24 +15,30 @@ use Rattle.bench_script.specs.declared.command.Command.TheVariants.{Write}
 use Rattle.bench_script.specs.declared.command.DeviceId.{DeviceId}
 use Rattle.bench_script.specs.declared.command.DeviceId.TheVariants.{A, V}
 use Rattle.bench_script.specs.declared.message.Msg.{Msg}
+use Rattle.bench_script.specs.DeviceIds.{bytes_of}
 use Rattle.bench_script.specs.Messages.{message_of}
 use Rattle.bench_devices.specs.declared.device.Device.{Device}
 use Rattle.bench_devices.specs.declared.device.Device.TheVariants.{T2, T4, Peer, T5}
 use Rattle.bench_devices.specs.declared.polling.SeenKind.{SeenKind}
 use Rattle.bench_devices.specs.declared.polling.SeenKind.TheVariants as seen
 use Rattle.bench_devices.specs.Answering.{IsNamed}
-use Rattle.bench_devices.specs.Device.{device_store, device_tech, how_of, seen_of, size_of, is_tag}
-use Rattle.bench_devices.specs.Keeping.{Fixed, fixed}
+use Rattle.bench_devices.specs.Device.{BenchWorld, air, device_id, device_store, device_tech, how_of, seen_of, size_of, is_tag}
+use Rattle.bench_devices.specs.Keeping.{Fixed, fixed, held_by}
+use Rattle.bench_devices.specs.Placed.{device_with}
+use Rattle.bench_devices.proofs.ImagesJoin.{held_kept}
 use Rattle.bench_devices.proofs.TagOrPeer.{of_tag, same_tag}
-use Rattle.bench_world.specs.Behind.{breaking, BreaksThenReads, TellsOneOfThree, BrokenIsRead}
+use Rattle.bench_world.specs.Behind.{breaking, BreaksThenReads, TellsHeld, TellsOneOfThree, FirstBrokenIsRead, BrokenIsRead}
 use Rattle.bench_world.specs.declared.entry.Entry.{Entry}
-use Rattle.bench_world.specs.Legal.{State, FrontOf, due, state_after}
+use Rattle.bench_world.specs.Legal.{State, FrontOf, begun, due, state_after}
 use Rattle.bench_world.specs.Quiet.{AllPass}
 use Rattle.bench_world.specs.Reading.{TellsOf, Tells}
+use Rattle.bench_world.specs.World.{bench_air}
+use Rattle.bench_world.proofs.FirstBroken.{first_broken}
 use Rattle.bench_world.proofs.OneForm.{tells_held}
 use Rattle.bench_world.proofs.OneJournal.{same_events}
 use Rattle.bench_world.proofs.Quiet.{quiet_reads}
-use Rattle.bench_world.proofs.WriteBehind.{Behind, Done, images_behind, last_behind, tag_behind, last_all, all_three}
+use Rattle.bench_world.proofs.WriteBehind.{Behind, Done, images_behind, last_behind, last_image, tag_behind, last_all, all_three}
+use Rattle.bench_world.proofs.WriteLegality.{found_named}
 
 -- Where a command has more transmissions than pass before a Break, none of these fates is left.
 pub none_left : (es : List Event) → queue_after [] es ≡ []
@@ -178,6 +184,25 @@ module _ (id : DeviceId) (tag : Device) (m : Msg) (read : Entry) (r : BreaksThen
   told =
       let it = tells_held (how_of tag) (size_of tag) (last_behind tag start r.broken) read.answer last_one.message last_one.is tells_tag in
       record { old = held.0; held = held.1; message = last_one.message; writable = it.0; told = it.1; three = last_one.three }
+
+  -- Where no transmission passes, the tag holds what it held before.
+  same_store : r.passes ≡ 0 → last_behind tag start r.broken ≡ device_store tag
+  same_store first =
+      let field : BenchWorld = r.before.world.field in
+      let es : List Event = r.broken.events in
+      let keeps = first_broken id r.broken_given.asked bench_air (begun start r.broken_given.joins (Write id m)) es field front.turns front.each (subst (λ n. FatesFrom (breaking n) es) first front.fates) in
+      last_image (device_id tag) field es (device_store tag) ∙ held_kept (device_id tag) field.listeners (replay air field es).listeners keeps
+      ∙ ap (λ i. held_by (device_with i field.listeners)) (found_named (bytes_of id) field.listeners tag r.placed) ∙ ap held_by r.placed
+
+  first_told : r.passes ≡ 0 → TellsHeld tag read
+  first_told first =
+      let is : IsStoreForm (how_of tag) (size_of tag) (last_behind tag start r.broken) (Message held.0) =
+      subst (λ s. IsStoreForm (how_of tag) (size_of tag) s (Message held.0)) (sym (same_store first)) held.1 in
+      let it = tells_held (how_of tag) (size_of tag) (last_behind tag start r.broken) read.answer held.0 is tells_tag in
+      record { old = held.0; held = held.1; writable = it.0; told = it.1 }
+
+pub first_broken_is_read : FirstBrokenIsRead
+first_broken_is_read id tag m read r first = first_told id tag m read r first
 
 pub broken_is_read : BrokenIsRead
 broken_is_read id tag m read r = told id tag m read r

@@ -1,6 +1,6 @@
 -- What a command that asks over the open link comes to, by what its call came to.
-use Rattle.std.proofs.Common.{◌≡◌, ◌↔◌, ◌⊎◌, ℕ, ◌<◌, List, [], ◌++◌, length, Some, None, refl, sym, ◌∙◌, ap, subst, inl, inr}
-use Rattle.std.specs.Prelude.{get_or, slice_set, drop}
+use Rattle.std.proofs.Common.{◌≡◌, ◌↔◌, ◌⊎◌, ℕ, ◌<◌, List, [], ◌++◌, length, Some, refl, sym, ◌∙◌, ap, subst, inl, inr}
+use Rattle.std.specs.Prelude.{slice_set, drop}
 use Rattle.nfc_base.specs.Choosing.{Choosing}
 use Rattle.nfc_base.specs.declared.carrier.EndCause.{EndCause}
 use Rattle.nfc_base.specs.declared.carrier.EndCause.TheVariants as cause
@@ -12,7 +12,7 @@ use Rattle.peer_air.specs.PeerFars.{peer_ends}
 use Rattle.snep_core.specs.Accord.{Accords}
 use Rattle.llcp_link.specs.Counting.{StopsCounted}
 use Rattle.snep_core.specs.Server.{Received, serving}
-use Rattle.snep_core.specs.Talk.{EndState, OnSap, Step, Ends, Task, begins}
+use Rattle.snep_core.specs.Talk.{EndState, Step, Ends, Task, begins}
 use Rattle.link_calls.specs.CallDue.{Comes, BrokenBy, call_due_at}
 use Rattle.link_calls.specs.CallTurns.{CallFront, CallTurns}
 use Rattle.link_calls.specs.Calls.{IsCutShort, IsEndedBy, IsMade}
@@ -29,8 +29,8 @@ use Rattle.bench_world.specs.declared.entry.Loss.{Loss}
 use Rattle.bench_world.specs.declared.entry.Loss.TheVariants as losses
 use Rattle.bench_world.specs.World.{FarEnd, stable}
 use Rattle.bench_world.specs.Calls.{OfEnd, told_loss, told_step, with_accepted}
-use Rattle.bench_world.specs.Links.{OpenLink, accepted_by, with_last_ended}
-use Rattle.bench_world.specs.Legal.{Joins, CutFront, CutStores, HaltAdds, PeerHalts, LeavesStable, end_of, world_after}
+use Rattle.bench_world.specs.Links.{OpenLink}
+use Rattle.bench_world.specs.Legal.{Joins, CutCame, CutFront, CutStores, HaltAdds, PeerHalts, LeavesStable, end_of, world_after}
 use Rattle.bench_world.specs.Obeying.{Machines, IsSettled, ObeyedBy, state_at, under}
 use Rattle.bench_world.specs.Opened.{IsOpen}
 use Rattle.bench_world.specs.Peers.{Peers}
@@ -91,7 +91,7 @@ module _ (air : Air Device) (ends : FarEnds) (peers : Peers) (l : OpenLink) (set
     }
 
     -- the call came to its end
-    pub made_obeyed : (jobs : List OnSap) (client : EndState) (answer : Answer) → IsMade ghosts device_end joins.own from air l.initiator counted b j after (Ends jobs client) → told_step (Ends jobs client) ≡ Some answer
+    pub made_obeyed : (jobs : _) (client : EndState) (answer : Answer) → IsMade ghosts device_end joins.own from air l.initiator counted b j after (Ends jobs client) → told_step (Ends jobs client) ≡ Some answer
         → ((loss : Loss) → answer ≡ answers.LinkEnded loss → ⊥) → AnswerSo answer → Accords client after.end → ObeyedBy joins Old (Open client) c answer
     made_obeyed jobs client answer made told never law accords =
         let t = made.turns device_linked devices_link spot (stands air ends peers l settled) ends in
@@ -128,7 +128,7 @@ module _ (air : Air Device) (ends : FarEnds) (peers : Peers) (l : OpenLink) (set
     Stores = (joins : Joins) (events : List Event) → (devices : (stable (world_after (from_state air ends peers l settled) joins c events)).devices ≡ (stable (from_state air ends peers l settled).world).devices)
         → (adds : (more : List Received) → after.end.service.accepted ≡ far.service.accepted ++ more
         → (stable (world_after (from_state air ends peers l settled) joins c events)).ends ≡ with_accepted more l.peer peers.numbers (stable (from_state air ends peers l settled).world).ends)
-        → (stays : after.end.service.accepted ≡ far.service.accepted → LeavesStable (from_state air ends peers l settled) joins c events) → CutStores (from_state air ends peers l settled) joins c events
+        → (stays : after.end.service.accepted ≡ far.service.accepted → LeavesStable (from_state air ends peers l settled) joins c events) → (came : CutCame (from_state air ends peers l settled) joins l c events) → CutStores (from_state air ends peers l settled) joins c events
 
     pub short_cut : IsCutShort ghosts device_end joins.own from air l.initiator counted b j after → Stores → (more : List Received) → after.end.service.accepted ≡ far.service.accepted ++ more → HaltAdds c far more
         → CutFront joins (from_state air ends peers l settled) c b.trace (state_at Gone) ⊎ PeerHalts joins (from_state air ends peers l settled) c b.trace (state_at Gone)
@@ -140,12 +140,12 @@ module _ (air : Air Device) (ends : FarEnds) (peers : Peers) (l : OpenLink) (set
           | inl (field, stays) ↦ inl (
               let T : Air Device → Choosing FarEnd → Type 0 = λ a e. CallTurns ghosts device_end device_linked peer_ends joins.own from l.initiator air a spot ends counted e f.standing in
               let t : T b after = subst (T b) (sym stays) (subst (λ a. T a f.half) (sym field) f.turns) in
-              short air ends peers l settled c task is b j after joins f.standing t stores cut.setting)
+              short air ends peers l settled c task is b j after joins f.standing t stores cut.setting cut.arrives)
           | inr h ↦ inr (
               let t = f.turns in
               let N = next air ends peers l settled c task is f.mid j f.half joins f.standing t in
               let P = plain air ends peers l settled c task is f.mid j f.half joins f.standing t in
               halted air ends peers l settled N P c joins f.mid f.half t.notes t.going is.still is.accepts is.asks (is.takes joins)
               (same air ends peers l settled c task is f.mid j f.half joins f.standing t) h.sent h.payload h.listeners b (ap call_due_at t.stands ∙ h.asked) h.passes h.heard h.left
-              after.end more cut.setting adds (of_end (λ e. HaltAdds c e more) fits) is.on_link)
+              after.end more cut.setting adds (of_end (λ e. HaltAdds c e more) fits) is.on_link after.numbers cut.arrives)
         ]

@@ -16,7 +16,7 @@ use Rattle.snep_core.specs.Talk.{Step, Goes, Ends, GivesUp, Puts, Gets, Finds}
 use Rattle.link_calls.specs.CallDue.{CallStanding, Carries, Comes, BrokenBy, Strays}
 use Rattle.link_calls.specs.ClosingDue.{ClosingStanding, Calls, Releasing, Released}
 use Rattle.bench_script.specs.declared.command.Command.{Command}
-use Rattle.bench_script.specs.declared.command.Command.TheVariants.{Skip, Fates, PlaceT2, PlaceT4, PlaceT5, PlacePeer, Lock, Busy, Offer as Offers, Remove, Dump, Inbox, Find, Read, Write, Link, Put, Get, Lookup, Unlink}
+use Rattle.bench_script.specs.declared.command.Command.TheVariants.{Skip, Fates, PlaceT2, PlaceT4, PlaceT5, PlacePeer, Lock, Busy, Offer as Offers, Remove, Dump, Inbox, Find, Crowd, Read, Write, Link, Put, Get, Lookup, Unlink}
 use Rattle.bench_script.specs.Messages.{message_of}
 use Rattle.bench_world.specs.declared.entry.Answer.{Answer}
 use Rattle.bench_world.specs.declared.entry.Answer.TheVariants as answers
@@ -288,6 +288,7 @@ valid_is_ok s t g e l end step up found_end valid calm = by_command e.command re
     by_command (Dump id) is v u = absurd v
     by_command (Inbox id) is v u = absurd v
     by_command Find is v u = absurd v
+    by_command Crowd is v u = absurd v
     by_command (Read id) is v u = absurd v
     by_command (Write id m) is v u = absurd v
     by_command (Link id miu window) is v u = absurd v

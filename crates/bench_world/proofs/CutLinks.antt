@@ -6,19 +6,22 @@ use Rattle.nfc_base.specs.declared.event.Event.{Event}
 use Rattle.nfc_base.specs.declared.event.Fate.{Fate}
 use Rattle.air_core.specs.Conversation.{queue_after}
 use Rattle.bench_script.specs.declared.command.Command.{Command}
-use Rattle.bench_script.specs.declared.command.Command.TheVariants.{Find, Read, Write, Link, Put, Get, Lookup, Unlink}
+use Rattle.bench_script.specs.declared.command.Command.TheVariants.{Find, Crowd, Read, Write, Link, Put, Get, Lookup, Unlink}
 use Rattle.bench_devices.specs.declared.device.Device.{Device}
 use Rattle.bench_devices.specs.Keeping.{Kept, AllStayDevices, IsSound, StaysDevice, kept}
 use Rattle.bench_world.specs.declared.entry.Answer.TheVariants as answers
 use Rattle.bench_world.specs.declared.entry.Loss.TheVariants as losses
 use Rattle.bench_world.specs.World.{FarEnd, WholeWorld, Stable}
+use Rattle.bench_world.specs.ByPayloads.{IsFrontOfPayloads}
 use Rattle.bench_world.specs.Calls.{OfEnd}
 use Rattle.bench_world.specs.Legal.{State, Given, Joins, CutFront, CutShort, CutStores, EachLegal, FrontOf, HaltLeaves, IsOnLink, PeerHalts, begun, end_of, first_state, state_after, world_after}
-use Rattle.bench_world.specs.LinkLaw.{CutLinkLaw, KeepsLinkLaw, cut_stretch}
+use Rattle.bench_world.specs.LinkLaw.{CutArrivalLaw, CutLinkLaw, KeepsLinkLaw, cut_stretch}
 use Rattle.bench_world.specs.Links.{OpenLink, ended}
 use Rattle.bench_world.specs.Peers.{Peers}
 use Rattle.bench_world.specs.Stories as told
 use Rattle.bench_world.specs.Stories.{Story, stories_of}
+use Rattle.bench_world.proofs.CutArrivals.{cut_arrived}
+use Rattle.bench_world.proofs.PayloadsKept.{kept_along}
 use Rattle.bench_world.proofs.AtNumbers.{AreHeld, held, held_none_more, more_held, same_held, with_held}
 use Rattle.bench_world.proofs.HeldOn.{nothing_sent}
 use Rattle.bench_world.proofs.LinkLaw.{all_keep, along, called, called_so, first_stand, places_behind, put_so, quietly, reset, step}
@@ -62,6 +65,8 @@ module _ (w : WholeWorld) (q : List Fate) (p : Peers) (ys : List Story) (g : Giv
   front_by : (o : Option OpenLink) (c : Command) (es : List Event) (t : State) → Stand (from o) ys → FrontOf (from o) g c es None t → CutStores (from o) g.joins c es → so o c es t
   front_by o Find es t stand front stores =
       after_front o Find es t front (reset w q p ys o stand g None Find es refl refl refl refl refl (same_held (world_after (from o) g.joins Find es) w (ap (λ (z : Stable). z.ends) stores)))
+  front_by o Crowd es t stand front stores =
+      after_front o Crowd es t front (reset w q p ys o stand g None Crowd es refl refl refl refl refl (same_held (world_after (from o) g.joins Crowd es) w (ap (λ (z : Stable). z.ends) stores)))
   front_by o (Read id) es t stand front stores =
       after_front o (Read id) es t front (reset w q p ys o stand g None (Read id) es refl refl refl refl refl (same_held (world_after (from o) g.joins (Read id) es) w (ap (λ (z : Stable). z.ends) stores)))
   front_by o (Write id m) es t stand front stores =
@@ -88,21 +93,21 @@ module _ (w : WholeWorld) (q : List Fate) (p : Peers) (ys : List Story) (g : Giv
   front_by (Some l) (Get most key) es t stand front stores =
       after_front (Some l) (Get most key) es t front
       (called w q p ys l stand g None (Get most key) es None refl refl refl refl
-      (same_held (world_after (from (Some l)) g.joins (Get most key) es) w (ap (λ (z : Stable). z.ends) stores)) refl (λ m e. absurd cc))
+      (same_held (world_after (from (Some l)) g.joins (Get most key) es) w (ap (λ (z : Stable). z.ends) stores.stays)) refl (λ m e. absurd cc))
   front_by None (Lookup name) es t stand front stores =
       quietly w q p ys None stand g None (Lookup name) es t front (nothing_sent (begun (from None) g.joins (Lookup name)) es front.turns front.each)
       (no_link (from None) (state_after (from None) g.joins (Lookup name) [] None) (cut_stretch (Lookup name) g.joins es) ys refl refl refl stand.places stand.stand)
   front_by (Some l) (Lookup name) es t stand front stores =
       after_front (Some l) (Lookup name) es t front
       (called w q p ys l stand g None (Lookup name) es None refl refl refl refl
-      (same_held (world_after (from (Some l)) g.joins (Lookup name) es) w (ap (λ (z : Stable). z.ends) stores)) refl (λ m e. absurd cc))
+      (same_held (world_after (from (Some l)) g.joins (Lookup name) es) w (ap (λ (z : Stable). z.ends) stores.stays)) refl (λ m e. absurd cc))
   front_by None Unlink es t stand front stores =
       quietly w q p ys None stand g None Unlink es t front (nothing_sent (begun (from None) g.joins Unlink) es front.turns front.each)
       (no_link (from None) (state_after (from None) g.joins Unlink [] None) (cut_stretch Unlink g.joins es) ys refl refl refl stand.places stand.stand)
   front_by (Some l) Unlink es t stand front stores =
       after_front (Some l) Unlink es t front
       (called w q p ys l stand g None Unlink es None refl refl refl refl
-      (same_held (world_after (from (Some l)) g.joins Unlink es) w (ap (λ (z : Stable). z.ends) stores)) refl (λ m e. absurd cc))
+      (same_held (world_after (from (Some l)) g.joins Unlink es) w (ap (λ (z : Stable). z.ends) stores.stays)) refl (λ m e. absurd cc))
   front_by o c es t stand front stores = absurd stores
 
 -- The peer's end stopped.
@@ -193,3 +198,16 @@ cut_link_law lines numbers journal last leads joins c cut t off =
     let same = same_behind last t (cut_stretch c joins cut) _ stand (cut_numbers last t joins c cut _ stand off) after in
     let keep = (all_keep (view_of t) t.link _ after.stand).0 in
     subst (λ zs. AllByRecursion KeepsLinkLaw (told.stories_behind last (cut_stretch c joins cut) t zs)) (sym whole) (subst (AllByRecursion KeepsLinkLaw) (sym same) keep))
+
+pub cut_arrival_law : CutArrivalLaw
+cut_arrival_law lines numbers journal last leads joins c cut t off =
+    subst (λ ns. AllByRecursion IsFrontOfPayloads (told.stories_behind last (cut_stretch c joins cut) t (stories_of ns journal))) leads.joins
+    (let ns : List Joins = map (λ (g : Given). g.joins) leads.given in
+    let stand = along first_state last leads.given journal [] first_stand leads.steps in
+    let ys : List Story = told.stories_from first_state [] ns journal in
+    let whole = same_from step first_state last leads.given journal [] [] first_stand (subst (λ es. EachLegal first_state leads.given es last) (sym (append-nil journal)) leads.steps) in
+    let after = cut_stands last t joins c cut _ stand off in
+    let same = same_behind last t (cut_stretch c joins cut) _ stand (cut_numbers last t joins c cut _ stand off) after in
+    let kept = kept_along first_state leads.given journal last [] (record { all = tt; going = tt }) leads.steps in
+    subst (λ zs. AllByRecursion IsFrontOfPayloads (told.stories_behind last (cut_stretch c joins cut) t zs)) (sym whole)
+    (subst (AllByRecursion IsFrontOfPayloads) (sym same) (cut_arrived last t joins c cut _ kept off)))

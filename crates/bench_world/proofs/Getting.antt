@@ -115,7 +115,7 @@ module _ (air : Air Device) (ends : FarEnds) (peers : Peers) (l : OpenLink) (set
           by_loss cause.Memory e = absurd cc
 
       pub get_short : IsCutShort ghosts device_end joins.own (begins l.client (Gets most key)) air l.initiator (record { end = far; numbers = joins.far }) b j after → after.end.service.accepted ≡ far.service.accepted → IsCutOffBy joins Old gone (Get most key)
-      get_short cut same = inr (short_cut air ends peers l settled (Get most key) (Gets most key) get_call joins b j after cut (λ joined events devices adds stays. stays same) [] (same ∙ sym (append-nil far.service.accepted)) refl)
+      get_short cut same = inr (short_cut air ends peers l settled (Get most key) (Gets most key) get_call joins b j after cut (λ joined events devices adds stays came. record { came = came; stays = stays same }) [] (same ∙ sym (append-nil far.service.accepted)) refl)
 
   module _ (name : List ℕ) (may : Accepts (from_state air ends peers l settled) (Lookup name)) where
     pub lookup_call : IsCall air ends peers l settled (Lookup name) (Finds name)
@@ -173,4 +173,4 @@ module _ (air : Air Device) (ends : FarEnds) (peers : Peers) (l : OpenLink) (set
           by_loss cause.Memory e = absurd cc
 
       pub lookup_short : IsCutShort ghosts device_end joins.own (begins l.client (Finds name)) air l.initiator (record { end = its; numbers = joins.far }) b j after → after.end.service.accepted ≡ its.service.accepted → IsCutOffBy joins Was lookup_gone (Lookup name)
-      lookup_short cut same = inr (short_cut air ends peers l settled (Lookup name) (Finds name) lookup_call joins b j after cut (λ joined events devices adds stays. stays same) [] (same ∙ sym (append-nil its.service.accepted)) refl)
+      lookup_short cut same = inr (short_cut air ends peers l settled (Lookup name) (Finds name) lookup_call joins b j after cut (λ joined events devices adds stays came. record { came = came; stays = stays same }) [] (same ∙ sym (append-nil its.service.accepted)) refl)

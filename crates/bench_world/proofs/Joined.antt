@@ -5,7 +5,7 @@ use Rattle.std.specs.List.{flat_map}
 use Rattle.std.proofs.lemmas.List.{take-append-drop, length-append}
 use Rattle.bench_world.specs.declared.entry.Received.{Received}
 use Rattle.bench_world.specs.declared.entry.Seen.{Seen}
-use Rattle.bench_world.specs.Report.{seen_text, received_text}
+use Rattle.bench_world.specs.Report.{seen_text, received_text, tag_text}
 use Rattle.hex.specs.Hex.{encode_with, encode_upper, upper_digits}
 use Rattle.bench_script.specs.Canonical.{hex_text}
 
@@ -108,6 +108,20 @@ pub tail_piece : (head bytes tail piece after : List ℕ) (devices : List Seen) 
 tail_piece head bytes tail piece after devices messages none few gone read is over =
     last_left head bytes tail devices messages none few gone read ∙ sym is ∙ sym (append-nil piece)
     ∙ ap (λ x. piece ++ x) (sym (last_left head bytes after devices messages none few gone read ∙ over))
+
+-- a Type 5 tag is a piece
+pub tag_piece : (head bytes tail piece : List ℕ) (devices : List Seen) (messages : List Received) (tags ts : List (List ℕ)) (t : List ℕ) → head ≡ [] → bytes ≡ [] → devices ≡ [] → messages ≡ [] → tags ≡ t ∷ ts → piece ≡ tag_text t
+    → head ++ (encode_upper bytes ++ (flat_map seen_text devices ++ (flat_map received_text messages ++ (flat_map tag_text tags ++ tail))))
+    ≡ piece ++ (head ++ (encode_upper bytes ++ (flat_map seen_text devices ++ (flat_map received_text messages ++ (flat_map tag_text ts ++ tail)))))
+tag_piece head bytes tail piece devices messages tags ts t none few gone read parts is =
+    last_left head bytes (flat_map tag_text tags ++ tail) devices messages none few gone read
+    ∙ ap (λ x. flat_map tag_text x ++ tail) parts ∙ append_assoc (tag_text t) (flat_map tag_text ts) tail
+    ∙ ap (λ x. x ++ (flat_map tag_text ts ++ tail)) (sym is)
+    ∙ ap (λ x. piece ++ x) (sym (last_left head bytes (flat_map tag_text ts ++ tail) devices messages none few gone read))
+
+-- what is left behind the tags
+pub behind_tags : (tail : List ℕ) (tags : List (List ℕ)) → tags ≡ [] → flat_map tag_text tags ++ tail ≡ tail
+behind_tags tail tags gone = ap (λ x. flat_map tag_text x ++ tail) gone
 
 pub less_left : (old piece new : List ℕ) → old ≡ piece ++ new → 0 < length piece → length new < length old
 less_left old piece new is some = omega (arith, some, ap length is, length-append piece new)

@@ -1,5 +1,5 @@
 -- Commands that were obeyed, and journals.
-use Rattle.std.proofs.Common.{◌≡◌, ◌↔◌, ℕ, ◌+◌, ◌<◌, List, [], ◌∷◌, ◌++◌, map, length, true, false, Option, Some, None, Result, Ok, Err, refl, sym, ◌∙◌, ap, subst, arith, inl, inr}
+use Rattle.std.proofs.Common.{◌≡◌, ◌↔◌, ℕ, ◌+◌, ◌<◌, List, [], ◌∷◌, ◌++◌, map, length, true, false, Option, Some, None, IsSome, ◌⊎◌, Result, Ok, Err, refl, sym, ◌∙◌, ap, subst, arith, inl, inr}
 use Rattle.std.proofs.lemmas.Bool.{cases_lt}
 use Rattle.std.proofs.lemmas.List.{append-nil}
 use Rattle.nfc_base.specs.declared.event.Event.{Event}
@@ -17,9 +17,10 @@ use Rattle.nfca_poll.specs.Enquiry.{Enquiry}
 use Rattle.nfca_poll.specs.Inventory.{picking_v}
 use Rattle.nfca_poll.specs.Rounds.{picking}
 use Rattle.bench_script.specs.declared.command.Command.{Command}
-use Rattle.bench_script.specs.declared.command.Command.TheVariants.{Find, Read}
+use Rattle.bench_script.specs.declared.command.Command.TheVariants.{Find, Crowd, Read}
 use Rattle.bench_script.specs.declared.command.DeviceId.{DeviceId}
 use Rattle.bench_script.specs.declared.command.DeviceId.TheVariants.{A, V}
+use Rattle.bench_devices.specs.Crowding.{crowding, Crowds, CrowdsField, CrowdCut}
 use Rattle.bench_devices.specs.declared.device.Device.{Device}
 use Rattle.bench_devices.specs.declared.device.Device.TheVariants.{T2, T4, Peer, T5}
 use Rattle.bench_world.specs.declared.entry.Answer.{Answer}
@@ -27,7 +28,7 @@ use Rattle.bench_world.specs.declared.entry.Answer.TheVariants as answers
 use Rattle.bench_devices.specs.declared.polling.SeenKind.{SeenKind}
 use Rattle.bench_devices.specs.declared.polling.SeenKind.TheVariants as seen
 use Rattle.bench_devices.specs.CardAsking.{tag_next}
-use Rattle.bench_world.specs.Answering.{TagTells, TellsFault, TellsFound, CutTag, poll_answer, told_by}
+use Rattle.bench_world.specs.Answering.{TagTells, TellsFault, TellsFound, CutTag, tags_answer, poll_answer, told_by}
 use Rattle.bench_devices.specs.TagAsking.{then_asks, tag_due}
 use Rattle.bench_devices.specs.Device.{air, devices, device_linked, StablePart, stable_of, device_store, how_of, size_of, seen_of, is_tag, IfTag}
 use Rattle.bench_devices.specs.Answering.{TellsBy, GoesOnBy}
@@ -228,6 +229,18 @@ search_obeyed old new r answer idle s told = λ ends peers places.
     (record {
       tells = found_told r answer told old.listeners s.asked.going.events s.tells;
       stays = stable_behind (moment old).world g.events os.ends (none_in Find (λ h. h) os old new [] s.asked.notes g refl) (stores_stay old new g.events world s.asked.same);
+    }) s.asked.same
+
+-- all Type 5 tags were searched for
+pub crowd_obeyed : (old new : Air Device) (r : Result (List (List ℕ)) PollFault) (answer : Answer) → IsIdle old → Crowds (moment old) (moment new) r → tags_answer r ≡ Some answer → ObeyedUnlinked old new Crowd answer
+crowd_obeyed old new r answer idle s told = λ ends peers places.
+    let os : Upon = record { ends = ends; peers = peers; link = None } in
+    let g : Going air (due (above os old) (asks_for []) Crowd) (moment old) (moment new) s.asked.notes = s.asked.going in
+    let world : (moment new).world ≡ replay air (moment old).world g.events = ap (λ (t : Moment (World Device)). t.world) g.moment in
+    asks_obeyed NoStore Crowd (λ h. h) os old new [] s.asked.notes answer idle places tt tt refl g s.asked.over refl
+    (record {
+      tells = record { found = r; tells = s.tells; answered = told };
+      stays = stable_behind (moment old).world g.events os.ends (none_in Crowd (λ h. h) os old new [] s.asked.notes g refl) (stores_stay old new g.events world s.asked.same);
     }) s.asked.same
 
 -- each device has a list of what a read asks of it
@@ -512,6 +525,42 @@ search_cut old new idle part = λ ends peers.
       front_of None Find (λ h. h) os old new [] part.notes idle tt refl part.going refl,
       part_stays os.ends old new part.going.events idle part.going.moment part.same (none_in Find (λ h. h) os old new [] part.notes part.going refl),
     )
+
+pub crowd_cut : (old new : Air Device) → IsIdle old → AskedPart NoStore crowding (moment old) (moment new) → CutOffUnlinked old new Crowd
+crowd_cut old new idle part = λ ends peers.
+    let os : Upon = record { ends = ends; peers = peers; link = None } in (
+      asks_for [],
+      refl,
+      front_of None Crowd (λ h. h) os old new [] part.notes idle tt refl part.going refl,
+      part_stays os.ends old new part.going.events idle part.going.moment part.same (none_in Crowd (λ h. h) os old new [] part.notes part.going refl),
+    )
+
+-- so much was asked, whatever it came to
+pub crowd_part : (old new : Moment (World Device)) (r : Result (List (List ℕ)) PollFault) → CrowdsField old new r → CrowdCut old new r → AskedPart NoStore crowding old new
+crowd_part old new (Ok ids) tells cut = let s : Crowds old new (Ok ids) = tells (λ e. cc) in record { notes = s.asked.notes; going = s.asked.going; same = s.asked.same }
+crowd_part old new (Err faults.Nobody) tells cut = let s : Crowds old new (Err faults.Nobody) = tells (λ e. cc) in record { notes = s.asked.notes; going = s.asked.going; same = s.asked.same }
+crowd_part old new (Err faults.Disturbed) tells cut = let s : Crowds old new (Err faults.Disturbed) = tells (λ e. cc) in record { notes = s.asked.notes; going = s.asked.going; same = s.asked.same }
+crowd_part old new (Err faults.FieldLost) tells cut = let s : Crowds old new (Err faults.FieldLost) = tells (λ e. cc) in record { notes = s.asked.notes; going = s.asked.going; same = s.asked.same }
+crowd_part old new (Err faults.Memory) tells cut = cut refl
+crowd_part old new (Err faults.NotFound) tells cut = let s : Crowds old new (Err faults.NotFound) = tells (λ e. cc) in record { notes = s.asked.notes; going = s.asked.going; same = s.asked.same }
+crowd_part old new (Err faults.BadAnswer) tells cut = let s : Crowds old new (Err faults.BadAnswer) = tells (λ e. cc) in record { notes = s.asked.notes; going = s.asked.going; same = s.asked.same }
+
+pub crowd_fed : (e : PollFault) (answer : Answer) → poll_answer e ≡ Some answer → ◌≡◌ {A = Result (List (List ℕ)) PollFault} (Err e) (Err faults.Memory) → ⊥
+crowd_fed faults.Nobody answer told m = cc
+crowd_fed faults.Disturbed answer told m = cc
+crowd_fed faults.FieldLost answer told m = cc
+crowd_fed faults.Memory answer told m = cc
+crowd_fed faults.NotFound answer told m = cc
+crowd_fed faults.BadAnswer answer told m = cc
+
+-- the faults by which it may end
+pub may_crowd : (old new : Moment (World Device)) (e : PollFault) → CrowdsField old new (Err e) → IsSome (poll_answer e) ⊎ (e ≡ faults.Memory)
+may_crowd old new faults.Nobody tells = let s : Crowds old new (Err faults.Nobody) = tells (λ e. cc) in absurd (s.tells.causes.nobody refl)
+may_crowd old new faults.Disturbed tells = inl refl
+may_crowd old new faults.FieldLost tells = inl refl
+may_crowd old new faults.Memory tells = inr refl
+may_crowd old new faults.NotFound tells = inl refl
+may_crowd old new faults.BadAnswer tells = let s : Crowds old new (Err faults.BadAnswer) = tells (λ e. cc) in absurd (s.tells.crowd.never_bad refl)
 
 -- nothing was asked of the tag yet
 pub polled_tag : (old new : Air Device) (id : DeviceId) (asked : List Signal) → IsIdle old → SelectionCut id (moment old) (moment new) → CutTag id asked new.trace

@@ -22,8 +22,10 @@ mod SelectedPlace
 pub mod AskedBehind
 pub mod Outcomes
 pub mod Benches
+mod FirstBroken
 pub mod BrokenRead
 pub mod Complete
+pub mod CompleteTags
 pub mod CompleteLinks
 pub mod OneForm
 pub mod WriteTelling
@@ -76,5 +78,6 @@ pub mod StoriesOnLink
 pub mod SameStories
 pub mod LinkLaw
 pub mod Unfinished
+pub mod CutArrivals
 pub mod CutLinks
 pub mod PeersNumbered

@@ -8,7 +8,7 @@ use Rattle.air_core.specs.Conversation.{queue_after}
 use Rattle.snep_core.specs.Server.{Received as Accepted}
 use Rattle.snep_core.specs.Talk.{Puts, Gets, Finds}
 use Rattle.bench_script.specs.declared.command.Command.{Command}
-use Rattle.bench_script.specs.declared.command.Command.TheVariants.{Skip, Fates, PlaceT2, PlaceT4, PlaceT5, PlacePeer, Lock, Busy, Offer, Remove, Dump, Inbox, Find, Read, Write, Link, Put, Get, Lookup, Unlink}
+use Rattle.bench_script.specs.declared.command.Command.TheVariants.{Skip, Fates, PlaceT2, PlaceT4, PlaceT5, PlacePeer, Lock, Busy, Offer, Remove, Dump, Inbox, Find, Crowd, Read, Write, Link, Put, Get, Lookup, Unlink}
 use Rattle.bench_script.specs.declared.command.DeviceId.{DeviceId}
 use Rattle.bench_script.specs.DeviceIds.{bytes_of}
 use Rattle.bench_script.specs.Messages.{message_of}
@@ -281,6 +281,8 @@ module _ (w : WholeWorld) (q : List Fate) (p : Peers) (ys : List Story) (g : Giv
       (nothing_changed w q p ys o stand g (Some a) (Inbox id) es refl refl refl refl refl stand.places)
   step_by o Find es t stand front law =
       after_front o Find es t front (reset w q p ys o stand g (Some a) Find es refl refl refl refl refl (same_held (world_after (from o) g.joins Find es) w (ap (λ (z : Stable). z.ends) law.stays)))
+  step_by o Crowd es t stand front law =
+      after_front o Crowd es t front (reset w q p ys o stand g (Some a) Crowd es refl refl refl refl refl (same_held (world_after (from o) g.joins Crowd es) w (ap (λ (z : Stable). z.ends) law.stays)))
   step_by o (Read id) es t stand front law =
       after_front o (Read id) es t front (reset w q p ys o stand g (Some a) (Read id) es refl refl refl refl refl (same_held (world_after (from o) g.joins (Read id) es) w (ap (λ (z : Stable). z.ends) law.stays)))
   step_by o (Write id m) es t stand front law =

@@ -21,8 +21,8 @@ use Rattle.far_air.specs.FarLaws.{seen, shown}
 use Rattle.far_air.specs.FarTurns.{FarGoing}
 use Rattle.peer_air.specs.PeerFars.{peer_ends}
 use Rattle.snep_core.specs.Server.{Received}
-use Rattle.snep_core.specs.Talk.{EndState, OnSap, Step, Ends, Task, begins}
-use Rattle.link_calls.specs.Arriving.{Arrives}
+use Rattle.snep_core.specs.Talk.{EndState, Step, Ends, Task, begins}
+use Rattle.link_calls.specs.Arriving.{Arrives, ArrivesCut}
 use Rattle.link_calls.specs.CallDue.{CallStanding, Comes, BrokenBy, call_stand, call_due, call_due_at}
 use Rattle.link_calls.specs.CallTurns.{CallTurns}
 use Rattle.link_calls.specs.Staying.{setting_of}
@@ -40,15 +40,15 @@ use Rattle.bench_world.specs.declared.entry.Loss.TheVariants as losses
 use Rattle.bench_world.specs.World.{FarEnd, WholeWorld, Stable, bench_air, stable}
 use Rattle.bench_world.specs.Calls.{IsTold, OfEnd, link_behind, stands_on, told_call, told_loss, told_step, with_accepted}
 use Rattle.bench_world.specs.Links.{OpenLink, accepted_by, end_numbered, ended, ended_unless, with_last_ended}
-use Rattle.bench_world.specs.Arriving.{ArrivesAt}
-use Rattle.bench_world.specs.Legal.{State, Given, Joins, Accepts, AnswerLaw, Came, CutFront, CutStores, FrontOf, HaltAdds, HaltLeaves, IsAskedBy, IsOnLink, LeavesStable, PeerHalts, begun, changed, due, end_of, joins_for, link_after, peers_after, state_after, world_after}
-use Rattle.bench_world.specs.Obeying.{Machines, HasPlaces, IsSettled, KeepsLink, ObeyedBy, state_at, under}
+use Rattle.bench_world.specs.Arriving.{ArrivesAt, ArrivesCutAt}
+use Rattle.bench_world.specs.Legal.{State, Given, Joins, Accepts, AnswerLaw, Came, CutCame, CutFront, CutStores, FrontOf, HaltAdds, HaltLeaves, IsAskedBy, IsOnLink, LeavesStable, PeerHalts, begun, changed, due, end_of, joins_for, link_after, peers_after, state_after, world_after}
+use Rattle.bench_world.specs.Obeying.{Machines, HasPlaces, IsSettled, KeepsLink, ObeyedBy, linked_at, state_at, under}
 use Rattle.bench_world.specs.Opened.{AreNumbered, AreServed}
 use Rattle.bench_world.specs.Peers.{Peers, next_number}
-use Rattle.bench_world.proofs.Arrived.{GoesOn, came_at}
+use Rattle.bench_world.proofs.Arrived.{GoesOn, came_at, cut_at, same_accepted}
 use Rattle.bench_world.proofs.CallNotes.{IsPlainNext, call_broken, call_lost, calls_plain}
 use Rattle.bench_world.proofs.Quiet.{no_breaks}
-use Rattle.bench_world.proofs.OnLink.{Ends as FarEnds, accepted_now, accepted_there, as_many, bare, bare_alike, bare_more, devices_stay, ends_more, ends_same, first, going, kept_long, leaves, now, opened, own, queue_is, served, set_long, tame, trace_is, world_is}
+use Rattle.bench_world.proofs.OnLink.{Ends as FarEnds, accepted_now, accepted_there, as_many, bare, bare_alike, bare_more, devices_stay, end_is, end_shown, ends_more, ends_same, first, going, kept_long, leaves, now, opened, own, queue_is, served, set_long, tame, trace_is, world_is}
 use Rattle.bench_world.proofs.Restarted.{set_there}
 
 -- what a step of a call is said for
@@ -188,7 +188,8 @@ module _ (air : Air Device) (ends : FarEnds) (peers : Peers) (l : OpenLink) (set
 
       -- ... and left by that
       module _ (stopped : FarEnd) (more : List Received) (set : setting_of stopped ≡ setting_of end) (adds : stopped.service.accepted ≡ end.service.accepted ++ more)
-          (fits : OfEnd (λ e. HaltAdds c e more) (end_of from_state l)) (on_link : IsOnLink c) where
+          (fits : OfEnd (λ e. HaltAdds c e more) (end_of from_state l)) (on_link : IsOnLink c) (counts : List ℕ)
+          (came : ArrivesCut l.initiator.core.number (drop (length air.trace) d.trace) (record { end = end; numbers = joins.far }) (record { end = stopped; numbers = counts })) where
         abbrev ends_left : FarEnds
         ends_left = slice_set ends place (Some stopped)
 
@@ -217,6 +218,19 @@ module _ (air : Air Device) (ends : FarEnds) (peers : Peers) (l : OpenLink) (set
           link = refl;
         }
 
+        halt_came : ArrivesCutAt l peers.numbers joins.far from_state.world.fars (state_at halted_then).world.fars d.trace
+        halt_came =
+            let C : FarEnd → List ℕ → Choosing FarEnd = λ e ns. record { end = e; numbers = ns } in
+            let none : drop (length air.trace) d.trace ≡ d.trace = ap (λ xs. drop (length xs) d.trace) settled.idle.quiet in
+            record {
+              old = end;
+              stood = end_is air ends peers l settled;
+              new = C stopped counts;
+              arrives = subst (λ xs. ArrivesCut l.initiator.core.number xs (C end joins.far) (C stopped counts)) none came;
+              accepted = subst (OfEnd (λ e. e.service.accepted ≡ stopped.service.accepted))
+                  (sym (end_shown l.peer place peers.numbers d.listeners ends_left stopped (opened air ends peers l settled).number (settled.places.numbers ∙ sym long) there)) (same_accepted (linked_at place d.listeners) stopped);
+            }
+
         pub halted : PeerHalts joins from_state c d.trace (state_at halted_then)
         halted = record {
           on_link = on_link;
@@ -234,6 +248,7 @@ module _ (air : Air Device) (ends : FarEnds) (peers : Peers) (l : OpenLink) (set
           on = l;
           open_ = refl;
           leaves = halt_leaves;
+          came = halt_came;
         }
 
   -- A command that asks over the link by a call of this task.
@@ -332,7 +347,7 @@ module _ (air : Air Device) (ends : FarEnds) (peers : Peers) (l : OpenLink) (set
       over_at : call_due_at standing ≡ Over → next t.notes ≡ Over
       over_at e = ap call_due_at t.stands ∙ e
 
-      pub came : setting_of after.end ≡ setting_of end → (jobs : List OnSap) (client : EndState) → standing ≡ Comes (Ends jobs client) j → (answer : Answer) → told_step (Ends jobs client) ≡ Some answer
+      pub came : setting_of after.end ≡ setting_of end → (jobs : _) (client : EndState) → standing ≡ Comes (Ends jobs client) j → (answer : Answer) → told_step (Ends jobs client) ≡ Some answer
           → ((loss : Loss) → answer ≡ answers.LinkEnded loss → ⊥) → (noise events ≡ 0 → bad_receptions events ≡ 0) → Law answer → Arrived (Some (record { peer = l.peer; initiator = j; client = client })) → KeepsLink (open_then client)
           → ObeyedBy joins (under ends peers (Some l) air) (open_then client) c answer
       came set jobs client comes answer told never calm law arrived keeps =
@@ -374,11 +389,12 @@ module _ (air : Air Device) (ends : FarEnds) (peers : Peers) (l : OpenLink) (set
       pub short : ((joins : Joins) (events : List Event) → (devices : (stable (world_after from_state joins c events)).devices ≡ (stable from_state.world).devices)
           → (adds : (more : List Received) → after.end.service.accepted ≡ end.service.accepted ++ more
           → (stable (world_after from_state joins c events)).ends ≡ with_accepted more l.peer peers.numbers (stable from_state.world).ends)
-          → (stays : after.end.service.accepted ≡ end.service.accepted → LeavesStable from_state joins c events) → CutStores from_state joins c events)
-          → setting_of after.end ≡ setting_of end → CutFront joins from_state c b.trace (state_at gone_then)
-      short stores set =
+          → (stays : after.end.service.accepted ≡ end.service.accepted → LeavesStable from_state joins c events) → (came : CutCame from_state joins l c events) → CutStores from_state joins c events)
+          → setting_of after.end ≡ setting_of end → ArrivesCut l.initiator.core.number (drop (length air.trace) b.trace) (record { end = end; numbers = joins.far }) after → CutFront joins from_state c b.trace (state_at gone_then)
+      short stores set arrived =
           cut_off next plain c joins b after t.notes t.going is.still is.accepts is.asks (is.takes joins) same None (with_last_ended (accepted_by (get_or (slice_set ends place (Some after.end)) place None)) peers)
           (is.link_off joins events) (gone_peers None (is.link_off joins events))
           (stores joins events (devices_then next plain c joins b after t.notes t.going is.still is.accepts is.asks (is.takes joins) same)
           (λ more e. ends_then next plain c joins b after t.notes t.going is.still is.accepts is.asks (is.takes joins) same more set e)
-          (λ e. stays_then next plain c joins b after t.notes t.going is.still is.accepts is.asks (is.takes joins) same set e))
+          (λ e. stays_then next plain c joins b after t.notes t.going is.still is.accepts is.asks (is.takes joins) same set e)
+          (cut_at air ends peers l settled next plain b joins.far after t.notes t.going (world_after from_state joins c events) (world_then next plain c joins b after t.notes t.going is.still is.accepts is.asks (is.takes joins) same) arrived))

@@ -18,7 +18,7 @@ use Rattle.snep_core.specs.Accord.{IsClosed}
 use Rattle.llcp_link.specs.Counting.{StopsCounted}
 use Rattle.snep_core.specs.Server.{ServerState, serving}
 use Rattle.snep_core.specs.Talk.{EndState, Step, Leaves, begins}
-use Rattle.link_calls.specs.Arriving.{Arrives}
+use Rattle.link_calls.specs.Arriving.{Arrives, ArrivesCut}
 use Rattle.link_calls.specs.CallDue.{BrokenBy, call_due}
 use Rattle.link_calls.specs.ClosingDue.{ClosingStanding, Calls, Released, closing_due, closing_due_at, closing_stand}
 use Rattle.link_calls.specs.Closing.{ClosingFront, ClosingTurns, IsClosingShort, IsLost, IsReleased, SendsRls}
@@ -40,7 +40,7 @@ use Rattle.bench_world.specs.Legal.{Joins, CutFront, HaltAdds, PeerHalts, due, p
 use Rattle.bench_world.specs.Obeying.{Machines, IsCutOffBy, IsSettled, ObeyedBy, state_at, under}
 use Rattle.bench_world.specs.Peers.{Peers}
 use Rattle.bench_world.specs.World.{bench_air}
-use Rattle.bench_world.proofs.Arrived.{came_at}
+use Rattle.bench_world.proofs.Arrived.{came_at, cut_at}
 use Rattle.bench_world.proofs.CallEnds.{of_end}
 use Rattle.bench_world.proofs.CallNotes.{IsPlainNext, calls_plain, closing_broken, closing_lost, closings_plain}
 use Rattle.bench_world.proofs.CallCalm.{IsCalm, added_calm, calm_then, made_calm}
@@ -111,11 +111,15 @@ module _ (air : Air Device) (ends : FarEnds) (peers : Peers) (l : OpenLink) (set
           stays = stays_then air ends peers l settled next plain Unlink joins b after t.notes t.going refl tt refl refl same set accepted;
         }) set refl refl tt
 
-    pub closing_cut : setting_of after.end ≡ setting_of far → after.end.service.accepted ≡ far.service.accepted → CutFront joins (from_state air ends peers l settled) Unlink b.trace (state_at gone)
-    closing_cut set accepted =
+    pub closing_cut : setting_of after.end ≡ setting_of far → after.end.service.accepted ≡ far.service.accepted → ArrivesCut l.initiator.core.number (drop (length air.trace) b.trace) counted after → CutFront joins (from_state air ends peers l settled) Unlink b.trace (state_at gone)
+    closing_cut set accepted arrives =
         cut_off air ends peers l settled next plain Unlink joins b after t.notes t.going refl tt refl refl same None
         (with_last_ended (accepted_by (get_or (slice_set ends spot (Some after.end)) spot None)) peers) refl (gone_peers None)
-        (stays_then air ends peers l settled next plain Unlink joins b after t.notes t.going refl tt refl refl same set accepted)
+        (record {
+          came = cut_at air ends peers l settled next plain b joins.far after t.notes t.going (world_after (from_state air ends peers l settled) joins Unlink events)
+              (world_then air ends peers l settled next plain Unlink joins b after t.notes t.going refl tt refl refl same) arrives;
+          stays = stays_then air ends peers l settled next plain Unlink joins b after t.notes t.going refl tt refl refl same set accepted;
+        })
 
   -- no device hands anything over at RLS_REQ
   module _ (quiet : (d : Device) → devices.handed d rls_frame ≡ Untouched) (j : InitState) (client : EndState) where
@@ -196,11 +200,11 @@ module _ (air : Air Device) (ends : FarEnds) (peers : Peers) (l : OpenLink) (set
           | inl (field, stays) ↦ inl (
               let T : Air Device → Choosing FarEnd → Type 0 = λ a e. ClosingTurns ghosts device_linked peer_ends joins.own from l.initiator air a spot ends counted e f.standing in
               let t : T b after = subst (T b) (sym stays) (subst (λ a. T a f.half) (sym field) f.turns) in
-              closing_cut f.standing t (s.setting quiet) accepted)
+              closing_cut f.standing t (s.setting quiet) accepted (s.arrives quiet))
           | inr (inl h) ↦ inr (
               let t = f.turns in
               halted air ends peers l settled (closing_due joins.own from l.initiator) (closings_plain joins.own from l.initiator) Unlink joins f.mid f.half t.notes t.going refl tt refl refl (λ ns. refl)
               h.sent h.payload h.listeners b (ap closing_due_at t.stands ∙ h.asked) h.passes h.heard h.left
-              after.end [] (s.setting quiet) (accepted ∙ sym (append-nil far.service.accepted)) (of_end air ends peers l settled (λ e. HaltAdds Unlink e []) refl) tt)
+              after.end [] (s.setting quiet) (accepted ∙ sym (append-nil far.service.accepted)) (of_end air ends peers l settled (λ e. HaltAdds Unlink e []) refl) tt after.numbers (s.arrives quiet))
           | inr (inr h) ↦ absurd (h.hands quiet)
         ]

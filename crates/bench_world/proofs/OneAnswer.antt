@@ -1,5 +1,5 @@
 -- What happened decides what a command that polls answers.
-use Rattle.std.proofs.Common.{◌≡◌, ℕ, List, [], ◌∷◌, Option, Some, None, Result, Ok, Err, sym, ◌∙◌, subst}
+use Rattle.std.proofs.Common.{◌≡◌, ℕ, List, [], ◌∷◌, Option, Some, None, Result, Ok, Err, sym, ◌∙◌, ap, subst}
 use Rattle.nfc_base.specs.Signal.{Signal}
 use Rattle.nfc_base.specs.declared.event.Event.{Event}
 use Rattle.nfc_base.specs.declared.tag_link.AskFault.TheVariants as asking
@@ -24,7 +24,7 @@ use Rattle.isodep_link.specs.Asking as exchange
 use Rattle.bench_devices.specs.declared.polling.SeenKind.{SeenKind}
 use Rattle.bench_devices.specs.declared.polling.SeenKind.TheVariants as seen
 use Rattle.bench_devices.specs.CardAsking.{CardStanding, Activates, Exchanges, card_stands}
-use Rattle.bench_world.specs.Answering.{TellsFault, TagEnds, TagTells, TellsFound}
+use Rattle.bench_world.specs.Answering.{TellsFault, TagEnds, TagTells, TellsFound, TagsTell, tags_answer}
 use Rattle.bench_devices.specs.Answering.{TellsStanding, TellsExchange, TellsCard, TellsBy, InventoryEnds, FindEnds, FindTells}
 use Rattle.dep_link.specs.Activating.{atr_frame}
 use Rattle.bench_world.specs.Calls.{IfLinked, IsTold}
@@ -133,6 +133,15 @@ module _ (ds : List Device) where
       let ends : FindEnds TellsFound ds p.found p.behind events b =
       subst (λ ns. FindEnds TellsFound ds p.found ns events b) same.1 (subst (λ r. FindEnds TellsFound ds r q.behind events b) same.0 q.ends) in
       one_find_end p.found p.behind events a b p.ends ends
+
+-- A search for Type 5 tags has one answer.
+pub one_tags : (ds : List Device) (events : List Event) (a b : Answer) → TagsTell ds events a → TagsTell ds events b → a ≡ b
+one_tags ds events a b p q =
+    let same : p.found ≡ q.found = p.tells.told ∙ sym q.tells.told in
+    one_some a b (sym p.answered ∙ ap tags_answer same ∙ q.answered)
+  where
+    one_some : (a b : Answer) → ◌≡◌ {A = Option Answer} (Some a) (Some b) → a ≡ b
+    one_some a b e = cc
 
 -- An opening of a link has one answer.
 one_opened : (n : ℕ) (s : Standing) → AtMostOne (TellsStanding (λ answer. answer ≡ answers.Linked n) TellsLoss s)

@@ -116,6 +116,7 @@ module _ (how : How) (size : ℕ) (store : List ℕ) where
   tells_form (answers.Store bytes) t = absurd t
   tells_form (answers.Inbox messages) t = absurd t
   tells_form (answers.Found devices crowd) t = absurd t
+  tells_form (answers.Crowd tags) t = absurd t
   tells_form answers.Disturbed t = absurd t
   tells_form answers.FieldLost t = absurd t
   tells_form answers.NotFound t = absurd t

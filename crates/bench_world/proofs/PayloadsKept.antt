@@ -11,7 +11,7 @@ use Rattle.snep_core.specs.Server.{offered}
 use Rattle.snep_core.specs.Talk.{Ends as Finishes, Finds, Gets, GivesUp, Goes, Puts}
 use Rattle.link_calls.specs.CallDue.{CallStanding, Carries, Comes, BrokenBy, Strays}
 use Rattle.bench_script.specs.declared.command.Command.{Command}
-use Rattle.bench_script.specs.declared.command.Command.TheVariants.{Skip, Fates, PlaceT2, PlaceT4, PlaceT5, PlacePeer, Lock, Busy, Offer, Remove, Dump, Inbox, Find, Read, Write, Link, Put, Get, Lookup, Unlink}
+use Rattle.bench_script.specs.declared.command.Command.TheVariants.{Skip, Fates, PlaceT2, PlaceT4, PlaceT5, PlacePeer, Lock, Busy, Offer, Remove, Dump, Inbox, Find, Crowd, Read, Write, Link, Put, Get, Lookup, Unlink}
 use Rattle.bench_script.specs.declared.command.DeviceId.{DeviceId}
 use Rattle.bench_script.specs.declared.message.Msg.{Msg}
 use Rattle.bench_script.specs.DeviceIds.{bytes_of}
@@ -304,6 +304,7 @@ module _ (s : State) (g : Given) (ys : List Story) (h : KeptIn s ys) where
   step_kept (Dump id) es answer turns each law = quiet (Dump id) es answer (λ ns. refl) turns each refl (same_kept (Dump id) answer refl refl refl)
   step_kept (Inbox id) es answer turns each law = quiet (Inbox id) es answer (λ ns. refl) turns each refl (same_kept (Inbox id) answer refl refl refl)
   step_kept Find es answer turns each law = none_open Find es answer refl refl refl
+  step_kept Crowd es answer turns each law = none_open Crowd es answer refl refl refl
   step_kept (Read id) es answer turns each law = none_open (Read id) es answer refl refl refl
   step_kept (Write id m) es answer turns each law = none_open (Write id m) es answer refl refl refl
   step_kept (Link id miu rw) es answer turns each law = link_kept id miu rw es answer law
@@ -313,12 +314,16 @@ module _ (s : State) (g : Given) (ys : List Story) (h : KeptIn s ys) where
   step_kept Unlink es answer turns each law = unlink_kept es answer law
 
 -- through some entries
-pub steps_kept : (s : State) (gs : List Given) (es : List Entry) (t : State) (ys : List Story) → KeptIn s ys → EachLegal s gs es t
-    → AllByRecursion IsByPayloads (stories_from s ys (map (λ (g : Given). g.joins) gs) es)
-steps_kept s [] [] t ys h legal = h.all
-steps_kept s [] (e ∷ es) t ys h legal = absurd legal
-steps_kept s (g ∷ gs) [] t ys h legal = absurd legal
-steps_kept s (g ∷ gs) (e ∷ es) t ys h (mid, step, rest) =
+pub kept_along : (s : State) (gs : List Given) (es : List Entry) (t : State) (ys : List Story) → KeptIn s ys → EachLegal s gs es t
+    → KeptIn t (stories_from s ys (map (λ (g : Given). g.joins) gs) es)
+kept_along s [] [] t ys h legal = subst (λ x. KeptIn x ys) (sym legal) h
+kept_along s [] (e ∷ es) t ys h legal = absurd legal
+kept_along s (g ∷ gs) [] t ys h legal = absurd legal
+kept_along s (g ∷ gs) (e ∷ es) t ys h (mid, step, rest) =
     let now : State = state_after s g.joins e.command e.events (Some e.answer) in
     let one : KeptIn now (stories_behind s (stretch_of g.joins e) now ys) = step_kept s g ys h e.command e.events e.answer step.front.turns step.front.each step.answered in
-    steps_kept now gs es t (stories_behind s (stretch_of g.joins e) now ys) one (subst (λ x. EachLegal x gs es t) step.front.after rest)
+    kept_along now gs es t (stories_behind s (stretch_of g.joins e) now ys) one (subst (λ x. EachLegal x gs es t) step.front.after rest)
+
+pub steps_kept : (s : State) (gs : List Given) (es : List Entry) (t : State) (ys : List Story) → KeptIn s ys → EachLegal s gs es t
+    → AllByRecursion IsByPayloads (stories_from s ys (map (λ (g : Given). g.joins) gs) es)
+steps_kept s gs es t ys h legal = (kept_along s gs es t ys h legal).all

@@ -101,21 +101,21 @@ module _ (l : OpenLink) (s : State) (y : Story) (on : OnLink l s y) (x : Stretch
       ap (drop (length (brought 0 y.events))) (brought_on 0 l.initiator.core.number y.events x.events on.counted)
       ∙ drop-append_seam (brought 0 y.events) payloads
 
-  came_is : came ≡ arrivals_of on.table x.joins.far payloads
+  pub came_is : came ≡ arrivals_of on.table x.joins.far payloads
   came_is =
       ap (λ ps. arrivals_of (values_in y.peer s) x.joins.far ps) brought_is
       ∙ ap (λ t. arrivals_of t x.joins.far payloads) (ap (λ n. values_in n s) on.own ∙ ap values_of on.stands)
 
-  all_bytes : AreOfBytes (y.arrivals ++ came)
+  pub all_bytes : AreOfBytes (y.arrivals ++ came)
   all_bytes = bytes_then y.arrivals came on.bytes (subst AreOfBytes (sym came_is) (bytes_are on.table x.joins.far payloads bytes))
 
-  all_payloads : payloads_of (y.arrivals ++ came) ≡ brought 0 (y.events ++ x.events)
+  pub all_payloads : payloads_of (y.arrivals ++ came) ≡ brought 0 (y.events ++ x.events)
   all_payloads =
       payloads_then y.arrivals came ∙ ap (λ ps. ps ++ payloads_of came) on.payloads
       ∙ ap (λ ps. brought 0 y.events ++ ps) (ap payloads_of came_is ∙ payloads_are on.table x.joins.far payloads)
       ∙ sym (brought_on 0 l.initiator.core.number y.events x.events on.counted)
 
-  all_end : end_behind y.begun (y.arrivals ++ came) ≡ end_then
+  pub all_end : end_behind y.begun (y.arrivals ++ came) ≡ end_then
   all_end = behind_then y.begun y.arrivals came ∙ ap (end_behind here) came_is
 
   module _ (t : State) (now : accepted_in y.peer t ≡ end_then.service.accepted) where
@@ -177,6 +177,14 @@ all_front (x ∷ before) y h = (h.0, all_front before y h.1)
 on_payloads : (l : OpenLink) (s : State) (y : Story) → OnLink l s y → IsByPayloads y
 on_payloads l s y on = by_payloads y on.old on.begins on.bytes on.payloads on.accepted
 
+all_weaker : (P : Story → Type 0) → ((y : Story) → IsByPayloads y → P y) → (ys : List Story) → AllByRecursion IsByPayloads ys → AllByRecursion P ys
+all_weaker P weaker [] all = tt
+all_weaker P weaker (y ∷ ys) all = (weaker y all.0, all_weaker P weaker ys all.1)
+
+-- where no link is open all stay as they are
+pub all_with : (o : Option OpenLink) (s : State) (ys : List Story) → Kept o s ys → (P : Story → Type 0) → ((y : Story) → IsByPayloads y → P y) → AllByRecursion P ys
+all_with o s ys h P weaker = all_weaker P weaker ys h.all
+
 -- the last one goes on, and is that of the link that is open then, if one is
 module _ (l : OpenLink) (s : State) (ys : List Story) (h : Kept (Some l) s ys) (go : Story → Story) where
   abbrev last : Story
@@ -187,6 +195,10 @@ module _ (l : OpenLink) (s : State) (ys : List Story) (h : Kept (Some l) s ys) (
 
   front : AllByRecursion IsByPayloads h.going.before
   front = all_front h.going.before last (subst (AllByRecursion IsByPayloads) h.going.split h.all)
+
+  -- what holds of all that are by payloads, and of the last
+  pub all_and_last : (P : Story → Type 0) → ((y : Story) → IsByPayloads y → P y) → P (go last) → AllByRecursion P (last_goes_on go ys)
+  all_and_last P weaker one = subst (AllByRecursion P) (sym goes) (all_more P h.going.before (go last) (all_weaker P weaker h.going.before front) one)
 
   ended_kept : (t : State) → IsByPayloads (go last) → Kept None t (last_goes_on go ys)
   ended_kept t one = subst (Kept None t) (sym goes) (record { all = all_more IsByPayloads h.going.before (go last) front one; going = tt })
@@ -221,7 +233,7 @@ stays_kept (Some l) s t c joins told ys h same =
     (more_on l s h.going.last on x tt t (accepted_there l s t h.going.last on there.service.accepted (ap accepted_of is)) l refl refl now.0 is)
 
 -- what is accepted above
-above_is : (x : List Accepted) (o : Option FarEnd) → OfEnd (λ e. e.service.accepted ≡ x) o → accepted_of o ≡ x
+pub above_is : (x : List Accepted) (o : Option FarEnd) → OfEnd (λ e. e.service.accepted ≡ x) o → accepted_of o ≡ x
 above_is x None h = absurd h
 above_is x (Some e) h = h
 

@@ -120,7 +120,8 @@ module _ (air : Air Device) (ends : FarEnds) (peers : Peers) (l : OpenLink) (set
     put_short cut adds =
         let a = added adds in
         inr (short_cut air ends peers l settled (Put m) (Puts (message_of m)) put_call joins b j after cut
-        (λ joined events devices adds_so stays. record {
+        (λ joined events devices adds_so stays came. record {
+          came = came;
           more = a.0;
           adds = of_end air ends peers l settled (λ e. PutAddsAtMost (message_of m) e a.0) a.2;
           devices = devices;

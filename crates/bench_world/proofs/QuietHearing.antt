@@ -7,7 +7,7 @@ use Rattle.nfc_base.specs.Trace.{noise}
 use Rattle.nfc_base.specs.declared.event.Fate.{Fate}
 use Rattle.air_core.specs.Conversation.{Note, Next, LightUp, AreTurns, FatesFrom, EachDue, Moment, receptions}
 use Rattle.bench_script.specs.declared.command.Command.{Command}
-use Rattle.bench_script.specs.declared.command.Command.TheVariants.{Skip, Fates, PlaceT2, PlaceT4, PlaceT5, PlacePeer, Lock, Busy, Offer, Remove, Dump, Inbox, Find, Read, Write, Link, Put, Get, Lookup, Unlink}
+use Rattle.bench_script.specs.declared.command.Command.TheVariants.{Skip, Fates, PlaceT2, PlaceT4, PlaceT5, PlacePeer, Lock, Busy, Offer, Remove, Dump, Inbox, Find, Crowd, Read, Write, Link, Put, Get, Lookup, Unlink}
 use Rattle.bench_script.specs.declared.command.DeviceId.{DeviceId}
 use Rattle.bench_script.specs.declared.command.DeviceId.TheVariants.{A, V}
 use Rattle.bench_script.specs.declared.message.Msg.{Msg}
@@ -43,7 +43,7 @@ use Rattle.bench_world.proofs.Complete.{of_first}
 use Rattle.bench_world.proofs.CompleteLinkings.{links_quietly}
 use Rattle.bench_world.proofs.Fronts.{on_field}
 use Rattle.bench_world.proofs.Placing.{IsWith, is_with, with_sound}
-use Rattle.bench_world.proofs.Quiet.{quiet_stays, quiet_reads, quiet_writes, quiet_finds}
+use Rattle.bench_world.proofs.Quiet.{quiet_stays, quiet_reads, quiet_writes, quiet_finds, quiet_tags}
 use Rattle.bench_world.proofs.QuietLinks.{quiet_talks}
 use Rattle.bench_world.proofs.Written.{told_written}
 use Rattle.bench_world.proofs.WholeNotes.{all_unharmed, nothing_asked, whole_notes}
@@ -146,6 +146,7 @@ module _ (s t : State) (g : Given) (line : List ℕ) (e : Entry) (r : IsReady s.
   talked (Dump i) law each on = absurd on
   talked (Inbox i) law each on = absurd on
   talked Find law each on = absurd on
+  talked Crowd law each on = absurd on
   talked (Read i) law each on = absurd on
   talked (Write i m) law each on = absurd on
   talked (Link i miu window) law each on = absurd on
@@ -164,6 +165,7 @@ module _ (s t : State) (g : Given) (line : List ℕ) (e : Entry) (r : IsReady s.
   by_command (Dump i) is id of = absurd cc
   by_command (Inbox i) is id of = absurd cc
   by_command Find is id of = absurd cc
+  by_command Crowd is id of = absurd cc
   by_command (Link i miu window) is id of = let same : A i ≡ id = cc in subst (λ x. AnswersAll x e) same (link_answered i miu window is)
   by_command (Put m) is id of = absurd cc
   by_command (Get most key) is id of = absurd cc
@@ -212,6 +214,7 @@ passes_still s line (Remove id) h q sp = h
 passes_still s line (Dump id) h q sp = h
 passes_still s line (Inbox id) h q sp = h
 passes_still s line Find h q sp = h
+passes_still s line Crowd h q sp = h
 passes_still s line (Read id) h q sp = h
 passes_still s line (Write id m) h q sp = h
 passes_still s line (Link id miu window) h q sp = h
@@ -231,6 +234,7 @@ quiet_entry s t g line e calm q sp step =
         writes = λ id m d w. quiet_writes s t g e id m d step w.command w.placed w.named calm.queue;
         written = λ id m d w may. told_written s e id m d calm.ready w.placed (quiet_writes s t g e id m d step w.command w.placed w.named calm.queue) may;
         finds = λ is. quiet_finds s t g e step is calm.queue;
+        tags = λ is. quiet_tags s t g e step is calm.queue;
         links = links_quietly s t g e calm.ready step calm.queue;
         talks = quiet_talks s t g e step calm.queue;
       },

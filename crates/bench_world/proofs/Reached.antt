@@ -11,7 +11,7 @@ use Rattle.isodep_link.specs.Reader.{longest_extension}
 use Rattle.isodep_link.proofs.Heeding.{AreBytes, no_bytes}
 use Rattle.t4t_tag.specs.Store.{file_size}
 use Rattle.bench_script.specs.declared.command.Command.{Command}
-use Rattle.bench_script.specs.declared.command.Command.TheVariants.{Skip, Fates, PlaceT2, PlaceT4, PlaceT5, PlacePeer, Lock, Busy, Offer, Remove, Dump, Inbox, Find, Read, Write, Link, Put, Get, Lookup, Unlink}
+use Rattle.bench_script.specs.declared.command.Command.TheVariants.{Skip, Fates, PlaceT2, PlaceT4, PlaceT5, PlacePeer, Lock, Busy, Offer, Remove, Dump, Inbox, Find, Crowd, Read, Write, Link, Put, Get, Lookup, Unlink}
 use Rattle.bench_script.specs.declared.message.Msg.{Msg}
 use Rattle.bench_script.specs.declared.message.Msg.TheVariants.{Hex, Gen}
 use Rattle.bench_script.specs.DeviceIds.{bytes_of}
@@ -231,6 +231,7 @@ ready_changed s line (Remove id) sp is r = ready_without (bytes_of id) s.world.f
 ready_changed s line (Dump id) sp is r = r
 ready_changed s line (Inbox id) sp is r = r
 ready_changed s line Find sp is r = r
+ready_changed s line Crowd sp is r = r
 ready_changed s line (Read id) sp is r = r
 ready_changed s line (Write id m) sp is r = r
 ready_changed s line (Link id miu window) sp is r = r

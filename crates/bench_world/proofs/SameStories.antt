@@ -6,7 +6,7 @@ use Rattle.std.proofs.lemmas.List.{append-nil}
 use Rattle.far_air.specs.FarEnds.{first_far, later_fars}
 use Rattle.nfc_base.specs.declared.event.Event.{Event}
 use Rattle.bench_script.specs.declared.command.Command.{Command}
-use Rattle.bench_script.specs.declared.command.Command.TheVariants.{Remove, Find, Read, Write, Link, Put, Get, Lookup, Unlink}
+use Rattle.bench_script.specs.declared.command.Command.TheVariants.{Remove, Find, Crowd, Read, Write, Link, Put, Get, Lookup, Unlink}
 use Rattle.bench_world.specs.declared.entry.Answer.{Answer}
 use Rattle.bench_world.specs.declared.entry.Entry.{Entry}
 use Rattle.bench_world.specs.declared.inbox.LinkRange.{LinkRange}
@@ -47,7 +47,7 @@ gained_fits t x k f found range =
     ∙ subst (IfHeld (λ h. chosen (is_in x.range) 0 h.accepted ≡ x.story.gained)) found f.holds
 
 -- the last of some, and its number
-last_equal : {X : Type 0} (xs ys : List X) (x y : X) → xs ++ x ∷ [] ≡ ys ++ y ∷ [] → (xs ≡ ys) × (x ≡ y)
+pub last_equal : {X : Type 0} (xs ys : List X) (x y : X) → xs ++ x ∷ [] ≡ ys ++ y ∷ [] → (xs ≡ ys) × (x ≡ y)
 last_equal [] [] x y e = (refl, cc)
 last_equal [] (z ∷ []) x y e = absurd cc
 last_equal [] (z ∷ w ∷ ys) x y e = absurd cc
@@ -141,6 +141,7 @@ still_held n (p ∷ ps) ks (x ∷ hs) k all found = by (is_number n p) refl foun
 -- the link that is open in a stretch was open before it
 pub open_before : (s : State) (c : Command) (l : OpenLink) → (changed s c).link ≡ Some l → s.link ≡ Some l
 open_before s Find l e = absurd (let clash : None ≡ Some l = e in cc)
+open_before s Crowd l e = absurd (let clash : None ≡ Some l = e in cc)
 open_before s (Read id) l e = absurd (let clash : None ≡ Some l = e in cc)
 open_before s (Write id m) l e = absurd (let clash : None ≡ Some l = e in cc)
 open_before s (Link id miu window) l e = absurd (let clash : None ≡ Some l = e in cc)

@@ -8,7 +8,7 @@ use Rattle.air_core.specs.Conversation.{replay}
 use Rattle.bench_devices.specs.declared.polling.SeenKind.{SeenKind}
 use Rattle.bench_devices.specs.declared.polling.SeenKind.TheVariants as seen
 use Rattle.bench_script.specs.declared.command.Command.{Command}
-use Rattle.bench_script.specs.declared.command.Command.TheVariants.{Skip, Fates, PlaceT2, PlaceT4, PlaceT5, PlacePeer, Lock, Busy, Offer, Remove, Dump, Inbox, Find, Read, Write, Link, Put, Get, Lookup, Unlink}
+use Rattle.bench_script.specs.declared.command.Command.TheVariants.{Skip, Fates, PlaceT2, PlaceT4, PlaceT5, PlacePeer, Lock, Busy, Offer, Remove, Dump, Inbox, Find, Crowd, Read, Write, Link, Put, Get, Lookup, Unlink}
 use Rattle.bench_script.specs.DeviceIds.{bytes_of}
 use Rattle.bench_script.specs.Script.{Spells, is_skipped}
 use Rattle.bench_script.proofs.Spelling.{spells_one}
@@ -146,6 +146,7 @@ accepts_too s t (Dump id) alike is =
 accepts_too s t (Inbox id) alike is =
     of_too (λ x. x.tag ≡ false) (device_with (bytes_of id) s.world.field.listeners) (device_with (bytes_of id) t.world.field.listeners) (same_with (bytes_of id) s t alike) is
 accepts_too s t Find alike is = tt
+accepts_too s t Crowd alike is = tt
 accepts_too s t (Read id) alike is = tt
 accepts_too s t (Write id m) alike is = tt
 accepts_too s t (Link id miu window) alike is = is
@@ -212,6 +213,7 @@ changes_alike s t (Remove id) alike =
 changes_alike s t (Dump id) alike = alike
 changes_alike s t (Inbox id) alike = alike
 changes_alike s t Find alike = alike
+changes_alike s t Crowd alike = alike
 changes_alike s t (Read id) alike = alike
 changes_alike s t (Write id m) alike = alike
 changes_alike s t (Link id miu window) alike = alike

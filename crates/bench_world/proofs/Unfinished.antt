@@ -4,7 +4,7 @@ use Rattle.nfc_base.specs.declared.event.Event.{Event}
 use Rattle.air_core.specs.Conversation.{replay}
 use Rattle.tag_writer.specs.Law.{Stopped}
 use Rattle.bench_script.specs.declared.command.Command.{Command}
-use Rattle.bench_script.specs.declared.command.Command.TheVariants.{Find, Read, Write, Link, Put, Get, Lookup, Unlink}
+use Rattle.bench_script.specs.declared.command.Command.TheVariants.{Find, Crowd, Read, Write, Link, Put, Get, Lookup, Unlink}
 use Rattle.bench_script.specs.declared.command.DeviceId.{DeviceId}
 use Rattle.bench_script.specs.declared.message.Msg.{Msg}
 use Rattle.bench_script.specs.DeviceIds.{bytes_of}
@@ -18,7 +18,7 @@ use Rattle.bench_devices.proofs.TagOrPeer.{if_tag}
 use Rattle.bench_world.specs.World.{Stable, WholeWorld}
 use Rattle.bench_world.specs.Calls.{IfLinked}
 use Rattle.bench_world.specs.Links.{OpenLink}
-use Rattle.bench_world.specs.Legal.{State, Given, Joins, CutFront, CutOff, CutPut, CutShort, CutStores, FrontOf, IsOnLink, LeavesStable, PeerHalts, StoresLaw, world_after}
+use Rattle.bench_world.specs.Legal.{State, Given, Joins, CutCall, CutFront, CutOff, CutPut, CutShort, CutStores, FrontOf, IsOnLink, LeavesStable, PeerHalts, StoresLaw, changed, world_after}
 use Rattle.bench_world.specs.Unfinished.{Unfinished, WriteUnfinished}
 use Rattle.bench_world.specs.Writing.{KeepsStores}
 use Rattle.bench_world.proofs.Fronts.{field_after}
@@ -79,15 +79,22 @@ put_stays : (s : State) (joins : Joins) (m : Msg) (cut : List Event) (o : Option
 put_stays s joins m cut None stays = ap (λ (z : Stable). z.devices) stays
 put_stays s joins m cut (Some l) put = put.devices
 
+-- so does any other call
+call_stays : (s : State) (joins : Joins) (c : Command) (cut : List Event) (o : Option OpenLink) → IfLinked o (λ l. CutCall s joins l c cut) (LeavesStable s joins c cut)
+    → map stable_of (world_after s joins c cut).field.listeners ≡ map stable_of (changed s c).world.field.listeners
+call_stays s joins c cut None stays = ap (λ (z : Stable). z.devices) stays
+call_stays s joins c cut (Some l) call = ap (λ (z : Stable). z.devices) call.stays
+
 front_left : (s t : State) (g : Given) (c : Command) (cut : List Event) → FrontOf s g c cut None t → CutStores s g.joins c cut → Unfinished s c cut t
 front_left s t g Find cut front stores = front_stays s t g Find cut front (ap (λ (z : Stable). z.devices) stores)
+front_left s t g Crowd cut front stores = front_stays s t g Crowd cut front (ap (λ (z : Stable). z.devices) stores)
 front_left s t g (Read id) cut front stores = front_stays s t g (Read id) cut front (ap (λ (z : Stable). z.devices) stores)
 front_left s t g (Write id m) cut front stores = front_written s t g id m cut front stores
 front_left s t g (Link id miu window) cut front stores = front_stays s t g (Link id miu window) cut front (ap (λ (z : Stable). z.devices) stores)
 front_left s t g (Put m) cut front stores = front_stays s t g (Put m) cut front (put_stays s g.joins m cut s.link stores)
-front_left s t g (Get most key) cut front stores = front_stays s t g (Get most key) cut front (ap (λ (z : Stable). z.devices) stores)
-front_left s t g (Lookup name) cut front stores = front_stays s t g (Lookup name) cut front (ap (λ (z : Stable). z.devices) stores)
-front_left s t g Unlink cut front stores = front_stays s t g Unlink cut front (ap (λ (z : Stable). z.devices) stores)
+front_left s t g (Get most key) cut front stores = front_stays s t g (Get most key) cut front (call_stays s g.joins (Get most key) cut s.link stores)
+front_left s t g (Lookup name) cut front stores = front_stays s t g (Lookup name) cut front (call_stays s g.joins (Lookup name) cut s.link stores)
+front_left s t g Unlink cut front stores = front_stays s t g Unlink cut front (call_stays s g.joins Unlink cut s.link stores)
 front_left s t g c cut front stores = absurd stores
 
 -- The peer's end stopped.

@@ -49,7 +49,7 @@ told_of Tells id ds asked answer d found polled failed (Ok kind) behind ends =
 told_of Tells id ds asked answer d found polled failed (Err e) behind ends = absurd (polled e ends)
 
 -- a success is no fault
-written_polled : (e : PollFault) → poll_answer e ≡ Some answers.Written → ⊥
+pub written_polled : (e : PollFault) → poll_answer e ≡ Some answers.Written → ⊥
 written_polled faults.Nobody h = cc
 written_polled faults.Disturbed h = cc
 written_polled faults.FieldLost h = cc
@@ -57,7 +57,7 @@ written_polled faults.Memory h = cc
 written_polled faults.NotFound h = cc
 written_polled faults.BadAnswer h = cc
 
-written_failed : (e : AskFault) → TellsFault e answers.Written → ⊥
+pub written_failed : (e : AskFault) → TellsFault e answers.Written → ⊥
 written_failed asking.FieldLost h = cc
 written_failed asking.SixBad h = cc
 written_failed asking.Memory h = h

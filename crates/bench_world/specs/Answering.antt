@@ -1,5 +1,5 @@
 -- What a command answers that polls, and the cause of each answer.
-use Rattle.std.specs.Prelude.{◌≡◌, ◌↔◌, ◌<◌, List, [], Option, Some, None, IsSome, ◌⊎◌, Result, Ok, Err}
+use Rattle.std.specs.Prelude.{◌≡◌, ◌↔◌, ◌<◌, ℕ, List, [], Option, Some, None, IsSome, ◌⊎◌, Result, Ok, Err}
 use Rattle.nfc_base.specs.Signal.{Signal}
 use Rattle.nfc_base.specs.Trace.{noise, breaks}
 use Rattle.nfc_base.specs.declared.event.Event.{Event}
@@ -14,6 +14,7 @@ use Rattle.tag_reader.specs.declared.found.Found.{Found}
 use Rattle.tag_writer.specs.declared.fault.WriteFault.TheVariants as writing
 use Rattle.bench_script.specs.declared.command.DeviceId.{DeviceId}
 use Rattle.bench_script.specs.DeviceIds.{bytes_of}
+use Rattle.bench_devices.specs.Crowding.{CrowdTells}
 use Rattle.bench_devices.specs.declared.device.Device.{Device}
 use Rattle.bench_devices.specs.declared.polling.SeenKind.{SeenKind}
 use Rattle.bench_devices.specs.declared.sweeping.Everybody.{Everybody}
@@ -124,3 +125,14 @@ TellsFound (Err faults.FieldLost) answer = answer ≡ answers.FieldLost
 TellsFound (Err faults.Memory) answer = ⊥
 TellsFound (Err faults.NotFound) answer = ⊥
 TellsFound (Err faults.BadAnswer) answer = ⊥
+
+-- The answer that tells what a search for Type 5 tags came to, if one does: not all faults end one on the bench.
+abbrev pub tags_answer : Result (List (List ℕ)) PollFault → Option Answer
+tags_answer (Ok ids) = Some (answers.Crowd ids)
+tags_answer (Err fault) = poll_answer fault
+
+-- What a search for Type 5 tags answers, by the tags that are placed and what happened.
+pub record TagsTell (ds : List Device) (events : List Event) (answer : Answer) : Type 0 where
+  pub found : Result (List (List ℕ)) PollFault
+  pub tells : CrowdTells ds events found
+  pub answered : tags_answer found ≡ Some answer

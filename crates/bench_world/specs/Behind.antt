@@ -107,3 +107,14 @@ pub record TellsOneOfThree (tag : Device) (new : List ℕ) (read : Entry) : Type
 -- Wherever the write is broken off, a message is told then: the old one, the empty one, or the new one.
 abbrev pub BrokenIsRead : Type 0
 BrokenIsRead = (id : DeviceId) (tag : Device) (m : Msg) (read : Entry) → BreaksThenReads id tag m read → TellsOneOfThree tag (message_of m) read
+
+-- An entry tells the message that a tag holds.
+pub record TellsHeld (tag : Device) (read : Entry) : Type 0 where
+  pub old : List ℕ
+  pub held : IsStoreForm (how_of tag) (size_of tag) (device_store tag) (Message old)
+  pub writable : Bool
+  pub told : read.answer ≡ answers.Message old writable
+
+-- Broken off at its first transmission a write changed nothing: the message that the tag held before is told.
+abbrev pub FirstBrokenIsRead : Type 0
+FirstBrokenIsRead = (id : DeviceId) (tag : Device) (m : Msg) (read : Entry) (r : BreaksThenReads id tag m read) → r.passes ≡ 0 → TellsHeld tag read

@@ -1,6 +1,6 @@
 -- What a peer's server accepts on a link, by what arrived there while the link was open (NFCIP-1, ISO/IEC 18092; NFC
 -- Forum LLCP 1.3 and SNEP 1.0).
-use Rattle.std.specs.Prelude.{◌≡◌, ℕ, ◌<◌, List, ◌∷◌, ◌++◌, None}
+use Rattle.std.specs.Prelude.{◌≡◌, ℕ, ◌<◌, List, [], ◌∷◌, ◌++◌, None}
 use Rattle.dep_link.specs.DepLinks.{brought}
 use Rattle.llcp_link.specs.State.{restarted}
 use Rattle.llcp_link.specs.Taking.{Item, steps}
@@ -52,3 +52,22 @@ pub record IsByPayloads (y : Story) : Type 0 where
   pub puts : (c : ℕ) → c < sap_count
       → AllPut y.begun.service.limit (units c y.begun.miu None (arrival_marks c y.begun y.arrivals)) (accepted_from c y.gained)
   pub order : (p : Place y.begun y.arrivals) → AcceptsUntil y p
+
+-- What the units put begins with these messages.
+pub record PutsAtLeast (limit : ℕ) (us : List (List (List ℕ))) (messages : List (List ℕ)) : Type 0 where
+  pub all : List (List ℕ)
+  pub put : AllPut limit us all
+  pub rest : List (List ℕ)
+  pub split : all ≡ messages ++ rest
+
+-- Where want of memory cut a command off the peer's end may have stopped at the last payload that arrived. What its list
+-- gained is the first of what the payloads put, and has at least what all payloads but the last put.
+pub record IsFrontOfPayloads (y : Story) : Type 0 where
+  pub old : FarEnd
+  pub begins : y.begun ≡ restarted serving old y.general
+  pub payloads : payloads_of y.arrivals ≡ brought 0 y.events
+  pub front : IsFront (y.begun.service.accepted ++ y.gained) (end_behind y.begun y.arrivals).service.accepted
+  pub least : (before : List Arrival) (last : Arrival) → y.arrivals ≡ before ++ last ∷ []
+      → IsFront (end_behind y.begun before).service.accepted (y.begun.service.accepted ++ y.gained)
+  pub puts : (c : ℕ) → c < sap_count
+      → PutsAtLeast y.begun.service.limit (units c y.begun.miu None (arrival_marks c y.begun y.arrivals)) (accepted_from c y.gained)

@@ -1,9 +1,9 @@
 -- What a read, a write and a search answer where noise doesn't keep them from it: no Break was used, no wait had six
 -- bad receptions, and polling had one round, of a Type 5 tag one try, without noise (rounds, tries and six receptions
 -- are this project's own).
-use Rattle.std.specs.Prelude.{◌≡◌, ◌<◌, ℕ, List, Some, Ok, true}
+use Rattle.std.specs.Prelude.{◌≡◌, ◌<◌, ℕ, List, ◌∷◌, ◌++◌, filter_map, Some, Ok, true}
 use Rattle.nfc_base.specs.Signal.{Signal}
-use Rattle.nfc_base.specs.Trace.{breaks}
+use Rattle.nfc_base.specs.Trace.{Turn, turns, breaks}
 use Rattle.nfc_base.specs.declared.event.Event.{Event}
 use Rattle.nfc_base.specs.declared.tag_link.AskFault.TheVariants.{SixBad}
 use Rattle.air_core.specs.Conversation.{Note, receptions}
@@ -12,7 +12,11 @@ use Rattle.nfca_poll.specs.Inventory.{tries, inventory_all, inventory_of}
 use Rattle.nfca_poll.specs.RoundTrace.{rounds}
 use Rattle.tag_writer.specs.Locks.{IsFreeFor}
 use Rattle.isodep_link.specs.Asking as exchange
-use Rattle.bench_script.specs.declared.command.Command.TheVariants.{Find, Read, Write}
+use Rattle.nfca_poll.specs.Crowd.{Each}
+use Rattle.nfcv_poll.specs.Finding.{IsAscending}
+use Rattle.nfcv_poll.specs.Passes.{passes, noise_in}
+use Rattle.nfcv_poll.specs.Tags.{IsOneOf}
+use Rattle.bench_script.specs.declared.command.Command.TheVariants.{Find, Crowd, Read, Write}
 use Rattle.bench_script.specs.declared.command.DeviceId.{DeviceId}
 use Rattle.bench_script.specs.declared.command.DeviceId.TheVariants.{A, V}
 use Rattle.bench_script.specs.DeviceIds.{bytes_of}
@@ -24,7 +28,7 @@ use Rattle.bench_devices.specs.declared.polling.SeenKind.{SeenKind}
 use Rattle.bench_devices.specs.declared.polling.SeenKind.TheVariants as seen
 use Rattle.bench_devices.specs.Answering.{IsNamed}
 use Rattle.bench_devices.specs.CardAsking.{Exchanges, card_stands}
-use Rattle.bench_devices.specs.Crowded.{crowd_of, others_of}
+use Rattle.bench_devices.specs.Crowded.{v_if, crowd_of, others_of}
 use Rattle.bench_devices.specs.Noise.{noisy_tries, AreDisturbed}
 use Rattle.bench_devices.specs.Placed.{device_with}
 use Rattle.bench_devices.specs.Polling.{Told, selecting}
@@ -95,3 +99,25 @@ abbrev pub FindsComplete : Type 0
 FindsComplete =
     (s t : State) (g : Given) (e : Entry) → LegalStep s g e t → e.command ≡ Find → breaks e.events ≡ 0 → (AreDisturbed (rounds e.events) → ⊥)
     → noisy_tries inventory_all e.events < tries → e.answer ≡ whole_field s.world.field.listeners
+
+-- All Type 5 tags that are placed are told, ascending by their identifiers as numbers, and so each once.
+pub record TellsTags (ds : List Device) (answer : Answer) : Type 0 where
+  pub tags : List (List ℕ)
+  pub is : answer ≡ answers.Crowd tags
+  pub ascending : IsAscending tags
+  pub there : Each (λ i. IsOneOf i (filter_map v_if ds)) tags
+  pub all : Each (λ i. IsOneOf i tags) (filter_map v_if ds)
+
+-- One of the passes of a search met no noise: all its requests and answers passed.
+pub record HasQuietPass (events : List Event) : Type 0 where
+  pub before : List (List Turn)
+  pub pass : List Turn
+  pub behind : List (List Turn)
+  pub parts : passes (turns events) ≡ before ++ pass ∷ behind
+  pub quiet : noise_in pass ≡ 0
+
+-- A search for Type 5 tags that keeps the field and has such a pass lists all of them.
+abbrev pub TagsComplete : Type 0
+TagsComplete =
+    (s t : State) (g : Given) (e : Entry) → LegalStep s g e t → e.command ≡ Crowd → breaks e.events ≡ 0 → HasQuietPass e.events
+    → TellsTags s.world.field.listeners e.answer

@@ -11,8 +11,9 @@ use Rattle.t2t_tag.specs.Store.{IsT2Store}
 use Rattle.t4t_tag.specs.Store.{IsT4Store, file_size}
 use Rattle.t5t_tag.specs.Store.{IsT5Store}
 use Rattle.bench_script.specs.declared.command.Command.{Command}
-use Rattle.bench_script.specs.declared.command.Command.TheVariants.{Skip, Fates, PlaceT2, PlaceT4, PlaceT5, PlacePeer, Lock, Busy, Offer, Remove, Dump, Inbox, Find, Read, Write, Link, Put, Get, Lookup, Unlink}
+use Rattle.bench_script.specs.declared.command.Command.TheVariants.{Skip, Fates, PlaceT2, PlaceT4, PlaceT5, PlacePeer, Lock, Busy, Offer, Remove, Dump, Inbox, Find, Crowd, Read, Write, Link, Put, Get, Lookup, Unlink}
 use Rattle.bench_script.specs.declared.command.DeviceId.{DeviceId}
+use Rattle.bench_devices.specs.Crowding.{crowding}
 use Rattle.bench_devices.specs.declared.device.Device.{Device}
 use Rattle.bench_world.specs.declared.entry.Answer.{Answer}
 use Rattle.bench_world.specs.declared.entry.Answer.TheVariants as answers
@@ -44,8 +45,8 @@ use Rattle.bench_devices.specs.Opening.{linking}
 use Rattle.bench_world.specs.Links.{OpenLink, ended, is_with, end_numbered, begun_if, ended_unless}
 use Rattle.bench_world.specs.Linking.{LinkTells, link_if, own_general}
 use Rattle.bench_world.specs.Calls.{IfLinked, IsTold, OfEnd, PutAdds, PutAddsAtMost, GetTells, LookupTells, due_if, due_on, due_closing, stands_on, stands_closing, told_call, told_closing, call_behind, with_accepted}
-use Rattle.bench_world.specs.Arriving.{ArrivesAt, BeginsAt}
-use Rattle.bench_world.specs.Answering.{TagTells, TellsFound, CutTag}
+use Rattle.bench_world.specs.Arriving.{ArrivesAt, ArrivesCutAt, BeginsAt}
+use Rattle.bench_world.specs.Answering.{TagTells, TellsFound, TagsTell, CutTag}
 use Rattle.bench_world.specs.Reading.{TellsOf, ReadAsks}
 use Rattle.bench_world.specs.Writing.{TellsWrite, WriteAsks, KeepsStores, ending_told}
 use Rattle.bench_devices.specs.Answering.{FindTells}
@@ -168,6 +169,7 @@ Accepts s (Remove id) = IsPlaced s id
 Accepts s (Dump id) = IsTagPlaced s id
 Accepts s (Inbox id) = IsPeerPlaced s id
 Accepts s Find = Unit {0}
+Accepts s Crowd = Unit {0}
 Accepts s (Read id) = Unit {0}
 Accepts s (Write id message) = Unit {0}
 Accepts s (Link id miu window) = MayLink miu window
@@ -254,6 +256,7 @@ changed s (Busy id count times) = with_busy s id count times
 changed s (Offer id key value) = with_offer s id key value
 changed s (Remove id) = without_device (unlinked_from s id) id
 changed s Find = unlinked s
+changed s Crowd = unlinked s
 changed s (Read id) = unlinked s
 changed s (Write id message) = unlinked s
 changed s (Link id miu window) = unlinked s
@@ -271,6 +274,7 @@ IsAskedBy s c asked = asked ≡ []
 -- is opened, and on the link that is open.
 abbrev pub due : State → Given → Command → List Note → Next
 due s g Find ns = asks (finding_all ns)
+due s g Crowd ns = crowding ns
 due s g (Read id) ns = tag_due id g.asked ns
 due s g (Write id message) ns = tag_due id g.asked ns
 due s g (Link id miu window) ns = linking (DeviceId.A id) (own_general miu) ns
@@ -332,6 +336,10 @@ pub record ReadLaw (s : State) (joins : Joins) (id : DeviceId) (asked : List Sig
 pub record FindLaw (s : State) (joins : Joins) (events : List Event) (answer : Answer) : Type 0 where
   pub tells : FindTells TellsFound s.world.field.listeners events answer
   pub stays : LeavesStable s joins Find events
+
+pub record CrowdLaw (s : State) (joins : Joins) (events : List Event) (answer : Answer) : Type 0 where
+  pub tells : TagsTell s.world.field.listeners events answer
+  pub stays : LeavesStable s joins Crowd events
 
 -- A write changes the store of its tag alone, which passes such stores as the law of a write says: the one before the
 -- command and the one after each event, resets and polling too. No other store, no locked block and nothing that stays
@@ -414,6 +422,7 @@ AnswerLaw s g (Remove id) events answer = answer ≡ answers.Done
 AnswerLaw s g (Dump id) events answer = DumpLaw s id answer
 AnswerLaw s g (Inbox id) events answer = answer ≡ answers.Inbox (inbox_now s id)
 AnswerLaw s g Find events answer = FindLaw s g.joins events answer
+AnswerLaw s g Crowd events answer = CrowdLaw s g.joins events answer
 AnswerLaw s g (Read id) events answer = ReadLaw s g.joins id g.asked events answer
 AnswerLaw s g (Write id message) events answer = WritingLaw s g.joins id message g.asked events answer
 AnswerLaw s g (Link id miu window) events answer = LinkingLaw s g.joins id miu window events answer
@@ -456,25 +465,36 @@ pub record LegalStep (s : State) (g : Given) (e : Entry) (t : State) : Type 0 wh
   pub over : due s g e.command (receptions e.events) ≡ Over
   pub answered : AnswerLaw s g e.command e.events e.answer
 
+-- what arrived at it in a command on the link that was cut off
+abbrev pub CutCame : State → Joins → OpenLink → Command → List Event → Type 0
+CutCame s joins l c cut = ArrivesCutAt l s.peers.numbers joins.far s.world.fars (world_after s joins c cut).fars cut
+
 -- of a put that was cut off the peer's server accepted at most the message, and nothing else that stays changed
 pub record CutPut (s : State) (joins : Joins) (l : OpenLink) (message : Msg) (cut : List Event) : Type 0 where
+  pub came : CutCame s joins l (Put message) cut
   pub more : List Accepted
   pub adds : OfEnd (λ end. PutAddsAtMost (message_of message) end more) (end_of s l)
   pub devices : (stable (world_after s joins (Put message) cut)).devices ≡ (stable s.world).devices
   pub ends : (stable (world_after s joins (Put message) cut)).ends ≡ with_accepted more l.peer s.peers.numbers (stable s.world).ends
+
+-- of any other command on the link nothing that stays changed
+pub record CutCall (s : State) (joins : Joins) (l : OpenLink) (c : Command) (cut : List Event) : Type 0 where
+  pub came : CutCame s joins l c cut
+  pub stays : LeavesStable s joins c cut
 
 -- What a command that was cut off leaves of what stays: the stores of a write keep its law, a put adds its message at
 -- most, and no other command in which something is sent changed anything. A command that sends nothing is never left
 -- half done: where memory is wanting nothing of it was done.
 abbrev pub CutStores : State → Joins → Command → List Event → Type 0
 CutStores s joins Find cut = LeavesStable s joins Find cut
+CutStores s joins Crowd cut = LeavesStable s joins Crowd cut
 CutStores s joins (Read id) cut = LeavesStable s joins (Read id) cut
 CutStores s joins (Write id message) cut = StoresLaw s joins id message Stopped cut
 CutStores s joins (Link id miu window) cut = LeavesStable s joins (Link id miu window) cut
 CutStores s joins (Put message) cut = IfLinked s.link (λ l. CutPut s joins l message cut) (LeavesStable s joins (Put message) cut)
-CutStores s joins (Get most key) cut = LeavesStable s joins (Get most key) cut
-CutStores s joins (Lookup name) cut = LeavesStable s joins (Lookup name) cut
-CutStores s joins Unlink cut = LeavesStable s joins Unlink cut
+CutStores s joins (Get most key) cut = IfLinked s.link (λ l. CutCall s joins l (Get most key) cut) (LeavesStable s joins (Get most key) cut)
+CutStores s joins (Lookup name) cut = IfLinked s.link (λ l. CutCall s joins l (Lookup name) cut) (LeavesStable s joins (Lookup name) cut)
+CutStores s joins Unlink cut = IfLinked s.link (λ l. CutCall s joins l Unlink cut) (LeavesStable s joins Unlink cut)
 CutStores s joins c cut = ⊥
 
 -- a front of a step that was cut off, where so many PDUs stand in each payload of the ends of a link
@@ -525,6 +545,7 @@ pub record PeerHalts (joins : Joins) (s : State) (c : Command) (cut : List Event
   pub on : OpenLink
   pub open_ : s.link ≡ Some on
   pub leaves : HaltLeaves s c on t
+  pub came : ArrivesCutAt on s.peers.numbers given.joins.far s.world.fars t.world.fars cut
 
 -- What want of memory leaves of a command: nothing was done, there is a front of its step, or the peer's end stopped
 -- behind one.

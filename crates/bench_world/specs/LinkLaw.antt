@@ -14,7 +14,7 @@ use Rattle.bench_world.specs.declared.entry.Answer.{Answer}
 use Rattle.bench_world.specs.declared.entry.Answer.TheVariants as answers
 use Rattle.bench_world.specs.declared.entry.Entry.{Entry}
 use Rattle.bench_world.specs.declared.entry.Received.{Received}
-use Rattle.bench_world.specs.ByPayloads.{IsByPayloads}
+use Rattle.bench_world.specs.ByPayloads.{IsByPayloads, IsFrontOfPayloads}
 use Rattle.bench_world.specs.Inbox.{told_of}
 use Rattle.bench_world.specs.Journal.{LeadsTo}
 use Rattle.bench_world.specs.Legal.{State, Joins, CutShort, PeerHalts, first_state}
@@ -96,3 +96,11 @@ CutLinkLaw =
     (lines : List (List ℕ)) (numbers : List Joins) (journal : List Entry) (last : State) → LeadsTo lines numbers journal last
     → (joins : Joins) (c : Command) (cut : List Event) (t : State) → CutShort joins last c cut t ⊎ PeerHalts joins last c cut t
     → AllByRecursion KeepsLinkLaw (stories_behind last (cut_stretch c joins cut) t (stories_of numbers journal))
+
+-- What arrived counts there too: what the peers' lists gained is the first of what the payloads put, and at least what all
+-- payloads but the last put.
+abbrev pub CutArrivalLaw : Type 0
+CutArrivalLaw =
+    (lines : List (List ℕ)) (numbers : List Joins) (journal : List Entry) (last : State) → LeadsTo lines numbers journal last
+    → (joins : Joins) (c : Command) (cut : List Event) (t : State) → CutShort joins last c cut t ⊎ PeerHalts joins last c cut t
+    → AllByRecursion IsFrontOfPayloads (stories_behind last (cut_stretch c joins cut) t (stories_of numbers journal))

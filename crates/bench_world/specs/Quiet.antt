@@ -4,7 +4,7 @@ use Rattle.std.specs.List.{AllByRecursion}
 use Rattle.nfc_base.specs.Trace.{noise}
 use Rattle.nfc_base.specs.declared.event.Fate.{Fate}
 use Rattle.nfc_base.specs.declared.event.Fate.TheVariants.{Pass}
-use Rattle.bench_script.specs.declared.command.Command.TheVariants.{Find, Read, Write}
+use Rattle.bench_script.specs.declared.command.Command.TheVariants.{Find, Crowd, Read, Write}
 use Rattle.bench_script.specs.declared.command.DeviceId.{DeviceId}
 use Rattle.bench_script.specs.DeviceIds.{bytes_of}
 use Rattle.bench_script.specs.Messages.{message_of}
@@ -14,7 +14,7 @@ use Rattle.bench_devices.specs.Answering.{IsNamed}
 use Rattle.bench_devices.specs.Placed.{device_with}
 use Rattle.bench_world.specs.declared.entry.Answer.TheVariants as answers
 use Rattle.bench_world.specs.declared.entry.Entry.{Entry}
-use Rattle.bench_world.specs.Completing.{MayBeWritten, whole_field}
+use Rattle.bench_world.specs.Completing.{MayBeWritten, TellsTags, whole_field}
 use Rattle.bench_world.specs.Journal.{LeadsTo}
 use Rattle.bench_world.specs.Legal.{State, Given, Joins, LegalStep, changed}
 use Rattle.bench_world.specs.Reading.{TellsOf}
@@ -52,3 +52,8 @@ QuietIsWritten =
 abbrev pub QuietFinds : Type 0
 QuietFinds =
     (s t : State) (g : Given) (e : Entry) → LegalStep s g e t → e.command ≡ Find → AllPass s.queue → e.answer ≡ whole_field s.world.field.listeners
+
+-- A search for Type 5 tags lists all of them.
+abbrev pub QuietTags : Type 0
+QuietTags =
+    (s t : State) (g : Given) (e : Entry) → LegalStep s g e t → e.command ≡ Crowd → AllPass s.queue → TellsTags s.world.field.listeners e.answer

@@ -10,7 +10,7 @@ use Rattle.nfc_base.specs.declared.event.Event.TheVariants.{Reset, Request, Answ
 use Rattle.nfc_base.specs.declared.event.Fate.{Fate}
 use Rattle.nfc_base.specs.declared.event.Fate.TheVariants.{Pass, Damage, Lose, Break}
 use Rattle.bench_world.specs.declared.entry.Answer.{Answer as Said}
-use Rattle.bench_world.specs.declared.entry.Answer.TheVariants.{Done, Store, Found, Message, NotNdef, Version, NoRead, Sectors, BadSize, NoMessageTlv, BadTlv, Disturbed, FieldLost, NotFound, SixBad, Written, Refused, ReadOnly, TooLong, ShortMlc, WrongKind, Inbox, Linked, Success, Reject, Value, NoValue, Excess, NotImplemented, Sap, LinkEnded, Unlinked, NoLink}
+use Rattle.bench_world.specs.declared.entry.Answer.TheVariants.{Done, Store, Found, Crowd, Message, NotNdef, Version, NoRead, Sectors, BadSize, NoMessageTlv, BadTlv, Disturbed, FieldLost, NotFound, SixBad, Written, Refused, ReadOnly, TooLong, ShortMlc, WrongKind, Inbox, Linked, Success, Reject, Value, NoValue, Excess, NotImplemented, Sap, LinkEnded, Unlinked, NoLink}
 use Rattle.bench_world.specs.declared.entry.Entry.{Entry}
 use Rattle.bench_world.specs.declared.entry.Loss.{Loss}
 use Rattle.bench_world.specs.declared.entry.Loss.TheVariants as losses
@@ -71,6 +71,13 @@ code_text code = encode_upper (code / 256 ∷ code % 256 ∷ [])
 abbrev pub found_text : List Seen → Bool → List ℕ
 found_text devices crowd = codes "found " ++ decimal (length devices) ++ flat_map seen_text devices ++ (if crowd then codes " crowd" else [])
 
+-- how many Type 5 tags were found, and which
+abbrev pub tag_text : List ℕ → List ℕ
+tag_text id = codes " " ++ hex_text id
+
+abbrev pub tags_text : List (List ℕ) → List ℕ
+tags_text ids = codes "crowd " ++ decimal (length ids) ++ flat_map tag_text ids
+
 -- the SAP from which a reader's client connects
 abbrev pub client_sap : ℕ
 client_sap = 32
@@ -115,6 +122,7 @@ answer_text WrongKind = codes "wrong kind"
 answer_text (Store bytes) = codes "store " ++ hex_text bytes
 answer_text (Inbox messages) = inbox_text messages
 answer_text (Found devices crowd) = found_text devices crowd
+answer_text (Crowd ids) = tags_text ids
 answer_text (Message message writable) = codes "message " ++ hex_text message ++ codes " " ++ access_text writable
 answer_text (Linked link) = codes "linked " ++ decimal link
 answer_text Success = codes "success"

@@ -10,8 +10,9 @@ use crate::bench::ObeyFault;
 use crate::entry::Answer;
 use crate::machines::Machines;
 use air_core::Field;
-use bench_devices::{Device, Selection, read, select, sweep_field, write};
+use bench_devices::{Device, Selection, read, select, sweep_field, sweep_tags, write};
 use bench_script::{Command, DeviceId, Msg};
+use nfc_base::Items;
 use std::alloc::{AllocError, Global};
 
 /// Selects a device and reads it. A peer isn't read.
@@ -100,6 +101,32 @@ fn search(alloc: Global, field: &mut Field<Device>) -> Result<Answer, AllocError
     match sweep_field(alloc, field) {
         Ok(everybody) => found(alloc, everybody),
         Err(fault) => missed(fault),
+    }
+}
+
+/// Searches for all Type 5 tags, and tells which were found.
+fn search_tags(alloc: Global, field: &mut Field<Device>) -> Result<Answer, AllocError>
+    requires { IsIdle field.old }
+    ensures ok { IfOk result (λ a. ObeyedUnlinked field.old field.new Command.Crowd a) }
+    ensures cut { OnErr result (CutOffUnlinked field.old field.new Command.Crowd) }
+{
+    match sweep_tags(alloc, field) {
+        Ok(tags) => Ok(Answer::Crowd(Items::new(tags))),
+        Err(fault) => missed(fault),
+    }
+}
+
+/// Finds all Type 5 tags, from a reset on, which ends the open link.
+pub fn find_tags(alloc: Global, machines: &mut Machines) -> Result<Answer, ObeyFault>
+    requires { IsSettled machines.old }
+    ensures ok { IfOk result (λ a. Obeyed machines.old machines.new Command.Crowd a) }
+    ensures cut { OnErr result (IsCutOff machines.old machines.new Command.Crowd) }
+    ensures never { IsErrOf result ObeyFault.Refused → ⊥ }
+{
+    machines.end_link();
+    match search_tags(alloc, &mut machines.field) {
+        Ok(answer) => Ok(answer),
+        Err(_) => Err(ObeyFault::Memory),
     }
 }
 

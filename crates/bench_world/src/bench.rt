@@ -8,7 +8,7 @@ ghost use Rattle.bench_world.specs.Obeying.{Obeys, Obeyed, ObeyedBy, IsSettled, 
 ghost use Rattle.bench_world.specs.Links.{OpenLink};
 ghost use Rattle.bench_devices.specs.Phases.{IsIdle};
 
-use crate::asking::{find, read_tag, write_message};
+use crate::asking::{find, find_tags, read_tag, write_message};
 use crate::calling::{get, lookup, put, unlink};
 use crate::entry::{Answer, Entry};
 use crate::joins::Joins;
@@ -332,6 +332,7 @@ fn run_command(
         Command::Remove { id } => remove_device(machines, id),
         Command::Dump { id } => dump_store(alloc, &machines.field, id),
         Command::Find => find(alloc, machines),
+        Command::Crowd => find_tags(alloc, machines),
         Command::Read { id } => read_tag(alloc, machines, id),
         Command::Write { id, message } => write_message(alloc, machines, id, message),
         Command::Link { id, miu, rw } => link(alloc, machines, id, *miu, *rw),

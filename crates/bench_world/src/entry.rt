@@ -39,6 +39,8 @@ pub enum Answer {
     Inbox(Items<Received>),
     /// The devices that were found, and whether Type 5 tags stand in a crowd, which isn't among them.
     Found { devices: Items<Seen>, crowd: bool },
+    /// The identifiers of the Type 5 tags that were found, ascending.
+    Crowd(Items<[u8; 8]>),
     /// The message that a tag holds, and whether it may be written.
     Message { message: Items<u8>, writable: bool },
     /// The tag's container isn't that of an NDEF tag, has another version, forbids reading, names more than one sector

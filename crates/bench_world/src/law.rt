@@ -1,11 +1,11 @@
 //! That a command answers what it is asked for where noise doesn't keep it from that. The calls do nothing: they stand
 //! for these laws.
 
-ghost use Rattle.bench_world.specs.Behind.{WrittenIsRead, OneOfThreeIsRead, BrokenIsRead};
-ghost use Rattle.bench_world.specs.Completing.{ReadsComplete, WritesComplete, ShownIsWritten, ValidIsWritten, FindsComplete};
+ghost use Rattle.bench_world.specs.Behind.{WrittenIsRead, OneOfThreeIsRead, BrokenIsRead, FirstBrokenIsRead};
+ghost use Rattle.bench_world.specs.Completing.{ReadsComplete, WritesComplete, ShownIsWritten, ValidIsWritten, FindsComplete, TagsComplete};
 ghost use Rattle.bench_world.specs.CompletingLinks.{PutsComplete, GetsComplete, LookupsComplete, UnlinksComplete, ValidIsOk, LinkingsComplete, KindsTold};
-ghost use Rattle.bench_world.specs.LinkLaw.{CutLinkLaw, LinkLaw};
-ghost use Rattle.bench_world.specs.Quiet.{QuietStays, QuietReads, QuietWrites, QuietIsWritten, QuietFinds};
+ghost use Rattle.bench_world.specs.LinkLaw.{CutArrivalLaw, CutLinkLaw, LinkLaw};
+ghost use Rattle.bench_world.specs.Quiet.{QuietStays, QuietReads, QuietWrites, QuietIsWritten, QuietFinds, QuietTags};
 ghost use Rattle.bench_world.specs.QuietHearing.{QuietHears, QuietScript};
 ghost use Rattle.bench_world.specs.QuietLinks.{QuietTalks, QuietLinkings};
 ghost use Rattle.bench_world.specs.ReadBack.{LinesTellEvents, AnswersApart};
@@ -25,9 +25,11 @@ pub fn writes_complete()
     ensures written { ValidIsWritten }
 {}
 
-/// A legal search, without a Break and with a round and a try without noise, lists the whole field.
+/// A legal search, without a Break and with a round and a try without noise, lists the whole field; one for Type 5 tags,
+/// without a Break and with a pass without noise, lists all of them.
 pub fn finds_complete()
-    ensures { FindsComplete }
+    ensures finds { FindsComplete }
+    ensures tags { TagsComplete }
 {}
 
 /// A legal command on the open link is answered as its peer answers it, and the link is closed, exactly where no Break
@@ -45,11 +47,13 @@ pub fn links_complete()
 
 /// Behind a write, with no command between that touches its tag, a read that tells a message tells the new one where
 /// the write was a success, and whatever it answered the old one, the empty one or the new one. Where the tag is pulled
-/// away at any one of the transmissions of a write, and all others pass, a read behind it tells one of these three.
+/// away at any one of the transmissions of a write, and all others pass, a read behind it tells one of these three; at
+/// the first of them, the old one.
 pub fn reads_behind()
     ensures written { WrittenIsRead }
     ensures three { OneOfThreeIsRead }
     ensures broken { BrokenIsRead }
+    ensures first { FirstBrokenIsRead }
 {}
 
 /// Which lines of a script are taken is decided by the lines alone, not by what was sent.
@@ -75,6 +79,7 @@ pub fn quiet_air()
     ensures writes { QuietWrites }
     ensures written { QuietIsWritten }
     ensures finds { QuietFinds }
+    ensures tags { QuietTags }
     ensures talks { QuietTalks }
     ensures linkings { QuietLinkings }
     ensures hears { QuietHears }
@@ -86,8 +91,9 @@ pub fn quiet_air()
 /// were told to be taken, and at most one more: the last put, which then wasn't answered. It's just what the payloads put
 /// that arrived there while the link was open, counted from PNI 0, whatever was offered between them. And an inbox tells
 /// what its peer accepted on each link, each message once, and nothing else. Behind a command that want of memory cut off
-/// it is so too, and its put counts as put.
+/// it is so too, and its put counts as put; of what the last payload put there is a front.
 pub fn links_accept()
     ensures whole { LinkLaw }
     ensures cut { CutLinkLaw }
+    ensures stopped { CutArrivalLaw }
 {}

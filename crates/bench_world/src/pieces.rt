@@ -4,7 +4,7 @@ ghost use Rattle.std.specs.Prelude.{◌≡◌, ◌+◌, ◌*◌, ◌<◌, ◌≤
 ghost use Rattle.std.specs.Fmt.{decimal};
 ghost use Rattle.hex.specs.Hex.{encode_upper};
 ghost use Rattle.bench_script.specs.Canonical.{hex_text};
-ghost use Rattle.bench_world.specs.Report.{access_text, kind_text, seen_text, found_text, source_text, received_text, inbox_text, answer_text, code_text, loss_text, line_text};
+ghost use Rattle.bench_world.specs.Report.{access_text, kind_text, seen_text, found_text, tag_text, tags_text, source_text, received_text, inbox_text, answer_text, code_text, loss_text, line_text};
 
 use crate::entry::{Answer, Entry, Loss, Received, Seen};
 use crate::fixed_text::{push_digits, push_hex, push_number, push_text};
@@ -28,6 +28,7 @@ pub struct AnswerPieces<'a> {
     bytes: &'a [u8],
     devices: &'a [Seen],
     messages: &'a [Received],
+    tags: &'a [[u8; 8]],
     tail: ArrayVec<u8, 640>,
 }
 
@@ -35,12 +36,13 @@ impl<'a> Model for AnswerPieces<'a> {
     ghost use Rattle.std.specs.Prelude.{ℕ, List, ◌++◌};
     ghost use Rattle.std.specs.List.{flat_map};
     ghost use Rattle.hex.specs.Hex.{encode_upper};
-    ghost use Rattle.bench_world.specs.Report.{seen_text, received_text};
+    ghost use Rattle.bench_world.specs.Report.{seen_text, received_text, tag_text};
 
     ghost Value = { List ℕ };
 
     ghost view = { λ p. p.head.items ++ (encode_upper p.bytes.now
-        ++ (flat_map seen_text p.devices.now ++ (flat_map received_text p.messages.now ++ p.tail.items))) };
+        ++ (flat_map seen_text p.devices.now ++ (flat_map received_text p.messages.now
+        ++ (flat_map tag_text p.tags.now ++ p.tail.items)))) };
 }
 
 /// The pieces of the line of an entry's answer.
@@ -70,6 +72,7 @@ pub fn answer_pieces(entry: &Entry) -> AnswerPieces<'_>
         Answer::Store(bytes) => with_bytes(line, b"store ", bytes.as_slice(), b""),
         Answer::Inbox(messages) => inbox(line, messages.as_slice()),
         Answer::Found { devices, crowd } => found(line, devices.as_slice(), *crowd),
+        Answer::Crowd(tags) => crowd(line, tags.as_slice()),
         Answer::Message { message, writable } => {
             with_bytes(line, b"message ", message.as_slice(), access(*writable))
         }
@@ -130,6 +133,7 @@ fn whole<'a>(text: ArrayVec<u8, 640>) -> AnswerPieces<'a>
         bytes: &[],
         devices: &[],
         messages: &[],
+        tags: &[],
         tail: ArrayVec::new(),
     }
 }
@@ -146,6 +150,7 @@ fn with_bytes<'a>(line: u32, words: &[u8], bytes: &'a [u8], end: &[u8]) -> Answe
         bytes,
         devices: &[],
         messages: &[],
+        tags: &[],
         tail: ended(end),
     }
 }
@@ -215,6 +220,7 @@ fn found(line: u32, devices: &[Seen], crowd: bool) -> AnswerPieces<'_>
         bytes: &[],
         devices,
         messages: &[],
+        tags: &[],
         tail: ended(crowd_text(crowd)),
     }
 }
@@ -242,6 +248,23 @@ fn inbox(line: u32, messages: &[Received]) -> AnswerPieces<'_>
         bytes: &[],
         devices: &[],
         messages,
+        tags: &[],
+        tail: ended(b""),
+    }
+}
+
+/// How many Type 5 tags were found, and which.
+fn crowd(line: u32, tags: &[[u8; 8]]) -> AnswerPieces<'_>
+    ensures { result ≡ line_text line (tags_text tags.now) }
+{
+    let mut head = begun(line, b"crowd ");
+    push_number(&mut head, tags.len() as u64);
+    AnswerPieces {
+        head,
+        bytes: &[],
+        devices: &[],
+        messages: &[],
+        tags,
         tail: ended(b""),
     }
 }
@@ -275,6 +298,10 @@ impl<'a> Iterator for AnswerPieces<'a> {
             self.bytes = received.message.as_slice();
             return Some(origin(received));
         }
+        if let Some((id, rest)) = self.tags.split_first() {
+            self.tags = rest;
+            return Some(tag(*id));
+        }
         if !self.tail.is_empty() {
             return Some(mem::replace(&mut self.tail, ArrayVec::new()));
         }
@@ -305,6 +332,17 @@ fn device(seen: &Seen) -> ArrayVec<u8, 640>
     }
     push_text(&mut piece, b":");
     push_text(&mut piece, kind_name(seen.kind));
+    piece
+}
+
+/// A Type 5 tag that was found.
+fn tag(id: [u8; 8]) -> ArrayVec<u8, 640>
+    ensures value { result.items ≡ tag_text id }
+    ensures some { 0 < length result.items }
+{
+    let mut piece = ArrayVec::new();
+    push_text(&mut piece, b" ");
+    push_uid(&mut piece, id);
     piece
 }
 

@@ -49,6 +49,10 @@ pub returns-in-Find-clause-cut : goal.returns-in-Find-clause-cut
 returns-in-Find-clause-cut c = λ e.
     subst (λ x. IsCutOffBy (joins_for x c.args.joins) c.args.machines.now c.find.new.machines x) (sym c.in-Find.is) (of_err c.find.result e c.find.ensures.cut)
 
+pub returns-in-Crowd-clause-cut : goal.returns-in-Crowd-clause-cut
+returns-in-Crowd-clause-cut c = λ e.
+    subst (λ x. IsCutOffBy (joins_for x c.args.joins) c.args.machines.now c.find_tags.new.machines x) (sym c.in-Crowd.is) (of_err c.find_tags.result e c.find_tags.ensures.cut)
+
 pub returns-in-Read-clause-cut : goal.returns-in-Read-clause-cut
 returns-in-Read-clause-cut c = λ e.
     subst (λ x. IsCutOffBy (joins_for x c.args.joins) c.args.machines.now c.read_tag.new.machines x) (sym c.in-Read.is) (of_err c.read_tag.result e c.read_tag.ensures.cut)

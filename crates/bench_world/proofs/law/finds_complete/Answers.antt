@@ -1,5 +1,9 @@
 use Rattle.bench_world.proofs.Complete.{finds_complete}
+use Rattle.bench_world.proofs.CompleteTags.{tags_complete}
 use Rattle.bench_world.proofs.law.finds_complete.Goals as goal
 
-pub returns : goal.returns
-returns c = finds_complete
+pub returns-clause-finds : goal.returns-clause-finds
+returns-clause-finds c = finds_complete
+
+pub returns-clause-tags : goal.returns-clause-tags
+returns-clause-tags c = tags_complete

@@ -1,4 +1,4 @@
-use Rattle.bench_world.proofs.CutLinks.{cut_link_law}
+use Rattle.bench_world.proofs.CutLinks.{cut_arrival_law, cut_link_law}
 use Rattle.bench_world.proofs.LinkLaw.{link_law}
 use Rattle.bench_world.proofs.law.links_accept.Goals as goal
 
@@ -7,3 +7,6 @@ returns-clause-whole c = link_law
 
 pub returns-clause-cut : goal.returns-clause-cut
 returns-clause-cut c = cut_link_law
+
+pub returns-clause-stopped : goal.returns-clause-stopped
+returns-clause-stopped c = cut_arrival_law

@@ -14,6 +14,9 @@ returns-clause-reads c = quiet.quiet_reads
 pub returns-clause-finds : goal.returns-clause-finds
 returns-clause-finds c = quiet.quiet_finds
 
+pub returns-clause-tags : goal.returns-clause-tags
+returns-clause-tags c = quiet.quiet_tags
+
 pub returns-clause-hears : goal.returns-clause-hears
 returns-clause-hears c = hearing.quiet_hears
 

@@ -1,4 +1,4 @@
-use Rattle.bench_world.proofs.BrokenRead.{broken_is_read}
+use Rattle.bench_world.proofs.BrokenRead.{broken_is_read, first_broken_is_read}
 use Rattle.bench_world.proofs.ReadBehind.{written_is_read, one_of_three_is_read}
 use Rattle.bench_world.proofs.law.reads_behind.Goals as goal
 
@@ -10,3 +10,6 @@ returns-clause-three c = one_of_three_is_read
 
 pub returns-clause-broken : goal.returns-clause-broken
 returns-clause-broken c = broken_is_read
+
+pub returns-clause-first : goal.returns-clause-first
+returns-clause-first c = first_broken_is_read

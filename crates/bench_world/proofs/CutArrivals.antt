@@ -1,0 +1,284 @@
+-- What arrived at the peer of a link in a command that want of memory cut off, and what was accepted by that.
+use Rattle.std.proofs.Common.{◌≡◌, ◌⊎◌, ℕ, ◌<◌, List, [], ◌∷◌, ◌++◌, drop, length, Option, Some, None, inl, inr, refl, sym, ◌∙◌, ap, subst, append_assoc, append-nil}
+use Rattle.std.specs.List.{AllByRecursion}
+use Rattle.std.proofs.Math.Seq.{drop-append_seam}
+use Rattle.nfc_base.specs.Choosing.{Choosing, first_number, later_numbers}
+use Rattle.nfc_base.specs.declared.event.Event.{Event}
+use Rattle.dep_link.specs.DepLinks.{brought}
+use Rattle.llcp_link.specs.Giving.{after_giving}
+use Rattle.llcp_link.specs.Running.{AreBytes}
+use Rattle.llcp_link.specs.Taking.{taken_from}
+use Rattle.llcp_link.specs.Taking as taking
+use Rattle.llcp_link.specs.Units.{units}
+use Rattle.snep_core.specs.Payloads.{AcceptsPuts, AcceptsSome, AllPut, IsFront, accepted_from}
+use Rattle.snep_core.specs.Server.{Received as Accepted, sap_count, serving}
+use Rattle.snep_core.specs.Session.{Offer}
+use Rattle.snep_core.proofs.CallsKeep.{giving_keeps}
+use Rattle.snep_core.proofs.CutOff.{cut_off_accepts}
+use Rattle.link_calls.specs.Arriving.{Arrives, ArrivesCut, StopsAtLast, all_answered}
+use Rattle.bench_script.specs.declared.command.Command.{Command}
+use Rattle.bench_script.specs.declared.command.Command.TheVariants.{Find, Crowd, Read, Write, Link, Put, Get, Lookup, Unlink}
+use Rattle.bench_world.specs.World.{FarEnd}
+use Rattle.bench_world.specs.Arrivals.{Arrival, arrival_marks, arrivals_of, end_at, end_behind, giving_values}
+use Rattle.bench_world.specs.Arriving.{ArrivesCutAt}
+use Rattle.bench_world.specs.ByPayloads.{IsByPayloads, IsFrontOfPayloads, PutsAtLeast}
+use Rattle.bench_world.specs.Calls.{IfLinked}
+use Rattle.bench_world.specs.Legal.{State, Given, Joins, CutCall, CutPut, CutShort, CutStores, FrontOf, IsOnLink, LeavesStable, PeerHalts, changed, link_after, world_after}
+use Rattle.bench_world.specs.LinkLaw.{cut_stretch}
+use Rattle.bench_world.specs.Links.{OpenLink, end_numbered}
+use Rattle.bench_world.specs.Peers.{Peers}
+use Rattle.bench_world.specs.Stories.{Story, Stretch, begun_in, open_goes_on}
+use Rattle.bench_world.proofs.PayloadsKept.{KeptIn, unless_numbers}
+use Rattle.bench_world.proofs.PayloadsOn.{Kept, OnLink, above_is, all_and_last, all_bytes, all_end, all_payloads, all_with, came_is, end_then, more_payloads}
+use Rattle.bench_world.proofs.PutsTold.{accepted_more}
+use Rattle.bench_world.proofs.SameStories.{last_equal}
+use Rattle.bench_world.proofs.ServerRuns.{answered_is, arrivals_front, arrivals_put, behind_then, bytes_are}
+use Rattle.bench_world.proofs.Tales.{accepted_in, accepted_of, gained_by, goes_on, stories_behind}
+use Rattle.bench_world.proofs.Unfinished.{short_front}
+use Rattle.bench_world.proofs.Unlinking.{same_numbers}
+
+front_then : (a b c : List Accepted) → IsFront a b → IsFront b c → IsFront a c
+front_then a b c (r, e) (q, d) = (r ++ q, d ∙ ap (λ z. z ++ q) e ∙ append_assoc a r q)
+
+same_rest : (a b c : List (List ℕ)) → a ++ b ≡ a ++ c → b ≡ c
+same_rest a b c e = sym (drop-append_seam a b) ∙ ap (drop (length a)) e ∙ drop-append_seam a c
+
+-- Of each client's SAP: where what was accepted is the first of what the payloads put, so is what was gained.
+puts_at_least : (c limit : ℕ) (us : List (List (List ℕ))) (had gained whole : List Accepted) → IsFront (had ++ gained) whole → (all : List (List ℕ)) → accepted_from c whole ≡ accepted_from c had ++ all
+    → AllPut limit us all → PutsAtLeast limit us (accepted_from c gained)
+puts_at_least c limit us had gained whole (rest, e) all accepted put =
+    let from : List Accepted → List (List ℕ) = accepted_from c in
+    let whole_is : from whole ≡ from had ++ (from gained ++ from rest) =
+    ap from e ∙ accepted_more c (had ++ gained) rest ∙ ap (λ z. z ++ from rest) (accepted_more c had gained) ∙ append_assoc (from had) (from gained) (from rest) in
+    record { all = all; put = put; rest = from rest; split = same_rest (from had) all (from gained ++ from rest) (sym accepted ∙ whole_is) }
+
+-- What is by the payloads is a front of what they put.
+pub whole_front : (y : Story) → IsByPayloads y → IsFrontOfPayloads y
+whole_front y h = record {
+  old = h.old;
+  begins = h.begins;
+  payloads = h.payloads;
+  front = ([], h.accepted ∙ sym (append-nil (y.begun.service.accepted ++ y.gained)));
+  least = λ before last split.
+      (h.order (record { before = before; next = last; more = []; split = split; came = []; behind = taking.brought (end_at (end_behind y.begun before) last) last.payload; parts = refl })).front;
+  puts = λ c few. record { all = accepted_from c y.gained; put = h.puts c few; rest = []; split = sym (append-nil (accepted_from c y.gained)) };
+}
+
+-- the last payload is the last to arrive
+last_arrival : (table : List Offer) (ns : List ℕ) (ps : List (List ℕ)) (p : List ℕ)
+    → (a : Arrival) × (arrivals_of table ns (ps ++ p ∷ []) ≡ arrivals_of table ns ps ++ a ∷ []) × (a.payload ≡ p) × (a.table ≡ table)
+last_arrival table ns [] p = (record { payload = p; count = first_number ns; table = table }, refl, refl, refl)
+last_arrival table ns (q ∷ ps) p =
+    let more = last_arrival table (later_numbers ns) ps p in
+    (more.0, ap (λ zs. record { payload = q; count = first_number ns; table = table } ∷ zs) more.1, more.2, more.3)
+
+-- what an end gives adds nothing
+given_same : (count : ℕ) (l : FarEnd) → (after_giving serving count l).service.accepted ≡ l.service.accepted
+given_same count l = giving_keeps serving (λ s. s.accepted ≡ l.service.accepted) (λ s c miu h. h) count l refl
+
+module _ (l : OpenLink) (s t : State) (y : Story) (on : OnLink l s y) (x : Stretch) (numbers : t.peers.numbers ≡ s.peers.numbers) where
+  abbrev ps : List (List ℕ)
+  ps = brought l.initiator.core.number x.events
+
+  abbrev there : FarEnd
+  there = end_behind y.begun y.arrivals
+
+  abbrev C : FarEnd → Choosing FarEnd
+  C e = record { end = e; numbers = x.joins.far }
+
+  abbrev next : Story
+  next = goes_on s x t y
+
+  module _ (came : ArrivesCutAt l s.peers.numbers x.joins.far s.world.fars t.world.fars x.events) where
+    stood : came.old ≡ giving_values on.table there
+    stood = let both : Some came.old ≡ Some (giving_values on.table there) = sym came.stood ∙ on.stands in cc
+
+    accepted_now : accepted_in y.peer t ≡ came.new.end.service.accepted
+    accepted_now =
+        ap (λ n. accepted_in n t) on.own ∙ ap (λ ns. accepted_of (end_numbered l.peer ns t.world.fars)) numbers
+        ∙ above_is came.new.end.service.accepted (end_numbered l.peer s.peers.numbers t.world.fars) came.accepted
+
+    -- its end answered all
+    whole : Arrives l.initiator.core.number x.events (C came.old) came.new → IsFrontOfPayloads next
+    whole arrives =
+        let end : FarEnd = end_then l s y on x arrives.bytes in
+        let is : came.new.end ≡ giving_values on.table end =
+        ap (λ (c : Choosing FarEnd). c.end) (arrives.after_is ∙ ap (λ e. all_answered ps (C e)) stood) ∙ answered_is ps x.joins.far on.table there in
+        whole_front next (more_payloads l s y on x arrives.bytes t (accepted_now ∙ ap (λ (e : FarEnd). e.service.accepted) is))
+
+    -- or it stopped at the last payload
+    module _ (stop : StopsAtLast l.initiator.core.number x.events (C came.old) came.new) where
+      abbrev end : FarEnd
+      end = end_then l s y on x stop.bytes
+
+      -- the arrivals before the last, and what was accepted by them
+      abbrev firsts : List Arrival
+      firsts = arrivals_of on.table x.joins.far stop.before
+
+      abbrev mid : FarEnd
+      mid = end_behind there firsts
+
+      abbrev new : List Accepted
+      new = came.new.end.service.accepted
+
+      last_one : (a : Arrival) × (arrivals_of on.table x.joins.far (stop.before ++ stop.last ∷ []) ≡ firsts ++ a ∷ []) × (a.payload ≡ stop.last) × (a.table ≡ on.table)
+      last_one = last_arrival on.table x.joins.far stop.before stop.last
+
+      all_are : arrivals_of on.table x.joins.far ps ≡ firsts ++ last_one.0 ∷ []
+      all_are = ap (arrivals_of on.table x.joins.far) stop.split ∙ last_one.1
+
+      half_is : (all_answered stop.before (C came.old)).end ≡ giving_values on.table mid
+      half_is = ap (λ e. (all_answered stop.before (C e)).end) stood ∙ answered_is stop.before x.joins.far on.table there
+
+      some : AcceptsSome (giving_values on.table mid) came.new.end stop.last
+      some = subst (λ e. AcceptsSome e came.new.end stop.last) half_is (cut_off_accepts (all_answered stop.before (C came.old)).end came.new.end stop.last stop.stops)
+
+      end_is : end.service.accepted ≡ (taken_from serving (giving_values on.table mid) stop.last).service.accepted
+      end_is =
+          ap (λ xs. (end_behind there xs).service.accepted) all_are ∙ ap (λ (e : FarEnd). e.service.accepted) (behind_then there firsts (last_one.0 ∷ []))
+          ∙ given_same last_one.0.count (taken_from serving (end_at mid last_one.0) last_one.0.payload)
+          ∙ ap (λ o. (taken_from serving (giving_values o mid) last_one.0.payload).service.accepted) last_one.3
+          ∙ ap (λ p. (taken_from serving (giving_values on.table mid) p).service.accepted) last_one.2
+
+      new_front : IsFront new end.service.accepted
+      new_front = subst (IsFront new) (sym end_is) some.front
+
+      grows : IsFront there.service.accepted mid.service.accepted
+      grows =
+          let whole_bytes = bytes_are on.table x.joins.far stop.before (bytes_first stop.before (stop.last ∷ []) (subst (AllByRecursion AreBytes) stop.split stop.bytes)) in
+          let P : FarEnd → Type 0 = λ b. IsFront (end_behind b y.arrivals).service.accepted (end_behind (end_behind b y.arrivals) firsts).service.accepted in
+          subst P (sym on.begins) (arrivals_front on.old y.general y.arrivals firsts on.bytes whole_bytes)
+        where
+          bytes_first : (xs zs : List (List ℕ)) → AllByRecursion AreBytes (xs ++ zs) → AllByRecursion AreBytes xs
+          bytes_first [] zs h = tt
+          bytes_first (z ∷ xs) zs h = (h.0, bytes_first xs zs h.1)
+
+      first : IsFront there.service.accepted new
+      first = front_then there.service.accepted mid.service.accepted new grows some.before
+
+      all_gained : y.begun.service.accepted ++ (y.gained ++ gained_by y.peer s t) ≡ new
+      all_gained =
+          let had : accepted_in y.peer s ≡ there.service.accepted = ap (λ n. accepted_in n s) on.own ∙ ap accepted_of on.stands in
+          let so : gained_by y.peer s t ≡ first.0 =
+          ap (λ xs. drop (length xs) (accepted_in y.peer t)) had ∙ ap (drop (length there.service.accepted)) (accepted_now ∙ first.1) ∙ drop-append_seam there.service.accepted first.0 in
+          ap (λ xs. y.begun.service.accepted ++ (y.gained ++ xs)) so ∙ sym (append_assoc y.begun.service.accepted y.gained first.0)
+          ∙ ap (λ xs. xs ++ first.0) (sym on.accepted) ∙ sym first.1
+
+      gained_front : IsFront (y.begun.service.accepted ++ next.gained) (end_behind y.begun next.arrivals).service.accepted
+      gained_front =
+          subst (λ a. IsFront a (end_behind y.begun next.arrivals).service.accepted) (sym all_gained)
+          (subst (λ (e : FarEnd). IsFront new e.service.accepted) (sym (all_end l s y on x stop.bytes)) new_front)
+
+      at_least : (before : List Arrival) (last : Arrival) → next.arrivals ≡ before ++ last ∷ [] → IsFront (end_behind y.begun before).service.accepted (y.begun.service.accepted ++ next.gained)
+      at_least before last split =
+          let parts : (y.arrivals ++ firsts) ++ last_one.0 ∷ [] ≡ before ++ last ∷ [] =
+          append_assoc y.arrivals firsts (last_one.0 ∷ []) ∙ ap (λ xs. y.arrivals ++ xs) (sym all_are ∙ sym (came_is l s y on x stop.bytes)) ∙ split in
+          let same : before ≡ y.arrivals ++ firsts = sym (last_equal (y.arrivals ++ firsts) before last_one.0 last parts).0 in
+          let ends : end_behind y.begun before ≡ mid = ap (end_behind y.begun) same ∙ behind_then y.begun y.arrivals firsts in
+          subst (IsFront (end_behind y.begun before).service.accepted) (sym all_gained) (subst (λ (e : FarEnd). IsFront e.service.accepted new) (sym ends) some.before)
+
+      put_all : (c : ℕ) → c < sap_count
+          → AcceptsPuts c y.begun.service.limit y.begun.miu (arrival_marks c y.begun next.arrivals) y.begun.service.accepted (end_behind y.begun next.arrivals).service.accepted
+      put_all c few =
+          let P : FarEnd → Type 0 = λ b. AcceptsPuts c b.service.limit b.miu (arrival_marks c b next.arrivals) b.service.accepted (end_behind b next.arrivals).service.accepted in
+          subst P (sym on.begins) (arrivals_put on.old y.general next.arrivals (all_bytes l s y on x stop.bytes) c few)
+
+      stopped : IsFrontOfPayloads next
+      stopped = record {
+        old = on.old;
+        begins = on.begins;
+        payloads = all_payloads l s y on x stop.bytes;
+        front = gained_front;
+        least = at_least;
+        puts = λ c few.
+            let p = put_all c few in
+            puts_at_least c y.begun.service.limit (units c y.begun.miu None (arrival_marks c y.begun next.arrivals)) y.begun.service.accepted next.gained
+            (end_behind y.begun next.arrivals).service.accepted gained_front p.all p.accepted p.put;
+      }
+
+    pub cut_front_of : IsFrontOfPayloads next
+    cut_front_of = by_arrival came.arrives
+      where
+        by_arrival : ArrivesCut l.initiator.core.number x.events (C came.old) came.new → IsFrontOfPayloads next
+        by_arrival (inl arrives) = whole arrives
+        by_arrival (inr stop) = stopped stop
+
+-- The stories of a bench behind it.
+module _ (s t : State) (joins : Joins) (c : Command) (cut : List Event) (ys : List Story) (h : KeptIn s ys) where
+  abbrev x : Stretch
+  x = cut_stretch c joins cut
+
+  abbrev pub CutBy : Type 0
+  CutBy = AllByRecursion IsFrontOfPayloads (stories_behind s x t ys)
+
+  none_begins : (d : Command) → begun_in d None t ≡ []
+  none_begins (Link id miu window) = refl
+  none_begins d = refl
+
+  -- where no link is open
+  unlinked_front : (changed s c).link ≡ None → CutBy
+  unlinked_front none =
+      let B : List Story → Type 0 = λ zs. AllByRecursion IsFrontOfPayloads (open_goes_on (changed s c).link (goes_on s x t) ys ++ zs) in
+      let O : Option OpenLink → Type 0 = λ o. AllByRecursion IsFrontOfPayloads (open_goes_on o (goes_on s x t) ys) in
+      subst B (sym (none_begins c)) (subst (AllByRecursion IsFrontOfPayloads) (sym (append-nil (open_goes_on (changed s c).link (goes_on s x t) ys)))
+      (subst O (sym none) (all_with s.link s ys h IsFrontOfPayloads whole_front)))
+
+  -- the open link goes on
+  linked_front : (l : OpenLink) → (changed s c).link ≡ Some l → s.link ≡ Some l → t.peers.numbers ≡ s.peers.numbers → ArrivesCutAt l s.peers.numbers joins.far s.world.fars t.world.fars cut → CutBy
+  linked_front l open_ was numbers came =
+      let k : Kept (Some l) s ys = subst (λ o. Kept o s ys) was h in
+      let B : List Story → Type 0 = λ zs. AllByRecursion IsFrontOfPayloads (open_goes_on (changed s c).link (goes_on s x t) ys ++ zs) in
+      let O : Option OpenLink → Type 0 = λ o. AllByRecursion IsFrontOfPayloads (open_goes_on o (goes_on s x t) ys) in
+      subst B (sym (none_begins c)) (subst (AllByRecursion IsFrontOfPayloads) (sym (append-nil (open_goes_on (changed s c).link (goes_on s x t) ys)))
+      (subst O (sym open_) (all_and_last l s ys k (goes_on s x t) IsFrontOfPayloads whole_front (cut_front_of l s t k.going.last k.going.on x numbers came))))
+
+-- a command on the link of which there is a front
+module _ (s t : State) (g : Given) (cut : List Event) (ys : List Story) (h : KeptIn s ys) where
+  abbrev Goal : Command → Type 0
+  Goal c = CutBy s t g.joins c cut ys h
+
+  on_link : (c : Command) → (changed s c).link ≡ s.link → FrontOf s g c cut None t → t.peers.numbers ≡ s.peers.numbers → (P : OpenLink → Type 0) (Q : Type 0)
+      → ((l : OpenLink) → P l → ArrivesCutAt l s.peers.numbers g.joins.far s.world.fars (world_after s g.joins c cut).fars cut) → IfLinked s.link P Q → Goal c
+  on_link c still front numbers P Q came stores = by_link s.link refl stores
+    where
+      by_link : (o : Option OpenLink) → s.link ≡ o → IfLinked o P Q → Goal c
+      by_link None none q = unlinked_front s t g.joins c cut ys h (still ∙ none)
+      by_link (Some l) open_ p =
+          linked_front s t g.joins c cut ys h l (still ∙ open_) open_ numbers
+          (subst (λ (z : State). ArrivesCutAt l s.peers.numbers g.joins.far s.world.fars z.world.fars cut) (sym front.after) (came l p))
+
+  front_by : (c : Command) → FrontOf s g c cut None t → CutStores s g.joins c cut → Goal c
+  front_by Find front stores = unlinked_front s t g.joins Find cut ys h refl
+  front_by Crowd front stores = unlinked_front s t g.joins Crowd cut ys h refl
+  front_by (Read id) front stores = unlinked_front s t g.joins (Read id) cut ys h refl
+  front_by (Write id m) front stores = unlinked_front s t g.joins (Write id m) cut ys h refl
+  front_by (Link id miu window) front stores = unlinked_front s t g.joins (Link id miu window) cut ys h refl
+  front_by (Put m) front stores =
+      on_link (Put m) refl front (ap (λ (z : State). z.peers.numbers) front.after ∙ unless_numbers (link_after s g.joins (Put m) cut None) s.link (world_after s g.joins (Put m) cut).fars s.peers)
+      (λ l. CutPut s g.joins l m cut) (LeavesStable s g.joins (Put m) cut) (λ l p. p.came) stores
+  front_by (Get most key) front stores =
+      on_link (Get most key) refl front (ap (λ (z : State). z.peers.numbers) front.after ∙ unless_numbers (link_after s g.joins (Get most key) cut None) s.link (world_after s g.joins (Get most key) cut).fars s.peers)
+      (λ l. CutCall s g.joins l (Get most key) cut) (LeavesStable s g.joins (Get most key) cut) (λ l p. p.came) stores
+  front_by (Lookup name) front stores =
+      on_link (Lookup name) refl front (ap (λ (z : State). z.peers.numbers) front.after ∙ unless_numbers (link_after s g.joins (Lookup name) cut None) s.link (world_after s g.joins (Lookup name) cut).fars s.peers)
+      (λ l. CutCall s g.joins l (Lookup name) cut) (LeavesStable s g.joins (Lookup name) cut) (λ l p. p.came) stores
+  front_by Unlink front stores =
+      on_link Unlink refl front (ap (λ (z : State). z.peers.numbers) front.after ∙ same_numbers s.link s.peers (world_after s g.joins Unlink cut).fars)
+      (λ l. CutCall s g.joins l Unlink cut) (LeavesStable s g.joins Unlink cut) (λ l p. p.came) stores
+  front_by c front stores = absurd stores
+
+still_on : (s : State) (c : Command) → IsOnLink c → (changed s c).link ≡ s.link
+still_on s (Put m) talks = refl
+still_on s (Get most key) talks = refl
+still_on s (Lookup name) talks = refl
+still_on s Unlink talks = refl
+still_on s c talks = absurd talks
+
+pub cut_arrived : (s t : State) (joins : Joins) (c : Command) (cut : List Event) (ys : List Story) (h : KeptIn s ys) → CutShort joins s c cut t ⊎ PeerHalts joins s c cut t → CutBy s t joins c cut ys h
+cut_arrived s t joins c cut ys h (inl short) =
+    let f = short_front joins s c cut t short in
+    subst (λ j. CutBy s t j c cut ys h) f.1 (front_by s t f.0 cut ys h c f.2 f.3)
+cut_arrived s t joins c cut ys h (inr halts) =
+    subst (λ j. CutBy s t j c cut ys h) halts.joined
+    (linked_front s t halts.given.joins c cut ys h halts.on (still_on s c halts.on_link ∙ halts.open_) halts.open_
+    (ap (λ (p : Peers). p.numbers) halts.leaves.peers ∙ same_numbers (Some halts.on) s.peers t.world.fars) halts.came)

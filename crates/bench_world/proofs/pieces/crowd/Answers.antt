@@ -1,0 +1,14 @@
+use Rattle.std.proofs.Common.{◌++◌, [], ◌∷◌, ℕ, List, length, ◌∙◌, ap}
+use Rattle.std.specs.Prelude.{codes}
+use Rattle.std.specs.List.{flat_map}
+use Rattle.std.specs.Fmt.{decimal}
+use Rattle.bench_world.specs.Report.{tag_text}
+use Rattle.bench_world.proofs.Joined.{inbox_parts}
+use Rattle.bench_world.proofs.pieces.crowd.Goals as goal
+
+pub returns : goal.returns
+returns c =
+    let n : List ℕ = decimal (length c.args.tags.now) in
+    let head = c.push_number.ensures.value ∙ ap (λ x. x ++ n) c.begun-head.ensures.value in
+    inbox_parts (decimal c.args.line ++ 32 ∷ []) (codes "crowd ") n (flat_map tag_text c.args.tags.now) (10 ∷ []) c.push_number.new.piece.items c.ended.result.items
+    head c.ended.ensures
