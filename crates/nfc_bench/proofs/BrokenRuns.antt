@@ -1,15 +1,15 @@
 -- In each run of a sweep with a Break its write comes to it, so what is read behind it is one of three messages.
-use Rattle.std.proofs.Common.{◌≡◌, ◌⊎◌, inl, inr, ℕ, zero, suc, ◌+◌, ◌-◌, ◌*◌, ◌/◌, ◌%◌, ◌<◌, ◌≤◌, List, [], ◌∷◌, ◌++◌, length, get_or, map, replicate, Bool, true, false, Option, Some, None, refl, sym, ◌∙◌, ap, subst, append_assoc, arith}
-use Rattle.std.specs.Prelude.{if◌then◌else◌, slice_get}
+use Rattle.std.proofs.Common.{◌≡◌, ◌⊎◌, inl, inr, ℕ, ◌+◌, ◌-◌, ◌<◌, ◌≤◌, List, [], ◌∷◌, ◌++◌, length, get_or, map, Bool, true, false, Some, refl, sym, ◌∙◌, ap, subst, append_assoc, arith}
+use Rattle.std.specs.Prelude.{if◌then◌else◌, slice_get, nat_eq, not, ◌&&◌}
+use Rattle.std.specs.Cmp.Lexicographic.{pointwise}
 use Rattle.std.specs.List.{All, AllByRecursion}
 use Rattle.std.proofs.Math.Seq.{get_or-append_seam}
-use Rattle.std.proofs.lemmas.List.{append-nil, length-append, map-append, replicate-append-replicate}
+use Rattle.std.proofs.lemmas.List.{append-nil, length-append}
 use Rattle.std.proofs.lemmas.List.Elements.{All-head, All-tail}
 use Rattle.std.proofs.lemmas.Option.{slice_get-get_or}
-use Rattle.nfc_base.specs.declared.event.Event.{Event}
 use Rattle.nfc_base.specs.declared.event.Fate.{Fate}
-use Rattle.nfc_base.specs.declared.event.Fate.TheVariants.{Pass, Break}
 use Rattle.air_core.specs.Conversation.{Over, queue_after, receptions}
+use Rattle.nfca_poll.proofs.OneLevel.{pointwise_self}
 use Rattle.tlv_area.specs.Form.{Form, Message}
 use Rattle.tag_reader.specs.Kinds.{IsStoreForm}
 use Rattle.tag_writer.proofs.OneOutcome.{held_there}
@@ -19,30 +19,30 @@ use Rattle.bench_script.specs.declared.command.DeviceId.{DeviceId}
 use Rattle.bench_script.specs.declared.message.Msg.{Msg}
 use Rattle.bench_script.specs.DeviceIds.{bytes_of}
 use Rattle.bench_script.specs.Messages.{message_of}
-use Rattle.bench_script.specs.Script.{Spells, is_skipped, most_fates}
+use Rattle.bench_script.specs.Script.{Spells, is_skipped}
 use Rattle.bench_script.proofs.Spelling.{spells_one}
 use Rattle.bench_devices.specs.declared.device.Device.{Device}
 use Rattle.bench_devices.specs.Answering.{IsNamed}
 use Rattle.bench_devices.specs.Device.{device_store, how_of, size_of}
 use Rattle.bench_devices.specs.Placed.{device_with}
-use Rattle.bench_world.specs.declared.entry.Answer.TheVariants.{Written}
+use Rattle.bench_world.specs.declared.entry.Answer.TheVariants.{Written, Message as Told}
 use Rattle.bench_world.specs.declared.entry.Entry.{Entry}
 use Rattle.bench_world.specs.Behind.{breaking, BreaksThenReads, TellsOneOfThree}
-use Rattle.bench_world.specs.Journal.{NumberedLine, asking_lines, AreEntriesOf, LeadsTo}
+use Rattle.bench_world.specs.Journal.{NumberedLine, asking_lines, AreEntriesOf}
 use Rattle.bench_world.specs.Legal.{State, Given, Joins, no_joins, FrontOf, AnswerLaw, LegalStep, EachLegal, begun, changed, due, state_after, first_state}
 use Rattle.bench_world.specs.Taking.{AreSpelled}
-use Rattle.bench_world.proofs.BrokenRead.{broken_is_read, none_left}
+use Rattle.bench_world.proofs.BrokenRead.{broken_is_read, first_broken_is_read, none_left}
 use Rattle.bench_world.proofs.HeldOn.{nothing_sent}
 use Rattle.bench_world.proofs.OneForm.{one_store_form}
 use Rattle.bench_world.proofs.OneJournal.{same_answers, same_state}
 use Rattle.bench_world.proofs.Reached.{first_ready, ready_behind}
 use Rattle.bench_world.proofs.WriteBehind.{Done, tag_behind}
 use Rattle.nfc_bench.specs.Run.{IsFates, HaveNoFates, IsRunOf, AreRuns}
-use Rattle.nfc_bench.specs.Sweep.{sweep_lines, break_lines, read_line, last_entry, all_transmissions, told_in, told_if, message_told}
-use Rattle.nfc_bench.specs.SweptReads.{HeldBehind, TellsThree, SweptIsRead}
+use Rattle.nfc_bench.specs.Sweep.{sweep_lines, break_lines, read_line, last_entry, all_transmissions, told_in, told_if, told_by, message_told, message_written, written_if, written_in, first_told, is_neither}
+use Rattle.nfc_bench.specs.SweptReads.{HeldBehind, TellsThree, SweptIsRead, NeitherIsEmpty}
 use Rattle.nfc_bench.proofs.Journals.{asking_more, asks_something}
 use Rattle.nfc_bench.proofs.WrittenTag.{named_so, written_placed}
-use Rattle.nfc_bench.proofs.SweptLines.{break_fates, break_commands, breaks_are, breaks_spelled, read_spelled, spelled_append, some_fates, all_breaks, all_of}
+use Rattle.nfc_bench.proofs.SweptLines.{break_fates, breaks_are, breaks_spelled, read_spelled, spelled_append, all_breaks, all_of}
 
 -- no entry has numbers
 abbrev NoneJoined : List Given → Type 0
@@ -292,6 +292,21 @@ lines_are : (before : List (List ℕ)) (last read : List ℕ) (i : ℕ) → swee
 unfolding sweep_lines
 lines_are before last read i = refl
 
+-- of three messages one that is neither the old one nor the new one is empty
+no_both : (v : Bool) → v && false ≡ true → ⊥
+no_both true e = cc
+no_both false e = cc
+
+neither_empty : (old new message : List ℕ) → (message ≡ old) ⊎ ((message ≡ []) ⊎ (message ≡ new)) → is_neither (Some old) new (Some message) ≡ true → message ≡ []
+neither_empty old new message (inl is) counted =
+    let same : pointwise nat_eq message old ≡ true = subst (λ x. pointwise nat_eq message x ≡ true) is (pointwise_self message) in
+    let clash : ◌≡◌ {A = Bool} false true = sym (ap (λ v. not v && not (pointwise nat_eq message new)) same) ∙ counted in
+    absurd cc
+neither_empty old new message (inr (inl is)) counted = is
+neither_empty old new message (inr (inr is)) counted =
+    let same : pointwise nat_eq message new ≡ true = subst (λ x. pointwise nat_eq message x ≡ true) is (pointwise_self message) in
+    absurd (no_both (not (pointwise nat_eq message old)) (sym (ap (λ v. not (pointwise nat_eq message old) && not v) same) ∙ counted))
+
 module _ (lines : List (List ℕ)) (runs : List (List Entry)) (r : AreRuns lines runs) where
   abbrev id : DeviceId
   id = r.script.id
@@ -417,12 +432,24 @@ module _ (lines : List (List ℕ)) (runs : List (List Entry)) (r : AreRuns lines
     it : TellsOneOfThree placed.0 (message_of m) two.second
     it = broken_is_read id placed.0 m two.second breaks
 
-    told : told_in run ≡ Some it.message
-    told =
+    told_so : (message : List ℕ) (writable : Bool) → two.second.answer ≡ Told message writable → told_in run ≡ Some message
+    told_so message writable is =
         let ends : run ≡ (parts.entries.es ++ (behind.front ++ two.first ∷ [])) ++ two.second ∷ [] =
         parts.entries.parts ∙ ap (λ x. parts.entries.es ++ x) (behind.parts ∙ ap (λ x. behind.front ++ x) two.is ∙ sym (append_assoc behind.front (two.first ∷ []) (two.second ∷ [])))
         ∙ sym (append_assoc parts.entries.es (behind.front ++ two.first ∷ []) (two.second ∷ [])) in
-        ap told_in ends ∙ ap told_if (last_of (parts.entries.es ++ (behind.front ++ two.first ∷ [])) two.second) ∙ ap message_told it.told
+        ap told_in ends ∙ ap told_if (last_of (parts.entries.es ++ (behind.front ++ two.first ∷ [])) two.second) ∙ ap message_told is
+
+    told : told_in run ≡ Some it.message
+    told = told_so it.message it.writable it.told
+
+    -- where no transmission passes
+    old_told : i ≡ 0 → told_in run ≡ Some held.0
+    unfolding breaks
+    old_told first =
+        let one = first_broken_is_read id placed.0 m two.second breaks first in
+        let same_old : one.old ≡ held.0 =
+        same_held one.old held.0 (one_store_form (how_of placed.0) (size_of placed.0) (device_store placed.0) (Message one.old) (Message held.0) one.held held.1) in
+        told_so one.old one.writable one.told ∙ ap Some same_old
 
     three : TellsThree held.0 (message_of m) run
     three =
@@ -430,5 +457,23 @@ module _ (lines : List (List ℕ)) (runs : List (List Entry)) (r : AreRuns lines
         same_held it.old held.0 (one_store_form (how_of placed.0) (size_of placed.0) (device_store placed.0) (Message it.old) (Message held.0) it.held held.1) in
         record { message = it.message; told = told; three = elim it.three [ inl old ↦ inl (old ∙ same_old) | inr other ↦ inr other ] }
 
+  -- the first of them tells what the tag held, and the first run of all writes the message
+  old_first : 0 < length r.broken → first_told r.broken ≡ Some held.0
+  old_first some = ap told_by (slice_get-get_or r.broken 0 [] some) ∙ old_told 0 some refl
+
+  written : written_in r.first ≡ message_of m
+  written = ap written_if r.last ∙ ap (λ (e : Entry). message_written e.command) is_write ∙ ap message_written write.command
+
+  empty_told : (i : ℕ) → i < length r.broken → is_neither (first_told r.broken) (written_in r.first) (told_in (get_or r.broken i [])) ≡ true → told_in (get_or r.broken i []) ≡ Some []
+  empty_told i within counted =
+      let it = three i within in
+      let by_old = subst (λ o. is_neither o (written_in r.first) (told_in (get_or r.broken i [])) ≡ true) (old_first (omega (arith, within))) counted in
+      let by_new = subst (λ n. is_neither (Some held.0) n (told_in (get_or r.broken i [])) ≡ true) written by_old in
+      let by_told = subst (λ o. is_neither (Some held.0) (message_of m) o ≡ true) it.told by_new in
+      it.told ∙ ap Some (neither_empty held.0 (message_of m) it.message it.three by_told)
+
 pub swept_is_read : SweptIsRead
-swept_is_read lines runs r = ((held lines runs r).0, held_behind lines runs r, λ i within. three lines runs r i within)
+swept_is_read lines runs r = ((held lines runs r).0, held_behind lines runs r, (λ i within. three lines runs r i within), old_first lines runs r)
+
+pub neither_is_empty : NeitherIsEmpty
+neither_is_empty lines runs r = empty_told lines runs r

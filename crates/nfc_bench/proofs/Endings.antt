@@ -25,7 +25,7 @@ use Rattle.nfc_bench.specs.Reading.{ReadsAll, ReadsToLimit}
 use Rattle.nfc_bench.specs.Stops.{Follows, LineRefused, LineCut, LineLost, LineStops, Lost, ObeyedBy, RunRefused, RunUnread, RunLost, RunStops}
 use Rattle.nfc_bench.proofs.Limits.{all_at, IsShort, limits_more, no_limits}
 use Rattle.nfc_bench.proofs.Reading.{goes_on_by, goes_looking, read_at_end, read_at_limit}
-use Rattle.nfc_bench.proofs.Progress.{Progress, GaveNext, Goes, goes, lines_on, whole_on, ended_on, leads_to, obeyed_lost, obeyed_more, obeyed_new}
+use Rattle.nfc_bench.proofs.Progress.{Progress, GaveNext, Goes, goes, lines_on, whole_on, ended_on, leads_to, obeyed_lost, obeyed_more, obeyed_new, stops_lost, stops_none}
 use Rattle.nfc_bench.proofs.Journals.{written_none}
 
 -- The lines that were obeyed are taken, and what is taken behind them is taken by the machines.
@@ -154,15 +154,17 @@ front_with left left' done m j new n o limits number next few line =
         rest = lines_of (m.held ++ by.more);
         parts = next.lines by.more by.follows ∙ sym (append_assoc done (m.line ∷ []) (lines_of (m.held ++ by.more)));
         obeyed = (obeyed_more done j new m.line n o line number).obeyed;
+        stops = stops_none (done ++ m.line ∷ []) (lines_of (m.held ++ by.more)) new (obeyed_more done j new m.line n o line number).obeyed.run.legal.last (obeyed_more done j new m.line n o line number);
       };
       limits = limits_more done m.line limits (omega (arith, number, few)) next.short;
     }
 
 -- it isn't
 front_without : (left left' : Option (List ℕ)) (done : List (List ℕ)) (m : Lined) (j new : Benched)
-    → ObeyedBy done j → AreWithinLimits done → GaveNext left left' done m → Lost j new → ObeysFront left new
+    → ObeyedBy done j → AreWithinLimits done → GaveNext left left' done m → Lost j new m.line → ObeysFront left new
 front_without left left' done m j new o limits next lost =
     let by = goes_on_by left left' next.text m.is_ended next.read next.ended in
+    let it = obeyed_lost done j new m.line o lost in
     record {
       input = next.text ++ by.more;
       told = by.told;
@@ -170,7 +172,8 @@ front_without left left' done m j new o limits next lost =
         front = done;
         rest = m.line ∷ lines_of (m.held ++ by.more);
         parts = next.lines by.more by.follows;
-        obeyed = obeyed_lost done j new o lost;
+        obeyed = it.obeyed;
+        stops = stops_lost done j new m.line (lines_of (m.held ++ by.more)) it.obeyed.run.legal.last o lost it.last;
       };
       limits = limits;
     }
@@ -190,7 +193,7 @@ cut_line quiet left left' done m j new n t t1 t2 w w1 w2 o limits number written
     }
 
 lost_line : (quiet : Bool) (left left' : Option (List ℕ)) (done : List (List ℕ)) (m : Lined) (j new : Benched) (t t1 t2 : Option (List ℕ))
-    → ObeyedBy done j → AreWithinLimits done → t1 ≡ with_end t (report_text quiet j.journal) → GaveNext left left' done m → LineLost j new t1 t2 → RunLost quiet left t t2 new
+    → ObeyedBy done j → AreWithinLimits done → t1 ≡ with_end t (report_text quiet j.journal) → GaveNext left left' done m → LineLost j new m.line t1 t2 → RunLost quiet left t t2 new
 lost_line quiet left left' done m j new t t1 t2 o limits written next s = record {
   lines = front_without left left' done m j new o limits next s.lost;
   written = s.same ∙ written ∙ ap (λ js. with_end t (report_text quiet js)) (sym s.lost.journal);
@@ -207,7 +210,13 @@ line_stops quiet left left' done m j new n t t1 t2 r r' w w1 w2 Memory o limits 
 
 -- memory was wanting before a line was obeyed
 abbrev pub none_obeyed : (runs : List (List Entry)) (lines : List (List ℕ)) → FirstAreObeyed lines (begun_anew runs)
-none_obeyed runs lines = record { front = []; rest = lines; parts = refl; obeyed = (obeyed_new runs).obeyed }
+none_obeyed runs lines = record {
+  front = [];
+  rest = lines;
+  parts = refl;
+  obeyed = (obeyed_new runs).obeyed;
+  stops = stops_none [] lines (begun_anew runs) (obeyed_new runs).obeyed.run.legal.last (obeyed_new runs);
+}
 
 pub front_at_once : (left : Option (List ℕ)) (runs : List (List Entry)) → ObeysFront left (begun_anew runs)
 front_at_once None runs = record { input = []; told = tt; obeyed = none_obeyed runs (lines_of []); limits = no_limits }

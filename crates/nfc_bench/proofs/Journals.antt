@@ -76,6 +76,7 @@ follows_skipped old new n l skipped sound same =
         numbered = subst A (sym (ap (λ v. if v then asking_lines (n + 1) [] else record { number = n; text = l } ∷ asking_lines (n + 1) []) skipped)) tt;
         steps = ap (λ (b : Benched). b.state) same;
         sound = ap (λ (b : Benched). b.spoiled) same ∙ sound;
+        uncut = ap (λ (b : Benched). b.cut) same;
         runs = ap (λ (b : Benched). b.finished) same;
       },
       refl,
@@ -94,6 +95,7 @@ follows_entry old new n l c asks spelled adds =
         numbered = subst A (sym (ap (λ v. if v then asking_lines (n + 1) [] else record { number = n; text = l } ∷ asking_lines (n + 1) []) asks)) (adds.numbered, subst S (sym adds.asked) spelled, tt);
         steps = (adds.state, adds.legal, ap (λ (b : Benched). b.state) adds.is);
         sound = ap (λ (b : Benched). b.spoiled) adds.is ∙ adds.sound;
+        uncut = ap (λ (b : Benched). b.cut) adds.is;
         runs = ap (λ (b : Benched). b.finished) adds.is;
       },
       refl,

@@ -9,7 +9,7 @@ use Rattle.bench_world.specs.Taking.{AreSpelled, AreTaken, IsTaken}
 use Rattle.bench_world.proofs.Shapes.{taken_at}
 use Rattle.nfc_bench.specs.Run.{FirstAreObeyed}
 use Rattle.nfc_bench.specs.Stops.{FirstUntaken, Follows, Lost, ObeyedBy}
-use Rattle.nfc_bench.proofs.Progress.{obeyed_lost, obeyed_more}
+use Rattle.nfc_bench.proofs.Progress.{obeyed_lost, obeyed_more, stops_lost}
 use Rattle.nfc_bench.proofs.Endings.{done_taken, taken_there}
 
 -- the line at the next place is obeyed too
@@ -48,10 +48,16 @@ none_untaken lines commands b n taken f =
     f.refused (taken_at first_state f.before f.line f.after commands f.commands spelled taken.accepted f.taken.spelled)
 
 -- want of memory leaves those before it obeyed
-pub front_obeyed : (lines : List (List ℕ)) (place : ℕ) (old new : Benched) → ObeyedBy (take place lines) old → Lost old new → FirstAreObeyed lines new
-front_obeyed lines place old new obeyed lost = record {
-  front = take place lines;
-  rest = drop place lines;
-  parts = sym (take-append-drop place lines);
-  obeyed = obeyed_lost (take place lines) old new obeyed lost;
-}
+pub front_obeyed : (lines : List (List ℕ)) (place : ℕ) (old new : Benched) (text : List ℕ) → place < length lines → text ≡ get_or lines place [] → ObeyedBy (take place lines) old → Lost old new text
+    → FirstAreObeyed lines new
+front_obeyed lines place old new text within same obeyed lost =
+    let line : List ℕ = get_or lines place [] in
+    let here : Lost old new line = subst (Lost old new) same lost in
+    let it = obeyed_lost (take place lines) old new line obeyed here in
+    record {
+      front = take place lines;
+      rest = line ∷ drop (suc place) lines;
+      parts = sym (take-append-drop place lines) ∙ ap (λ x. take place lines ++ x) (drop-cons lines place [] within);
+      obeyed = it.obeyed;
+      stops = stops_lost (take place lines) old new line (drop (suc place) lines) it.obeyed.run.legal.last obeyed here it.last;
+    }

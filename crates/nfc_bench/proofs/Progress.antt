@@ -13,13 +13,16 @@ use Rattle.nfc_io.proofs.InOrder.{ended_behind}
 use Rattle.nfc_io.proofs.Lines.{lines_front, whole_front, lines_last}
 use Rattle.bench_world.specs.declared.entry.Entry.{Entry}
 use Rattle.bench_world.specs.Journal.{LeadsTo}
-use Rattle.bench_world.specs.Legal.{State, Joins, Given, no_joins}
-use Rattle.bench_world.specs.Obeying.{Benched, begun_anew, new_bench}
+use Rattle.bench_script.specs.declared.command.Command.{Command}
+use Rattle.bench_script.specs.Script.{Spells}
+use Rattle.bench_world.specs.Legal.{State, Joins, Given, CutOff, no_joins}
+use Rattle.bench_world.specs.Unfinished.{Unfinished}
+use Rattle.bench_world.specs.Obeying.{Benched, Spoils, begun_anew, new_bench}
 use Rattle.bench_world.specs.Report.{report_text}
 use Rattle.bench_world.proofs.LinkLaw.{link_law}
 use Rattle.bench_world.proofs.OneJournal.{one_legal}
 use Rattle.bench_script.specs.Limits.{most_lines, longest_line, AreWithinLimits}
-use Rattle.nfc_bench.specs.Run.{AreObeyed, IsRunOf, ReadsInTime}
+use Rattle.nfc_bench.specs.Run.{AreObeyed, IsCutAt, IsRunOf, ReadsInTime, StopsAt}
 use Rattle.nfc_bench.specs.declared.top.lines.Stop.{Stop}
 use Rattle.nfc_bench.specs.declared.top.lines.Stop.TheVariants.{Refused, ReadFault, WriteFault, Memory}
 use Rattle.nfc_bench.specs.Stops.{Follows, IsSoundUnless, LineDone, LineStops, Lost, ObeyedBy}
@@ -45,33 +48,63 @@ is_run lines numbers journal last leads most = record {
 }
 
 -- where lines lead a bench to its state, it obeyed them
-obeyed_by : (lines : List (List ℕ)) (numbers : List Joins) (b : Benched) → LeadsTo lines numbers b.journal b.state → AreMost numbers → b.spoiled ≡ false → ObeyedBy lines b
-obeyed_by lines numbers b leads most sound = record {
+obeyed_by : (lines : List (List ℕ)) (numbers : List Joins) (b : Benched) → LeadsTo lines numbers b.journal b.state → AreMost numbers → b.spoiled ≡ false → b.cut ≡ [] → ObeyedBy lines b
+obeyed_by lines numbers b leads most sound uncut = record {
   obeyed = record { run = is_run lines numbers b.journal b.state leads most; machines = λ sound. refl };
   sound = sound;
+  uncut = uncut;
 }
 
 -- a bench that begins anew obeyed none
 pub obeyed_new : (runs : List (List Entry)) → ObeyedBy [] (begun_anew runs)
-obeyed_new runs = obeyed_by [] [] (begun_anew runs) legal_none tt refl
+obeyed_new runs = obeyed_by [] [] (begun_anew runs) legal_none tt refl refl
 
 -- and the other way
 pub leads_to : (lines : List (List ℕ)) (b : Benched) (o : ObeyedBy lines b) → LeadsTo lines o.obeyed.run.legal.numbers b.journal b.state
 leads_to lines b o = subst (LeadsTo lines o.obeyed.run.legal.numbers b.journal) (o.obeyed.machines o.sound) o.obeyed.run.legal.leads
 
 -- a bench that wants memory behind some lines obeyed them
-pub obeyed_lost : (lines : List (List ℕ)) (old new : Benched) → ObeyedBy lines old → Lost old new → AreObeyed lines new
-obeyed_lost lines old new o lost =
-    let P : List Entry → Type 0 = λ js. (run : IsRunOf lines js) × (new.spoiled ≡ false → run.legal.last ≡ new.state) in
-    let it : P new.journal = subst P (sym lost.journal)
-    (o.obeyed.run, λ sound. o.obeyed.machines o.sound ∙ ap (λ (b : Benched). b.state) (sym (lost.machines sound))) in
-    record { run = it.0; machines = it.1 }
+pub record LostBehind (lines : List (List ℕ)) (old new : Benched) : Type 0 where
+  pub obeyed : AreObeyed lines new
+  pub last : obeyed.run.legal.last ≡ old.state
+
+pub obeyed_lost : (lines : List (List ℕ)) (old new : Benched) (l : List ℕ) → ObeyedBy lines old → Lost old new l → LostBehind lines old new
+obeyed_lost lines old new l o lost =
+    let P : List Entry → Type 0 = λ js. (run : IsRunOf lines js) × (run.legal.last ≡ old.state) in
+    let it : P new.journal = subst P (sym lost.journal) (o.obeyed.run, o.obeyed.machines o.sound) in
+    record { obeyed = record { run = it.0; machines = λ sound. it.1 ∙ ap (λ (b : Benched). b.state) (sym (lost.machines sound)) }; last = it.1 }
+
+-- Where the bench stands then, before the line that memory was wanting for.
+cut_at : (old new : Benched) (l : List ℕ) (after : List (List ℕ)) (last : State) (c : Command) → last ≡ old.state → Spells l c → Spoils old new c → IsCutAt (l ∷ after) last new
+cut_at old new l after last c same spelled s =
+    let front : CutOff no_joins old.state c new.cut new.state = subst (λ (b : Benched). CutOff no_joins old.state c b.cut b.state) (sym s.is) s.front in
+    let stores : Unfinished old.state c new.cut new.state = subst (λ (b : Benched). Unfinished old.state c b.cut b.state) (sym s.is) s.stores in
+    record {
+      line = l;
+      after = after;
+      parts = refl;
+      command = c;
+      spelled = spelled;
+      front = subst (λ x. CutOff no_joins x c new.cut new.state) (sym same) front;
+      stores = subst (λ x. Unfinished x c new.cut new.state) (sym same) stores;
+    }
+
+pub stops_lost : (lines : List (List ℕ)) (old new : Benched) (l : List ℕ) (after : List (List ℕ)) (last : State) → ObeyedBy lines old → Lost old new l → last ≡ old.state → StopsAt (l ∷ after) last new
+stops_lost lines old new l after last o lost same = record {
+  sound = λ sound. ap (λ (b : Benched). b.cut) (lost.machines sound) ∙ o.uncut;
+  spoiled = λ is. let (c, spelled, spoils) = lost.spoiled o.sound is in cut_at old new l after last c same spelled spoils;
+}
+
+-- nothing is cut off of a bench that obeyed lines
+pub stops_none : (lines rest : List (List ℕ)) (b : Benched) (last : State) → ObeyedBy lines b → StopsAt rest last b
+stops_none lines rest b last o = record { sound = λ _. o.uncut; spoiled = λ is. absurd (let clash : false ≡ true = sym o.sound ∙ is in cc) }
 
 -- one more line is obeyed
 pub obeyed_more : (ls : List (List ℕ)) (old new : Benched) (l : List ℕ) (n : ℕ) → ObeyedBy ls old → Follows old new n l → n ≡ 1 + length ls → ObeyedBy (ls ++ l ∷ []) new
 obeyed_more ls old new l n obeyed follows at =
     obeyed_by (ls ++ l ∷ []) (obeyed.obeyed.run.legal.numbers ++ map (λ (g : Given). g.joins) follows.given) new (legal_more ls obeyed.obeyed.run.legal.numbers old new l n (leads_to ls old obeyed) follows at)
     (all_append (λ j. j ≡ no_joins) obeyed.obeyed.run.legal.numbers (map (λ (g : Given). g.joins) follows.given) obeyed.obeyed.run.most (most_given follows.given follows.most)) follows.sound
+    (follows.uncut ∙ obeyed.uncut)
 
 -- The lines that a reader gave. What was read is these lines and what the reader holds, and whatever follows belongs to what it
 -- holds; at the source's end nothing follows.

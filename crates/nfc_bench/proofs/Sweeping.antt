@@ -14,20 +14,20 @@ use Rattle.bench_script.specs.Limits.{most_lines, longest_line, AreWithinLimits}
 use Rattle.bench_script.specs.Script.{Spells}
 use Rattle.bench_script.proofs.Spelling.{spells_one}
 use Rattle.bench_world.specs.declared.entry.Entry.{Entry}
-use Rattle.bench_world.specs.Legal.{first_state}
+use Rattle.bench_world.specs.Legal.{State, first_state}
 use Rattle.bench_world.specs.Obeying.{Benched, begun_anew, new_bench}
 use Rattle.bench_world.specs.Taking.{AreSpelled, AreTaken, standing_of}
 use Rattle.bench_world.proofs.Shapes.{taken_at}
 use Rattle.nfc_bench.specs.declared.top.sweeping.Cut.{Cut}
 use Rattle.nfc_bench.specs.declared.top.sweeping.Cut.TheVariants.{Refused, ReadFault, Memory}
 use Rattle.nfc_bench.specs.Reading.{Scripted, AreCut, AreLinesOf, ReadsScript}
-use Rattle.nfc_bench.specs.Run.{IsFates, IsWrite, HaveNoFates, IsSwept, IsRunOf, AreObeyed, FirstAreObeyed, ObeysFront, AreRuns, HasSwept, HasSweptSome, FirstUnswept, LastUnwritten, IsUnwritten, Unsweeps, SweepsSome, MaySweep, IsRefused}
+use Rattle.nfc_bench.specs.Run.{IsFates, IsWrite, HaveNoFates, IsSwept, IsRunOf, AreObeyed, FirstAreObeyed, ObeysFront, AreRuns, HasSwept, HasSweptSome, FirstUnswept, LastUnwritten, IsUnwritten, Unsweeps, SweepsSome, MaySweep, IsRefused, StopsAt}
 use Rattle.nfc_bench.specs.Stops.{FirstUntaken, ObeyedBy}
 use Rattle.nfc_bench.specs.Sweep.{Swept, sweep_lines, read_line, all_transmissions}
 use Rattle.nfc_bench.specs.SweepStops.{is_fates, is_write, Stands, MayStand, MayNotStand, StandsTo, ObeysSwept, FirstWithin, ScriptStops, IsWrittenBy, BeginsSweep, AreSweptLines, HasBroken, HasBrokenAll, HasBrokenSome, SweepStops, SweepRefused}
 use Rattle.nfc_bench.proofs.Limits.{all_at, IsShort, no_limits}
 use Rattle.nfc_bench.proofs.Endings.{done_taken, none_obeyed, front_at_once}
-use Rattle.nfc_bench.proofs.Progress.{obeyed_new}
+use Rattle.nfc_bench.proofs.Progress.{obeyed_new, stops_none}
 
 -- A front of a list keeps what holds of each item.
 pub all_front : {X : Type 0} (P : X → Type 0) (xs ys : List X) → All P (xs ++ ys) → All P xs
@@ -87,8 +87,25 @@ standing_more s place is_last within none may last = record {
 }
 
 -- Where all lines were obeyed, the first are.
-pub front_all : (lines : List (List ℕ)) (b : Benched) → AreObeyed lines b → FirstAreObeyed lines b
-front_all lines b obeyed = record { front = lines; rest = []; parts = sym (append-nil lines); obeyed = obeyed }
+pub front_all : (lines : List (List ℕ)) (b : Benched) → ObeyedBy lines b → FirstAreObeyed lines b
+front_all lines b o = record { front = lines; rest = []; parts = sym (append-nil lines); obeyed = o.obeyed; stops = stops_none lines [] b o.obeyed.run.legal.last o }
+
+-- more lines behind those before which a bench stands
+stops_more : (rest more : List (List ℕ)) (last : State) (b : Benched) → StopsAt rest last b → StopsAt (rest ++ more) last b
+stops_more rest more last b s = record {
+  sound = s.sound;
+  spoiled = λ is.
+      let c = s.spoiled is in
+      record {
+        line = c.line;
+        after = c.after ++ more;
+        parts = ap (λ x. x ++ more) c.parts;
+        command = c.command;
+        spelled = c.spelled;
+        front = c.front;
+        stores = c.stores;
+      };
+}
 
 -- a list that isn't empty, parted before its last item
 pub parted_last : (lines : List (List ℕ)) (n : ℕ) → length lines ≡ n + 1 → lines ≡ take n lines ++ get_or lines n [] ∷ []
@@ -271,6 +288,7 @@ front_within s lines n b a f =
         rest = (f.rest ++ drop n s.lines) ++ t.tail;
         parts = t.parts ∙ ap (λ x. x ++ t.tail) parts ∙ append_assoc f.front (f.rest ++ drop n s.lines) t.tail;
         obeyed = f.obeyed;
+        stops = stops_more (f.rest ++ drop n s.lines) t.tail f.obeyed.run.legal.last b (stops_more f.rest (drop n s.lines) f.obeyed.run.legal.last b f.stops);
       };
       limits = limits_front f.front (f.rest ++ drop n s.lines) (subst (λ ls. AreWithinLimits ls) parts a.limits);
     }

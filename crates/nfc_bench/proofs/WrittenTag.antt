@@ -1,11 +1,8 @@
 -- A write that was a success is one of a placed tag of the technology that its line names.
 use Rattle.std.proofs.Common.{◌≡◌, inl, inr, ℕ, List, length, Option, Some, None, Result, Ok, Err, refl, sym, ◌∙◌, ap, subst, arith}
-use Rattle.nfc_base.specs.declared.tag_link.AskFault.{AskFault}
-use Rattle.nfc_base.specs.declared.tag_link.AskFault.TheVariants as asking
 use Rattle.air_core.specs.Conversation.{Note}
 use Rattle.nfca_poll.specs.Ident.{IsIdent}
 use Rattle.nfca_poll.specs.declared.fault.PollFault.{PollFault}
-use Rattle.nfca_poll.specs.declared.fault.PollFault.TheVariants as faults
 use Rattle.bench_script.specs.declared.command.Command.{Command}
 use Rattle.bench_script.specs.declared.command.Command.TheVariants.{Write}
 use Rattle.bench_script.specs.declared.command.DeviceId.{DeviceId}
@@ -23,28 +20,14 @@ use Rattle.bench_devices.specs.Keeping.{kept, IsSound}
 use Rattle.bench_devices.specs.Placed.{device_with, OfPlaced}
 use Rattle.bench_world.specs.declared.entry.Answer.TheVariants as answers
 use Rattle.bench_world.specs.declared.entry.Entry.{Entry}
-use Rattle.bench_world.specs.Answering.{TagEnds, TagTells, TellsFault, poll_answer}
+use Rattle.bench_world.specs.Answering.{TagEnds, TagTells, TellsFault}
 use Rattle.bench_world.specs.Legal.{State, Given, LegalStep, AnswerLaw, WritingLaw}
 use Rattle.bench_world.specs.Writing.{TellsWrite}
 use Rattle.bench_world.proofs.Placing.{with_sound}
 use Rattle.bench_world.proofs.Reached.{IsReady}
 use Rattle.bench_world.proofs.Telling.{tells_either}
+use Rattle.bench_world.proofs.WriteBehind.{written_polled, written_failed}
 use Rattle.bench_world.proofs.WriteLegality.{found_named}
-
--- a success is no fault
-written_polled : (e : PollFault) → poll_answer e ≡ Some answers.Written → ⊥
-written_polled faults.Nobody h = cc
-written_polled faults.Disturbed h = cc
-written_polled faults.FieldLost h = cc
-written_polled faults.Memory h = cc
-written_polled faults.NotFound h = cc
-written_polled faults.BadAnswer h = cc
-
-written_failed : (e : AskFault) → TellsFault e answers.Written → ⊥
-written_failed asking.FieldLost h = cc
-written_failed asking.SixBad h = cc
-written_failed asking.Memory h = h
-written_failed asking.Protocol h = h
 
 -- It was placed, since a write of nobody isn't a success.
 pub written_placed : (id : DeviceId) (m : Msg) (s t : State) (g : Given) (e : Entry) → LegalStep s g e t → e.command ≡ Write id m → e.answer ≡ answers.Written

@@ -21,7 +21,8 @@ use Rattle.nfc_bench.specs.declared.top.words.Form.{Form}
 use Rattle.nfc_bench.specs.declared.top.words.Form.TheVariants.{Run, Sweep, Make}
 use Rattle.nfc_bench.specs.declared.top.program.WordsFault.{WordsFault}
 use Rattle.nfc_bench.specs.declared.top.program.WordsFault.TheVariants.{Memory, NoText}
-use Rattle.bench_world.specs.Legal.{State, no_joins}
+use Rattle.bench_world.specs.Legal.{State, CutOff, no_joins}
+use Rattle.bench_world.specs.Unfinished.{Unfinished}
 use Rattle.bench_world.specs.Obeying.{Benched}
 use Rattle.bench_world.specs.Journal.{LeadsTo, Legal}
 use Rattle.bench_world.specs.LinkLaw.{LinksAccept}
@@ -83,12 +84,29 @@ pub record AreObeyed (lines : List (List ℕ)) (b : Benched) : Type 0 where
   pub run : IsRunOf lines b.journal
   pub machines : b.spoiled ≡ false → run.legal.last ≡ b.state
 
--- It obeyed the first of these lines.
+-- Want of memory cut off the command of the next line, in this state: nothing of it was done, or a front of its step, or the
+-- peer's end stopped behind one; what tags hold is left as an unfinished command leaves it.
+pub record IsCutAt (rest : List (List ℕ)) (last : State) (b : Benched) : Type 0 where
+  pub line : List ℕ
+  pub after : List (List ℕ)
+  pub parts : rest ≡ line ∷ after
+  pub command : Command
+  pub spelled : Spells line command
+  pub front : CutOff no_joins last command b.cut b.state
+  pub stores : Unfinished last command b.cut b.state
+
+-- Where a bench stands before these lines: unless it is spoiled, nothing is cut off.
+pub record StopsAt (rest : List (List ℕ)) (last : State) (b : Benched) : Type 0 where
+  pub sound : b.spoiled ≡ false → b.cut ≡ []
+  pub spoiled : b.spoiled ≡ true → IsCutAt rest last b
+
+-- It obeyed the first of these lines, and of the next at most a part.
 pub record FirstAreObeyed (lines : List (List ℕ)) (b : Benched) : Type 0 where
   pub front : List (List ℕ)
   pub rest : List (List ℕ)
   pub parts : lines ≡ front ++ rest
   pub obeyed : AreObeyed front b
+  pub stops : StopsAt rest obeyed.run.legal.last b
 
 -- Line n is refused behind what stands there: for its number, for its length, or as it stands.
 abbrev pub IsRefused : State → ℕ → List ℕ → Type 0

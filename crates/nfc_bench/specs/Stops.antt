@@ -5,12 +5,13 @@ use Rattle.nfc_io.specs.Counts.{HasRisen}
 use Rattle.nfc_io.specs.Moves.{with_end, GainsFront}
 use Rattle.bench_world.specs.declared.entry.Entry.{Entry}
 use Rattle.bench_script.specs.declared.command.Command.{Command}
+use Rattle.bench_script.specs.Script.{Spells}
 use Rattle.nfc_bench.specs.declared.top.obeying.Unobeyed.{Unobeyed}
 use Rattle.nfc_bench.specs.declared.top.obeying.Unobeyed.TheVariants as unobeyed
 use Rattle.nfc_bench.specs.declared.top.lines.Stop.{Stop}
 use Rattle.nfc_bench.specs.declared.top.lines.Stop.TheVariants.{Refused, ReadFault, WriteFault, Memory}
 use Rattle.bench_world.specs.Legal.{Given, EachLegal, no_joins}
-use Rattle.bench_world.specs.Obeying.{Benched}
+use Rattle.bench_world.specs.Obeying.{Benched, Spoils}
 use Rattle.bench_world.specs.Journal.{Numbered}
 use Rattle.bench_world.specs.Taking.{IsTaken, AreTaken, standing_of}
 use Rattle.bench_world.specs.Report.{entry_text, report_text}
@@ -26,6 +27,7 @@ pub record Follows (old new : Benched) (n : ℕ) (l : List ℕ) : Type 0 where
   pub numbered : Numbered n (l ∷ []) entries
   pub steps : EachLegal old.state given entries new.state
   pub sound : new.spoiled ≡ false
+  pub uncut : new.cut ≡ old.cut
   pub runs : new.finished ≡ old.finished
 
 -- one entry where the line asks for something, and none where it doesn't
@@ -58,15 +60,17 @@ pub record LineCut (quiet : Bool) (old new : Benched) (n : ℕ) (l : List ℕ) (
   pub written : GainsFront taken taken' (entry_text quiet entry)
   pub risen : HasRisen writes writes'
 
--- Memory was wanting: the journal and the finished runs stay, and so do the machines of a bench that isn't spoiled.
-pub record Lost (old new : Benched) : Type 0 where
+-- Memory was wanting for a line: the journal and the finished runs stay. A bench that isn't spoiled is as before; what was
+-- spoiled by it is so by the command that the line spells.
+pub record Lost (old new : Benched) (l : List ℕ) : Type 0 where
   pub journal : new.journal ≡ old.journal
   pub runs : new.finished ≡ old.finished
   pub machines : new.spoiled ≡ false → new ≡ old
+  pub spoiled : old.spoiled ≡ false → new.spoiled ≡ true → (c : Command) × Spells l c × Spoils old new c
 
 -- ... and nothing was written
-pub record LineLost (old new : Benched) (taken taken' : Option (List ℕ)) : Type 0 where
-  pub lost : Lost old new
+pub record LineLost (old new : Benched) (l : List ℕ) (taken taken' : Option (List ℕ)) : Type 0 where
+  pub lost : Lost old new l
   pub same : taken' ≡ taken
 
 -- why a line ended the run
@@ -74,12 +78,13 @@ abbrev pub LineStops : Bool → Benched → Benched → ℕ → List ℕ → Opt
 LineStops quiet old new n l t t' w w' (Refused m) = LineRefused old new n m l t t'
 LineStops quiet old new n l t t' w w' ReadFault = ⊥
 LineStops quiet old new n l t t' w w' WriteFault = LineCut quiet old new n l t t' w w'
-LineStops quiet old new n l t t' w w' Memory = LineLost old new t t'
+LineStops quiet old new n l t t' w w' Memory = LineLost old new l t t'
 
--- A bench that isn't spoiled obeyed these lines.
+-- A bench that isn't spoiled obeyed these lines, and nothing is cut off.
 pub record ObeyedBy (lines : List (List ℕ)) (b : Benched) : Type 0 where
   pub obeyed : AreObeyed lines b
   pub sound : b.spoiled ≡ false
+  pub uncut : b.cut ≡ []
 
 -- Line n of these lines is the first that isn't taken: those before it are, and it isn't behind what they spell. They were
 -- obeyed.

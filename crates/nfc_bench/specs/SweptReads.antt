@@ -1,5 +1,5 @@
 -- What the reads of a sweep tell, wherever its write is broken off.
-use Rattle.std.specs.Prelude.{◌≡◌, ◌⊎◌, ℕ, ◌<◌, List, [], length, get_or, Some}
+use Rattle.std.specs.Prelude.{◌≡◌, ◌⊎◌, ℕ, ◌<◌, List, [], length, get_or, Some, true}
 use Rattle.tlv_area.specs.Form.{Message}
 use Rattle.tag_reader.specs.Kinds.{IsStoreForm}
 use Rattle.bench_script.specs.declared.command.DeviceId.{DeviceId}
@@ -12,7 +12,7 @@ use Rattle.bench_world.specs.declared.entry.Entry.{Entry}
 use Rattle.bench_world.specs.Legal.{State, Joins}
 use Rattle.bench_world.specs.Journal.{LeadsTo}
 use Rattle.nfc_bench.specs.Run.{AreRuns}
-use Rattle.nfc_bench.specs.Sweep.{told_in}
+use Rattle.nfc_bench.specs.Sweep.{told_in, first_told, written_in, is_neither}
 
 -- Behind these lines a tag with this identifier is placed, which holds this message.
 pub record HeldBehind (lines : List (List ℕ)) (id : DeviceId) (message : List ℕ) : Type 0 where
@@ -31,8 +31,15 @@ pub record TellsThree (old new : List ℕ) (run : List Entry) : Type 0 where
   pub three : (message ≡ old) ⊎ ((message ≡ []) ⊎ (message ≡ new))
 
 -- So does each run of a sweep behind the first: the old message is the one that the tag holds before the last line, and the
--- new one is what that writes.
+-- new one is what that writes. The first of them tells the old one.
 abbrev pub SweptIsRead : Type 0
 SweptIsRead =
     (lines : List (List ℕ)) (runs : List (List Entry)) (r : AreRuns lines runs)
     → (old : List ℕ) × HeldBehind r.script.before r.script.id old × ((i : ℕ) → i < length r.broken → TellsThree old (message_of r.script.message) (get_or r.broken i []))
+    × (0 < length r.broken → first_told r.broken ≡ Some old)
+
+-- So what is counted as neither the old message nor the new one is the empty one.
+abbrev pub NeitherIsEmpty : Type 0
+NeitherIsEmpty =
+    (lines : List (List ℕ)) (runs : List (List Entry)) (r : AreRuns lines runs) (i : ℕ) → i < length r.broken
+    → is_neither (first_told r.broken) (written_in r.first) (told_in (get_or r.broken i [])) ≡ true → told_in (get_or r.broken i []) ≡ Some []

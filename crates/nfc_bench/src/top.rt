@@ -31,6 +31,8 @@ mod runs;
 mod script;
 #[cfg(test)]
 mod store_tests;
+#[cfg(test)]
+mod sweep_tests;
 mod sweeping;
 mod swept;
 #[cfg(test)]

@@ -35,7 +35,7 @@ pub fn obey_text(
     ensures ok { IfOk result (λ asks. LineObeyed bench.old bench.new line text.now asks) }
     ensures refused { IsErrOf result ObeyFault.Refused → (bench.new ≡ bench.old)
         × (IsTaken bench.old.state text.now → ⊥) }
-    ensures memory { IsErrOf result ObeyFault.Memory → Lost bench.old bench.new }
+    ensures memory { IsErrOf result ObeyFault.Memory → Lost bench.old bench.new text.now }
 {
     let command = match parse_line(alloc, text) {
         Ok(command) => command,

@@ -35,7 +35,10 @@ returns-in-Err-Refused-clause-err g c =
 
 pub returns-in-Err-Memory-clause-err : goal.returns-in-Err-Memory-clause-err
 returns-in-Err-Memory-clause-err g c =
-    front_obeyed (g.L.Lines.lines c.args.lines.now) c.lines.place c.lines.bench c.obey_text.new.bench c.lines.invariant.obeyed (c.in-Err-Memory.ensures.memory (ap Err c.in-Err-Memory.field-0-is))
+    let lines : List (List ℕ) = g.L.Lines.lines c.args.lines.now in
+    let within : c.lines.place < length lines = omega (arith, c.lines-test.true, c.count-place-end.ensures) in
+    let same : c.deref.result.now ≡ get_or lines c.lines.place [] = c.deref.ensures.0 ∙ c.line.ensures in
+    front_obeyed lines c.lines.place c.lines.bench c.obey_text.new.bench c.deref.result.now within same c.lines.invariant.obeyed (c.in-Err-Memory.ensures.memory (ap Err c.in-Err-Memory.field-0-is))
 
 pub returns-in-Err-Refused-clause-runs : goal.returns-in-Err-Refused-clause-runs
 returns-in-Err-Refused-clause-runs g c =

@@ -1,4 +1,4 @@
-use Rattle.std.proofs.Common.{◌≡◌, Bool, true, false, Err, refl, sym, ◌∙◌, ap, subst}
+use Rattle.std.proofs.Common.{◌≡◌, ℕ, List, Bool, true, false, Err, refl, sym, ◌∙◌, ap, subst}
 use Rattle.bench_script.specs.declared.command.Command.{Command}
 use Rattle.bench_script.specs.Script.{Spells}
 use Rattle.bench_world.specs.Obeying.{Benched, Adds, LacksMemory, Obeys, Spoils}
@@ -8,16 +8,35 @@ use Rattle.nfc_bench.proofs.Journals.{follows_skipped, follows_entry, asks_somet
 use Rattle.nfc_bench.proofs.top.obeying.obey_text.Goals as goal
 
 -- where memory is wanting
-lost_by : (old new : Benched) (c : Command) → LacksMemory old new c → (v : Bool) → old.spoiled ≡ v → Lost old new
-lost_by old new c lacks true is =
-    let same : new ≡ old = lacks.1 is in record { journal = ap (λ (b : Benched). b.journal) same; runs = ap (λ (b : Benched). b.finished) same; machines = λ sound. same }
-lost_by old new c lacks false is =
+lost_by : (old new : Benched) (l : List ℕ) (c : Command) → Spells l c → LacksMemory old new c → (v : Bool) → old.spoiled ≡ v → Lost old new l
+lost_by old new l c spelled lacks true is =
+    let same : new ≡ old = lacks.1 is in
+    record {
+      journal = ap (λ (b : Benched). b.journal) same;
+      runs = ap (λ (b : Benched). b.finished) same;
+      machines = λ sound. same;
+      spoiled = λ sound. absurd (let clash : true ≡ false = sym is ∙ sound in cc);
+    }
+lost_by old new l c spelled lacks false is =
     let spoils : Spoils old new c = lacks.0 is in
     record {
       journal = ap (λ (b : Benched). b.journal) spoils.is;
       runs = ap (λ (b : Benched). b.finished) spoils.is;
       machines = λ sound. absurd (let clash : true ≡ false = sym (ap (λ (b : Benched). b.spoiled) spoils.is) ∙ sound in cc);
+      spoiled = λ sound now. (c, spelled, spoils);
     }
+
+-- ... before a command was read
+lost_none : (b : Benched) (l : List ℕ) → Lost b b l
+lost_none b l = record {
+  journal = refl;
+  runs = refl;
+  machines = λ _. refl;
+  spoiled = λ sound now. absurd (let clash : false ≡ true = sym sound ∙ now in cc);
+}
+
+pub returns-in-Err-Memory-clause-memory : goal.returns-in-Err-Memory-clause-memory
+returns-in-Err-Memory-clause-memory c = λ is. lost_none c.args.bench.now c.args.text.now
 
 pub returns-in-Skip-clause-ok : goal.returns-in-Skip-clause-ok
 returns-in-Skip-clause-ok c =
@@ -42,4 +61,4 @@ returns-in-Err-clause-memory c = λ is.
     let old : Benched = c.args.bench.now in
     let new : Benched = c.obey.new.self in
     let fault : c.in-Err.fault ≡ Memory = cc in
-    lost_by old new c.in-Ok.command (c.in-Err.ensures.memory (ap Err fault)) old.spoiled refl
+    lost_by old new c.args.text.now c.in-Ok.command c.in-Ok.ensures.ok (c.in-Err.ensures.memory (ap Err fault)) old.spoiled refl

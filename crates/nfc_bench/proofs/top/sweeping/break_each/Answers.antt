@@ -45,7 +45,7 @@ returns-in_err-again-clause-err c =
     let lines = same_lines s c.runs.lines c.let_pass.new.self c.runs.passes c.runs.invariant.same c.let_pass.ensures in
     let o : ObeyedBy (sweep_lines s.before s.last s.read c.runs.passes) c.obey_all.new.bench = subst (λ ls. ObeyedBy ls c.obey_all.new.bench) lines c.in-Ok.ensures.ok in
     let it = broken_some s c.runs.passes c.args.count c.args.bench.now c.runs.bench c.obey_all.new.bench c.runs.invariant.broken (omega (arith, c.runs-test.true)) c.obey_all.ensures.runs
-    (front_all (sweep_lines s.before s.last s.read c.runs.passes) c.obey_all.new.bench o.obeyed) in
+    (front_all (sweep_lines s.before s.last s.read c.runs.passes) c.obey_all.new.bench o) in
     grind (arith, it, c.in_err-again.ensures.err)
 
 pub runs-preserved : goal.runs-preserved

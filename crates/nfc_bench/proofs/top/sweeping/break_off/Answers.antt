@@ -45,7 +45,7 @@ returns-in_err-again-clause-err c =
     let lines : List (List ℕ) = c.args.script.lines in
     let same : c.again.new.self ≡ c.args.bench.now = c.in_err-again.ensures.err in
     on_err c.from_residual-in_err-again.result
-    (inl (ap (λ (b : Benched). b.finished) same ∙ c.requires.begins.runs, subst (FirstAreObeyed lines) (sym same) (front_all lines c.args.bench.now c.requires.begins.obeys.obeyed.obeyed)))
+    (inl (ap (λ (b : Benched). b.finished) same ∙ c.requires.begins.runs, subst (FirstAreObeyed lines) (sym same) (front_all lines c.args.bench.now c.requires.begins.obeys.obeyed)))
 
 pub returns-in_err-break_each-clause-err : goal.returns-in_err-break_each-clause-err
 returns-in_err-break_each-clause-err c =

@@ -39,7 +39,7 @@ returns-then-count-gt-MOST_RUNS-clause-err g c =
     let s : Scripted = c.in-Ok.script in
     let b : Benched = c.obey_script.new.bench in
     let o : ObeysSwept s b = c.in-Ok-obey_script.ensures.ok in
-    inl (c.obey_script.ensures.runs, first_whole left left' s b c.in-Ok.ensures.ok o.whole (front_all s.lines b o.obeyed.obeyed))
+    inl (c.obey_script.ensures.runs, first_whole left left' s b c.in-Ok.ensures.ok o.whole (front_all s.lines b o.obeyed))
 
 pub returns-in-Err-break_off-clause-err : goal.returns-in-Err-break_off-clause-err
 returns-in-Err-break_off-clause-err g c =
