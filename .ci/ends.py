@@ -112,12 +112,16 @@ def with_sink_failing(program, words, script, count):
     with tempfile.TemporaryFile() as source:
         source.write(script)
         source.seek(0)
+        if count == 0:
+            # Closed before the program begins: one that is quick writes its only piece before it could be closed.
+            os.close(ours)
         bench = run(program, words, source, sink)
         os.close(sink)
         pieces = []
         while len(pieces) < count and (piece := os.read(ours, 4096)):
             pieces.append(piece)
-        os.close(ours)
+        if count > 0:
+            os.close(ours)
         return bench.wait(timeout=LIMIT), pieces
 
 
