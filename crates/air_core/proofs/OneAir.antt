@@ -3,7 +3,7 @@ use Rattle.std.proofs.Common.{◌≡◌, ℕ, ◌+◌, List, [], ◌∷◌, ◌+
 use Rattle.std.specs.Prelude.{map}
 use Rattle.std.specs.List.{cons_option}
 use Rattle.nfc_base.specs.declared.frame.Tech.{Tech}
-use Rattle.nfc_base.specs.declared.frame.Tech.TheVariants.{A, V}
+use Rattle.nfc_base.specs.declared.frame.Tech.TheVariants.{A, V, F}
 use Rattle.nfc_base.specs.declared.event.Event.{Event}
 use Rattle.nfc_base.specs.declared.event.Event.TheVariants.{Request}
 use Rattle.nfc_base.specs.declared.event.Fate.{Fate}
@@ -30,9 +30,10 @@ tells_heard m w f Damage y = refl
 tells_heard m w f Lose y = refl
 tells_heard m w f Break y = refl
 
-same_itself : (t : Tech) → same_tech t t ≡ true
+pub same_itself : (t : Tech) → same_tech t t ≡ true
 same_itself A = refl
 same_itself V = refl
+same_itself F = refl
 
 module _ {I T : Type 0} (L : StopAndWait I T Signal) (reply : List ℕ) where
   passed_events : (t : T) (asked : Option (List ℕ)) (f : Signal) (o : Option Signal) (y : Fate) → (answered L t asked f o y).events ≡ Request f Pass ∷ joint_events (one o) y

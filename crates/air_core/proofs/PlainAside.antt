@@ -3,10 +3,10 @@ use Rattle.std.proofs.Common.{◌≡◌, ℕ, suc, List, [], ◌∷◌, ◌++◌
 use Rattle.std.specs.Prelude.{map}
 use Rattle.std.specs.List.{AllByRecursion, filter_map, cons_option}
 use Rattle.nfc_base.specs.declared.frame.Tech.{Tech}
-use Rattle.nfc_base.specs.declared.frame.Tech.TheVariants.{A, V}
+use Rattle.nfc_base.specs.declared.frame.Tech.TheVariants.{A, V, F}
 use Rattle.nfc_base.specs.Signal.{Signal, whole_a}
 use Rattle.nfc_base.specs.Far.{Untouched}
-use Rattle.nfc_base.specs.TagLinks.{MayAsk, addressed, IsNamedIn, IsAddressedIn}
+use Rattle.nfc_base.specs.TagLinks.{MayAsk, addressed, addressed_f, IsNamedIn, IsAddressedIn}
 use Rattle.air_core.specs.Joint.{same_tech}
 use Rattle.air_core.specs.World.{hears, hands_over, answered_by, stepped_by}
 use Rattle.air_core.specs.Quiet.{EachQuiet}
@@ -54,6 +54,7 @@ module _ {L : Type 0} (k : Ghosts L) (laws : Laws k) where
       hearing own (whole_a bytes) l (ap (λ t. same_tech t A) e) law.0 law.1
       (record { rests = λ h. (law.2, law.3); other = other_stays own (whole_a bytes) l a.other })
   by_a own bytes l a V e = deaf own (whole_a bytes) l (ap (λ t. same_tech t A) e) a
+  by_a own bytes l a F e = deaf own (whole_a bytes) l (ap (λ t. same_tech t A) e) a
 
   by_v : (own : List ℕ) (code : ℕ) (rest : List ℕ) (l : L) → IsNamedIn V own → IsAside k own l → (u : Tech) → k.machine.tech l ≡ u → IsUnmoved own (addressed own code rest) l
   by_v own code rest l named a A e = deaf own (addressed own code rest) l (ap (λ t. same_tech t V) e) a
@@ -64,15 +65,29 @@ module _ {L : Type 0} (k : Ghosts L) (laws : Laws k) where
       let tech : k.machine.tech (k.machine.after l f None) ≡ V = (laws.step_keeps l f None).tech' ∙ e in
       hearing own f l (ap (λ t. same_tech t V) e) law.0 law.1
       (record { rests = λ h. absurd cc; other = other_stays own f l a.other })
+  by_v own code rest l named a F e = deaf own (addressed own code rest) l (ap (λ t. same_tech t V) e) a
+
+  by_f : (own : List ℕ) (size code : ℕ) (rest : List ℕ) (l : L) → IsNamedIn F own → IsAside k own l → (u : Tech) → k.machine.tech l ≡ u → IsUnmoved own (addressed_f own size code rest) l
+  by_f own size code rest l named a A e = deaf own (addressed_f own size code rest) l (ap (λ t. same_tech t F) e) a
+  by_f own size code rest l named a V e = deaf own (addressed_f own size code rest) l (ap (λ t. same_tech t F) e) a
+  by_f own size code rest l named a F e =
+      let f : Signal = addressed_f own size code rest in
+      let P : Tech → Type 0 = λ t. IsAddressedIn t own f in
+      let law = laws.ignores l own f (subst P (sym e) (named, record { size = size; code = code; rest = rest; frame = refl })) a.other in
+      let tech : k.machine.tech (k.machine.after l f None) ≡ F = (laws.step_keeps l f None).tech' ∙ e in
+      hearing own f l (ap (λ t. same_tech t F) e) law.0 law.1
+      (record { rests = λ h. absurd cc; other = other_stays own f l a.other })
 
   pub aside_silent : (own : List ℕ) (t : Tech) (f : Signal) → MayAsk (plain_kind t) own f → IsNamedIn t own → (l : L) → IsAside k own l → IsUnmoved own f l
   aside_silent own A f may named l a = let P : Signal → Type 0 = λ g. IsUnmoved own g l in subst P (sym may) (by_a own f.bytes l a (k.machine.tech l) refl)
   aside_silent own V f may named l a = let P : Signal → Type 0 = λ g. IsUnmoved own g l in subst P (sym may.frame) (by_v own may.code may.rest l named a (k.machine.tech l) refl)
+  aside_silent own F f may named l a = let P : Signal → Type 0 = λ g. IsUnmoved own g l in subst P (sym may.frame) (by_f own may.size may.code may.rest l named a (k.machine.tech l) refl)
 
   -- the tag's technology is that of what it may be asked
   pub may_tech : (own : List ℕ) (t : Tech) (f : Signal) → MayAsk (plain_kind t) own f → f.tech ≡ t
   may_tech own A f may = ap (λ g. g.tech) may
   may_tech own V f may = ap (λ g. g.tech) may.frame
+  may_tech own F f may = ap (λ g. g.tech) may.frame
 
   aside_dark : (own : List ℕ) (l : L) → IsAside k own l → IsAside k own (k.machine.darkened l)
   aside_dark own l a = record { rests = λ h. laws.dark_rests l; other = λ e. a.other (e ∙ (laws.dark_keeps l).0.identifier') }

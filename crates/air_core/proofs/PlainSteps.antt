@@ -3,7 +3,6 @@ use Rattle.std.proofs.Common.{◌≡◌, ℕ, zero, suc, ◌+◌, ◌<◌, ◌�
 use Rattle.std.specs.Prelude.{map}
 use Rattle.std.specs.List.{filter_map, cons_option}
 use Rattle.nfc_base.specs.declared.frame.Tech.{Tech}
-use Rattle.nfc_base.specs.declared.frame.Tech.TheVariants.{A, V}
 use Rattle.nfc_base.specs.declared.event.Event.{Event}
 use Rattle.nfc_base.specs.declared.event.Fate.{Fate}
 use Rattle.nfc_base.specs.declared.event.Fate.TheVariants.{Pass, Damage, Lose, Break}
@@ -25,15 +24,12 @@ use Rattle.air_core.specs.PlainTags.{heard_times, tag_step, IsAside, IsAlone, Ma
 use Rattle.air_core.specs.PlainLinks.{obeyed_in, answered_in, Follows, stores_after}
 use Rattle.air_core.specs.PlainWaits.{after_bad, times, Waited, GoesOn, Answered, Darkened}
 use Rattle.air_core.specs.declared.listener.Listener.{Ghosts}
+use Rattle.air_core.proofs.OneAir.{same_itself}
 use Rattle.air_core.proofs.Quiet.{quiet_turns_to}
 use Rattle.air_core.proofs.PlainAside.{Laws, IsUnmoved, aside_silent, may_tech, alone_dark, alone_quiet, alone_says, alone_steps}
 use Rattle.air_core.proofs.PlainTagging.{IsSteady}
 use Rattle.air_core.proofs.PlainStores.{newly, passed_more, pictures}
 use Rattle.air_core.proofs.PlainTurns.{one, joint_one, tag_events, tag_heard, turn_events_as, heard_as, tag_most, noise_append, times_more, asking_bad, extend}
-
-same_itself : (t : Tech) → same_tech t t ≡ true
-same_itself A = refl
-same_itself V = refl
 
 module _ {L : Type 0} (k : Ghosts L) where
   -- what a turn comes to after some bad receptions, by what was heard

@@ -4,7 +4,7 @@ use Rattle.std.specs.List.{AllByRecursion}
 use Rattle.std.proofs.lemmas.List.{length-append, drop-append-le}
 use Rattle.std.proofs.Math.Seq.{drop-append_seam}
 use Rattle.nfc_base.specs.declared.frame.Tech.{Tech}
-use Rattle.nfc_base.specs.declared.frame.Tech.TheVariants.{A, V}
+use Rattle.nfc_base.specs.declared.frame.Tech.TheVariants.{A, V, F}
 use Rattle.nfc_base.specs.declared.event.Event.{Event}
 use Rattle.nfc_base.specs.declared.tag_link.AskFault.{AskFault}
 use Rattle.nfc_base.specs.Signal.{Signal}
@@ -42,6 +42,7 @@ length_times f (suc n) = ap suc (length_times f n)
 pub never_type4 : (t : Tech) → plain_kind t ≡ Type4 → ⊥
 never_type4 A e = absurd cc
 never_type4 V e = absurd cc
+never_type4 F e = absurd cc
 
 module _ {L : Type 0} (k : Ghosts L) where
   -- the listener that a wait left: the tag once it has heard the command, and in the dark where the field was lost

@@ -3,15 +3,20 @@
 use Rattle.std.specs.Prelude.{List, [], ◌∷◌, map, Bool, true, false, ◌==◌, ◌&&◌, nat_eq, if◌then◌else◌}
 use Rattle.std.specs.Cmp.Lexicographic.{pointwise}
 use Rattle.nfc_base.specs.declared.frame.Tech.{Tech}
-use Rattle.nfc_base.specs.declared.frame.Tech.TheVariants.{A, V}
+use Rattle.nfc_base.specs.declared.frame.Tech.TheVariants.{A, V, F}
 use Rattle.nfc_base.specs.Signal.{Signal}
 use Rattle.nfc_base.specs.Bits.{bits, of_bits}
 
 abbrev pub same_tech : Tech → Tech → Bool
 same_tech A A = true
 same_tech A V = false
+same_tech A F = false
 same_tech V A = false
 same_tech V V = true
+same_tech V F = false
+same_tech F A = false
+same_tech F V = false
+same_tech F F = true
 
 -- whether two frames are the same
 abbrev pub same_signal : Signal → Signal → Bool

@@ -1,12 +1,12 @@
--- Tags that take commands as they are sent, alone in a field (NFC Forum Type 2 and Type 5 Tag; who hears what is this
+-- Tags that take commands as they are sent, alone in a field (NFC Forum Type 2, Type 3 and Type 5 Tag; who hears what is this
 -- project's own).
 use Rattle.std.specs.Prelude.{◌≡◌, ℕ, zero, suc, List, [], ◌∷◌, ◌++◌, length, Bool, true, false, Some, None}
 use Rattle.std.specs.List.{AllByRecursion}
 use Rattle.nfc_base.specs.declared.frame.Tech.{Tech}
-use Rattle.nfc_base.specs.declared.frame.Tech.TheVariants.{A, V}
+use Rattle.nfc_base.specs.declared.frame.Tech.TheVariants.{A, V, F}
 use Rattle.nfc_base.specs.Signal.{Signal}
 use Rattle.nfc_base.specs.Far.{Untouched}
-use Rattle.nfc_base.specs.TagLinks.{TagKind, Type2, Type5, TagStep, plain_state, MayAsk, IsNamedIn}
+use Rattle.nfc_base.specs.TagLinks.{TagKind, Type2, Type3, Type5, TagStep, plain_state, MayAsk, IsNamedIn}
 use Rattle.air_core.specs.Turn.{Air}
 use Rattle.air_core.specs.declared.listener.Listener.{Ghosts}
 
@@ -14,6 +14,7 @@ use Rattle.air_core.specs.declared.listener.Listener.{Ghosts}
 abbrev pub plain_kind : Tech → TagKind
 plain_kind A = Type2
 plain_kind V = Type5
+plain_kind F = Type3
 
 module _ {L : Type 0} (k : Ghosts L) where
   -- a listener once it has heard a frame so many times in a row, and once it has heard some frames

@@ -17,7 +17,8 @@ pub trait Listener {
     /// What it does.
     ghost machine: { Machine Self };
 
-    /// Its identifier: of an NFC-A device its bytes in order, of an NFC-V device its eight bytes, high byte first.
+    /// Its identifier: of an NFC-A device its bytes in order, of an NFC-V device its eight bytes, high byte first, of an
+    /// NFC-F device its eight bytes in order.
     ghost identifier: { Self → List ℕ };
 
     /// Its memory, in order; the empty list for a peer.

@@ -14,7 +14,7 @@ use std::alloc::Global;
 /// How many bad receptions end a wait (this project's own).
 pub const BAD_RECEPTIONS: u8 = 6;
 
-/// A link to one Type 2 or Type 5 tag, which is selected and alone in the field. A command is sent again after each bad
+/// A link to one Type 2, Type 3 or Type 5 tag, which is selected and alone in the field. A command is sent again after each bad
 /// reception (NFC Forum Digital Protocol). The far end of its turns is mute, since such a tag asks nothing of one.
 #[derive(Drop)]
 pub struct PlainLink<'a, L> {

@@ -5,14 +5,14 @@ use Rattle.std.specs.List.{AllByRecursion}
 use Rattle.std.proofs.lemmas.List.{length-append}
 use Rattle.std.specs.Cmp.Lexicographic.{pointwise}
 use Rattle.nfc_base.specs.declared.frame.Tech.{Tech}
-use Rattle.nfc_base.specs.declared.frame.Tech.TheVariants.{A, V}
+use Rattle.nfc_base.specs.declared.frame.Tech.TheVariants.{A, V, F}
 use Rattle.nfc_base.specs.declared.event.Event.{Event}
 use Rattle.nfc_base.specs.declared.event.Event.TheVariants.{Reset, Request, Answer, Clash}
 use Rattle.nfc_base.specs.declared.event.Fate.{Fate}
 use Rattle.nfc_base.specs.declared.event.Fate.TheVariants.{Pass, Damage, Lose, Break}
 use Rattle.nfc_base.specs.Signal.{Signal}
 use Rattle.nfc_base.specs.Blocks.{with_block}
-use Rattle.nfc_base.specs.TagLinks.{MayAsk, IsNamedIn, addressed}
+use Rattle.nfc_base.specs.TagLinks.{MayAsk, IsNamedIn, addressed, addressed_f}
 use Rattle.air_core.specs.World.{hears, stepped_by, requested, came_back}
 use Rattle.air_core.specs.Conversation.{Note, Next, Asks, Moment, Going, replay}
 use Rattle.air_core.specs.PlainTags.{plain_kind, IsAside}
@@ -295,9 +295,23 @@ addressed_keeps own code rest (T4 d) eight a = refl
 addressed_keeps own code rest (Peer d) eight a = refl
 addressed_keeps own code rest (T5 p) eight a = five_aside p.lit p (addressed own code rest) (ap (λ (r : T5Turn). r.after) (other_silent p.tag own eight a.other code rest))
 
+-- no device hears a frame of NFC-F
+not_heard : (own : List ℕ) (size code : ℕ) (rest : List ℕ) (d : Device) → kept (stepped_by devices d (addressed_f own size code rest) None) ≡ kept d
+not_heard own size code rest (T2 d) = refl
+not_heard own size code rest (T4 d) = refl
+not_heard own size code rest (Peer d) = refl
+not_heard own size code rest (T5 p) = refl
+
+not_heard_rests : (own : List ℕ) (size code : ℕ) (rest : List ℕ) (d : Device) → IsAside ghosts own d → IsAtRest (stepped_by devices d (addressed_f own size code rest) None)
+not_heard_rests own size code rest (T2 d) a = a.rests
+not_heard_rests own size code rest (T4 d) a = a.rests
+not_heard_rests own size code rest (Peer d) a = a.rests
+not_heard_rests own size code rest (T5 p) a = a.rests
+
 pub aside_keeps : AsideKeeps
 aside_keeps own A f d may named a = subst (λ g. kept (stepped_by devices d g None) ≡ kept d) (sym may) (rest_keeps d f.bytes a.rests)
 aside_keeps own V f d may named a = subst (λ g. kept (stepped_by devices d g None) ≡ kept d) (sym may.frame) (addressed_keeps own may.code may.rest d named a)
+aside_keeps own F f d may named a = subst (λ g. kept (stepped_by devices d g None) ≡ kept d) (sym may.frame) (not_heard own may.size may.code may.rest d)
 
 -- It stays aside.
 addressed_rests : (own : List ℕ) (code : ℕ) (rest : List ℕ) (d : Device) → IsAside ghosts own d → IsAtRest (stepped_by devices d (addressed own code rest) None)
@@ -313,6 +327,7 @@ addressed_rests own code rest (T5 p) a = five_rests p.lit
 step_rests : (own : List ℕ) (t : Tech) (f : Signal) (d : Device) → MayAsk (plain_kind t) own f → IsAside ghosts own d → IsAtRest (stepped_by devices d f None)
 step_rests own A f d may a = subst (λ g. IsAtRest (stepped_by devices d g None)) (sym may) (rest_stays d f.bytes a.rests)
 step_rests own V f d may a = subst (λ g. IsAtRest (stepped_by devices d g None)) (sym may.frame) (addressed_rests own may.code may.rest d a)
+step_rests own F f d may a = subst (λ g. IsAtRest (stepped_by devices d g None)) (sym may.frame) (not_heard_rests own may.size may.code may.rest d a)
 
 -- What leaves each device aside as it is but in its state, and any other what is fixed of it and a store of its kind.
 record IsQuietFor (own : List ℕ) (g : Device → Device) : Type 0 where

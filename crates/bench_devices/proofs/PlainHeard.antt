@@ -14,6 +14,7 @@ use Rattle.air_core.specs.Joint.{Single, joint, same_tech}
 use Rattle.air_core.specs.World.{hears, answered_by, stepped_by}
 use Rattle.air_core.specs.Conversation.{joint_events, joint_back, replay, turn_events, turn_heard}
 use Rattle.air_core.specs.PlainTags.{plain_kind, IsAside, IsAlone}
+use Rattle.air_core.proofs.OneAir.{same_itself}
 use Rattle.air_core.proofs.PlainAside.{IsUnmoved, aside_silent, may_tech, alone_says, alone_steps}
 use Rattle.air_core.proofs.PlainTurns.{joint_one}
 use Rattle.nfca_poll.specs.Front.{Active}
@@ -131,10 +132,6 @@ tech_is how (T4 d) on = absurd on
 tech_is how (Peer d) on = absurd on
 tech_is how (T5 p) on = ap tech_by (sym on.0)
 
-same_techs : (t : Tech) → same_tech t t ≡ true
-same_techs A = refl
-same_techs V = refl
-
 -- In a lit field such a tag stands at a place, and all others are aside of it.
 pub record StandsOn (how : How) (own : List ℕ) (place : ℕ) (w : BenchWorld) : Type 0 where
   pub lit : w.lit ≡ true
@@ -154,7 +151,7 @@ answers how own place w f is s heeded =
     let named = named_by how own is in
     let r : Replies how s.tag f = replies how s.tag f s.on heeded in
     let hear : hears devices s.tag f ≡ true =
-    ap (λ t. same_tech t f.tech) (tech_is how s.tag s.on) ∙ ap (same_tech (tech_by how)) (may_tech ghosts laws own (tech_by how) f may) ∙ same_techs (tech_by how) in
+    ap (λ t. same_tech t f.tech) (tech_is how s.tag s.on) ∙ ap (same_tech (tech_by how)) (may_tech ghosts laws own (tech_by how) f may) ∙ same_itself (tech_by how) in
     let says : answered_by devices s.tag f None ≡ Some r.answer = ap (λ v. if v then devices.answer s.tag f None else None) hear ∙ r.says in
     let steps : stepped_by devices s.tag f None ≡ devices.after s.tag f None = ap (λ v. if v then devices.after s.tag f None else s.tag) hear in
     let aside : (x : Device) → IsAside ghosts own x → IsUnmoved ghosts laws own f x = λ x a. aside_silent ghosts laws own (tech_by how) f may named x a in

@@ -2,7 +2,7 @@
 use Rattle.std.proofs.Common.{◌≡◌, ℕ, ◌+◌, ◌-◌, ◌%◌, ◌<◌, ◌≤◌, ◌==◌, nat_lt, if◌then◌else◌, zero, suc, List, [], ◌∷◌, length, slice_index, Bool, true, false, Some, None, refl, sym, ◌∙◌, ap, subst, arith}
 use Rattle.nfc_base.specs.Signal.{Signal, signal, whole_a}
 use Rattle.nfc_base.specs.declared.frame.Tech.{Tech}
-use Rattle.nfc_base.specs.declared.frame.Tech.TheVariants.{A, V}
+use Rattle.nfc_base.specs.declared.frame.Tech.TheVariants.{A, V, F}
 use Rattle.isodep_link.specs.declared.block.Block.{Block}
 use Rattle.isodep_link.specs.declared.block.Block.TheVariants.{Info, Ack, Nak, Deselect, Extend}
 use Rattle.isodep_link.specs.Blocks.{ReadsBlocks, SpellsOne, info_sort, chained_sort, ack_sort, nak_sort, deselect_byte, extend_byte, info_block, short_block, long_block, sort_block, block_of, pcb, block_frame, IsBlock, BlockSpelling, IsSpelled, spelled_block}
@@ -141,6 +141,7 @@ whole_spells bytes tail false w l b e = cc
 frame_spells : (tech : Tech) (bytes : List ℕ) (tail : ℕ) → length bytes ≤ 288 → (b : Block) → spelled_block (signal tech bytes tail) ≡ Some b → BlockSpelling b (signal tech bytes tail)
 frame_spells A bytes tail l b e = whole_spells bytes tail (tail == 0) refl l b e
 frame_spells V bytes tail l b e = cc
+frame_spells F bytes tail l b e = cc
 
 -- What is read from a frame is exactly what it spells.
 pub exact : ReadsBlocks

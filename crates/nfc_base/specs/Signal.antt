@@ -1,7 +1,7 @@
 -- What a frame is on the air: a technology and some bits, packed into bytes (NFC Forum Digital Protocol; ISO/IEC 14443-3).
 use Rattle.std.specs.Prelude.{◌≡◌, ℕ, ◌-◌, ◌<◌, ◌≤◌, ◌^◌, ◌⊎◌, List, length, slice_index, Bool, true, false, ◌==◌, ◌&&◌}
 use Rattle.nfc_base.specs.declared.frame.Tech.{Tech}
-use Rattle.nfc_base.specs.declared.frame.Tech.TheVariants.{A, V}
+use Rattle.nfc_base.specs.declared.frame.Tech.TheVariants.{A, V, F}
 
 -- a frame: its technology, its bytes, and how many low bits of the last byte are sent, 0 for all of them
 pub record Signal : Type 0 where
@@ -24,9 +24,14 @@ part_a bytes tail = signal A bytes tail
 abbrev pub whole_v : List ℕ → Signal
 whole_v bytes = signal V bytes 0
 
+-- an NFC-F frame of whole bytes
+abbrev pub whole_f : List ℕ → Signal
+whole_f bytes = signal F bytes 0
+
 abbrev pub is_nfc_a : Tech → Bool
 is_nfc_a A = true
 is_nfc_a V = false
+is_nfc_a F = false
 
 -- a frame is NFC-A, and of whole bytes
 abbrev pub is_whole_a : Signal → Bool

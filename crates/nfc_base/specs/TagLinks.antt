@@ -1,17 +1,18 @@
--- What contracts see of a link to one tag, and what one command on it does (NFC Forum Type 2, Type 4 and Type 5 Tag). The
+-- What contracts see of a link to one tag, and what one command on it does (NFC Forum Type 2, Type 3, Type 4 and Type 5 Tag). The
 -- counts and causes are this project's own.
 use Rattle.std.specs.Prelude.{◌≡◌, ℕ, ◌<◌, ◌≤◌, ◌⊎◌, List, [], ◌∷◌, ◌++◌, length, reverse, Bool, true, false, Option, Some, None, Result, Err}
 use Rattle.std.specs.List.{AllByRecursion}
 use Rattle.nfc_base.specs.declared.frame.Tech.{Tech}
-use Rattle.nfc_base.specs.declared.frame.Tech.TheVariants.{A, V}
+use Rattle.nfc_base.specs.declared.frame.Tech.TheVariants.{A, V, F}
 use Rattle.nfc_base.specs.declared.tag_link.AskFault.{AskFault}
 use Rattle.nfc_base.specs.declared.tag_link.AskFault.TheVariants.{FieldLost, SixBad, Memory, Protocol}
-use Rattle.nfc_base.specs.Signal.{Signal, whole_a, whole_v}
+use Rattle.nfc_base.specs.Signal.{Signal, whole_a, whole_v, whole_f}
 use Rattle.nfc_base.specs.Links.{Counts, CountsOn}
 
 -- the kinds of tags that a link leads to
 pub data TagKind : Type 0 where
   Type2 : TagKind
+  Type3 : TagKind
   Type4 : TagKind
   Type5 : TagKind
 
@@ -71,20 +72,34 @@ pub record IsAddressed (identifier : List ℕ) (c : Signal) : Type 0 where
   pub rest : List ℕ
   pub frame : c ≡ addressed identifier code rest
 
--- What a technology addresses to the device of one identifier: in NFC-A nothing, in NFC-V what is addressed to its eight
--- bytes. A further technology is a case more.
+-- a request of NFC-F to the device of this identifier: how many bytes it has, itself included, a code, the identifier in
+-- order, and what the code needs (JIS X 6319-4)
+abbrev pub addressed_f : List ℕ → ℕ → ℕ → List ℕ → Signal
+addressed_f identifier size code rest = whole_f (size ∷ code ∷ (identifier ++ rest))
+
+pub record IsAddressedF (identifier : List ℕ) (c : Signal) : Type 0 where
+  pub size : ℕ
+  pub code : ℕ
+  pub rest : List ℕ
+  pub frame : c ≡ addressed_f identifier size code rest
+
+-- What a technology addresses to the device of one identifier: in NFC-A nothing, in NFC-V and NFC-F what is addressed to
+-- its eight bytes. A further technology is a case more.
 abbrev pub IsNamedIn : Tech → List ℕ → Type 0
 IsNamedIn A identifier = Unit {0}
 IsNamedIn V identifier = length identifier ≡ 8
+IsNamedIn F identifier = length identifier ≡ 8
 
 abbrev pub IsAddressedIn : Tech → List ℕ → Signal → Type 0
 IsAddressedIn A identifier f = ⊥
 IsAddressedIn V identifier f = IsNamedIn V identifier × IsAddressed identifier f
+IsAddressedIn F identifier f = IsNamedIn F identifier × IsAddressedF identifier f
 
 -- What a tag of a kind may be asked: a frame of whole bytes of its technology; of a Type 4 tag at most 264 bytes, of a
--- Type 5 tag what is addressed to it.
+-- Type 3 or a Type 5 tag what is addressed to it.
 abbrev pub MayAsk : TagKind → List ℕ → Signal → Type 0
 MayAsk Type2 identifier c = c ≡ whole_a c.bytes
+MayAsk Type3 identifier c = IsAddressedF identifier c
 MayAsk Type4 identifier c = (c ≡ whole_a c.bytes) × (length c.bytes ≤ 264)
 MayAsk Type5 identifier c = IsAddressed identifier c
 

@@ -9,11 +9,12 @@ use arrayvec::ArrayVec;
 use std::marker::Model;
 use thiserror::Error;
 
-/// The technology of a frame: NFC-A or NFC-V (NFC Forum Digital Protocol).
+/// The technology of a frame: NFC-A, NFC-V or NFC-F (NFC Forum Digital Protocol).
 #[derive(Clone, Copy, Debug, PartialEq, Eq)]
 pub enum Tech {
     A,
     V,
+    F,
 }
 
 /// Why some bytes are no frame.

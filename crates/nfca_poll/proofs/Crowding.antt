@@ -2,7 +2,7 @@
 use Rattle.std.proofs.Common.{◌≡◌, ℕ, ◌+◌, List, [], ◌∷◌, ◌++◌, length, drop, map, filter_map, Bool, true, false, if◌then◌else◌, refl, sym, ◌∙◌, ap, subst, arith, Option, Some, None}
 use Rattle.std.specs.List.{cons_option}
 use Rattle.nfc_base.specs.declared.frame.Tech.{Tech}
-use Rattle.nfc_base.specs.declared.frame.Tech.TheVariants.{A, V}
+use Rattle.nfc_base.specs.declared.frame.Tech.TheVariants.{A, V, F}
 use Rattle.nfc_base.specs.Signal.{Signal}
 use Rattle.nfc_base.specs.Trace.{noise, other_than_pass}
 use Rattle.nfc_base.specs.declared.event.Event.{Event}
@@ -66,8 +66,8 @@ module _ {L : Type 0} (m : Machine L) where
     pub heard_by_it : (l : L) → m.tech l ≡ A → same_tech (m.tech l) f.tech ≡ true
     heard_by_it l t = ap (λ u. same_tech u f.tech) t ∙ ap (same_tech A) request
 
-    pub not_heard : (l : L) → m.tech l ≡ V → same_tech (m.tech l) f.tech ≡ false
-    not_heard l t = ap (λ u. same_tech u f.tech) t ∙ ap (same_tech V) request
+    pub not_heard : (l : L) (other : Tech) → same_tech other A ≡ false → m.tech l ≡ other → same_tech (m.tech l) f.tech ≡ false
+    not_heard l other apart t = ap (λ u. same_tech u f.tech) t ∙ ap (same_tech other) request ∙ apart
 
     -- one that steps by its front's table
     pub table_card : (l : L) → m.tech l ≡ A → StepsByFront m identifier ours.kind ours.front l f → OneCard l
@@ -84,12 +84,12 @@ module _ {L : Type 0} (m : Machine L) where
               ∙ sym (ap (λ v. said_by (card_says (call_of f)) (if v then Some (card_of ours l) else None)) here),
         )
 
-    pub other_card : (l : L) → m.tech l ≡ V → OneCard l
-    other_card l t =
-        let none : card_if ours l ≡ None = ap (λ u. if same_tech u A then Some (card_of ours l) else None) t in
-        let goes : step l ≡ l = ap (λ v. if v then m.after l f (mute_reply (m.handed l f)) else l) (not_heard l t) in (
+    pub other_card : (l : L) (other : Tech) → same_tech other A ≡ false → m.tech l ≡ other → OneCard l
+    other_card l other apart t =
+        let none : card_if ours l ≡ None = ap (λ v. if v then Some (card_of ours l) else None) (ap (λ u. same_tech u A) t ∙ apart) in
+        let goes : step l ≡ l = ap (λ v. if v then m.after l f (mute_reply (m.handed l f)) else l) (not_heard l other apart t) in (
           ap (card_if ours) goes ∙ none ∙ sym (ap (mapped (card_next (call_of f))) none),
-          ap (λ v. if v then m.answer l f (mute_reply (m.handed l f)) else None) (not_heard l t) ∙ sym (ap (said_by (card_says (call_of f))) none),
+          ap (λ v. if v then m.answer l f (mute_reply (m.handed l f)) else None) (not_heard l other apart t) ∙ sym (ap (said_by (card_says (call_of f))) none),
         )
 
     pub one_card : (l : L) → IfSaid (λ c. is_active c.front ≡ false) (card_if ours l) → OneCard l
@@ -99,7 +99,8 @@ module _ {L : Type 0} (m : Machine L) where
         by_tech A t =
             let P : Bool → Type 0 = λ v. IfSaid (λ c. is_active c.front ≡ false) (if v then Some (card_of ours l) else None) in
             table_card l t (ours.steps l f t (subst P (ap (λ u. same_tech u A) t) i))
-        by_tech V t = other_card l t
+        by_tech V t = other_card l V refl t
+        by_tech F t = other_card l F refl t
 
     cons_mapped : (g : Card → Card) (o : Option Card) (xs : List Card) → cons_option (mapped g o) (map g xs) ≡ map g (cons_option o xs)
     cons_mapped g None xs = refl

@@ -2,7 +2,7 @@
 use Rattle.std.proofs.Common.{◌≡◌, ◌⊎◌, ℕ, List, [], ◌∷◌, map, filter_map, Bool, true, false, if◌then◌else◌, inl, inr, refl, sym, ◌∙◌, ap, subst, Option, Some, None}
 use Rattle.std.specs.List.{cons_option}
 use Rattle.nfc_base.specs.declared.frame.Tech.{Tech}
-use Rattle.nfc_base.specs.declared.frame.Tech.TheVariants.{A, V}
+use Rattle.nfc_base.specs.declared.frame.Tech.TheVariants.{A, V, F}
 use Rattle.nfc_base.specs.Signal.{Signal}
 use Rattle.nfc_base.specs.Trace.{noise}
 use Rattle.nfc_base.specs.declared.event.Heard.{Heard}
@@ -100,7 +100,8 @@ module _ {L : Type 0} (m : Machine L) {identifier : L → List ℕ} (ours : AreO
   one_moves l y = by_tech (m.tech l) refl (is_active (ours.front l)) refl
     where
       by_tech : (t : Tech) → m.tech l ≡ t → (v : Bool) → is_active (ours.front l) ≡ v → OneMoves l
-      by_tech V t v i = by_table l (other_card m ours f request l t)
+      by_tech V t v i = by_table l (other_card m ours f request l V refl t)
+      by_tech F t v i = by_table l (other_card m ours f request l F refl t)
       by_tech A t false i = by_table l (table_card m ours f request l t (ours.steps l f t i))
       by_tech A t true i =
           elim (y t i) [

@@ -2,7 +2,7 @@
 use Rattle.std.proofs.Common.{◌≡◌, ℕ, List, [], ◌∷◌, map, filter_map, Bool, true, false, if◌then◌else◌, inr, refl, sym, ◌∙◌, ap, subst, Option, Some, None}
 use Rattle.std.specs.List.{cons_option}
 use Rattle.nfc_base.specs.declared.frame.Tech.{Tech}
-use Rattle.nfc_base.specs.declared.frame.Tech.TheVariants.{A, V}
+use Rattle.nfc_base.specs.declared.frame.Tech.TheVariants.{A, V, F}
 use Rattle.nfc_base.specs.Signal.{Signal}
 use Rattle.nfc_base.specs.declared.event.Heard.{Heard}
 use Rattle.nfc_base.specs.declared.event.Heard.TheVariants.{Damaged, Silent}
@@ -18,12 +18,14 @@ use Rattle.nfca_poll.specs.Polled.{WakesIdle, IsTidy, ArePolled, AreTidy}
 use Rattle.nfca_poll.proofs.Clashes.{Has}
 use Rattle.nfca_poll.proofs.HeardBits.{heard_of}
 use Rattle.nfca_poll.proofs.Fitting.{card_next, card_says}
-use Rattle.nfca_poll.proofs.Crowding.{step, says, mapped, said_by, OneCard, heard_by_it, table_card, other_card}
+use Rattle.nfca_poll.proofs.Crowding.{step, says, mapped, said_by, OneCard, heard_by_it, not_heard, table_card, other_card}
 use Rattle.nfca_poll.proofs.NoisyTurns as turns
 use Rattle.nfca_poll.proofs.NoisyTurns.{TurnWas, passed, unheard, damaged, lost, WorldWas}
 
-no_tech : V ≡ A → ⊥
-no_tech e = cc
+no_tech : (t : Tech) → same_tech t A ≡ false → t ≡ A → ⊥
+no_tech A apart e = cc
+no_tech V apart e = cc
+no_tech F apart e = cc
 
 -- a card that a reset has made idle
 abbrev pub idled : Card → Card
@@ -52,17 +54,18 @@ module _ {L : Type 0} (m : Machine L) {identifier : L → List ℕ} (polled : Ar
       ap (λ u. if same_tech u A then Some (card_of polled.ours (wake l)) else None) (polled.same_tech l ∙ t) ∙ ap Some card
       ∙ sym (ap (λ u. idled_if (if same_tech u A then Some (card_of polled.ours l) else None)) t)
 
-  other_waking : (l : L) → m.tech l ≡ V → card_if polled.ours (wake l) ≡ idled_if (card_if polled.ours l)
-  other_waking l t =
-      ap (λ u. if same_tech u A then Some (card_of polled.ours (wake l)) else None) (polled.same_tech l ∙ t)
-      ∙ sym (ap (λ u. idled_if (if same_tech u A then Some (card_of polled.ours l) else None)) t)
+  other_waking : (l : L) (other : Tech) → same_tech other A ≡ false → m.tech l ≡ other → card_if polled.ours (wake l) ≡ idled_if (card_if polled.ours l)
+  other_waking l other apart t =
+      ap (λ v. if v then Some (card_of polled.ours (wake l)) else None) (ap (λ u. same_tech u A) (polled.same_tech l ∙ t) ∙ apart)
+      ∙ sym (ap (λ v. idled_if (if v then Some (card_of polled.ours l) else None)) (ap (λ u. same_tech u A) t ∙ apart))
 
   one_waking : (l : L) → (m.tech l ≡ A → IsTidy polled.ours.front polled.unlinked l) → card_if polled.ours (wake l) ≡ idled_if (card_if polled.ours l)
   one_waking l s = by_tech (m.tech l) refl
     where
       by_tech : (t : Tech) → m.tech l ≡ t → card_if polled.ours (wake l) ≡ idled_if (card_if polled.ours l)
       by_tech A t = waking_card l t (s t)
-      by_tech V t = other_waking l t
+      by_tech V t = other_waking l V refl t
+      by_tech F t = other_waking l F refl t
 
   -- a reset makes each NFC-A device idle
   pub reset_cards : (ls : List L) → AreTidy polled ls → cards polled.ours (map (λ l. m.woken (m.darkened l)) ls) ≡ map idled (cards polled.ours ls)
@@ -100,12 +103,15 @@ module _ {L : Type 0} (m : Machine L) {identifier : L → List ℕ} (polled : Ar
     one_steps : (l : L) → (m.tech l ≡ A → polled.unlinked l ≡ true) → OneCard m polled.ours f request l × (m.tech (next l) ≡ A → polled.unlinked (next l) ≡ true)
     one_steps l k = by_tech (m.tech l) refl
       where
+        by_other : (other : Tech) → same_tech other A ≡ false → m.tech l ≡ other → OneCard m polled.ours f request l × (m.tech (next l) ≡ A → polled.unlinked (next l) ≡ true)
+        by_other other apart t =
+            let same : next l ≡ l = ap (λ v. if v then m.after l f (mute_reply (m.handed l f)) else l) (not_heard m polled.ours f request l other apart t) in
+            (other_card m polled.ours f request l other apart t, (λ i. absurd (no_tech other apart (sym t ∙ sym (ap m.tech same) ∙ i))))
+
         by_tech : (t : Tech) → m.tech l ≡ t → OneCard m polled.ours f request l × (m.tech (next l) ≡ A → polled.unlinked (next l) ≡ true)
         by_tech A t = (table_card m polled.ours f request l t (by_table l t (k t)), (λ i. still_unlinked l t (k t)))
-        by_tech V t =
-            let deaf : same_tech (m.tech l) f.tech ≡ false = ap (λ u. same_tech u f.tech) t ∙ ap (same_tech V) request in
-            let same : next l ≡ l = ap (λ v. if v then m.after l f (mute_reply (m.handed l f)) else l) deaf in
-            (other_card m polled.ours f request l t, (λ i. absurd (no_tech (sym t ∙ sym (ap m.tech same) ∙ i))))
+        by_tech V t = by_other V refl t
+        by_tech F t = by_other F refl t
 
     cons_mapped : (g : Card → Card) (o : Option Card) (xs : List Card) → cons_option (mapped m polled.ours f request g o) (map g xs) ≡ map g (cons_option o xs)
     cons_mapped g None xs = refl

@@ -2,7 +2,7 @@
 use Rattle.std.proofs.Common.{◌≡◌, ◌⊎◌, ℕ, zero, suc, ◌+◌, ◌≤◌, List, [], ◌∷◌, ◌++◌, length, drop, map, filter_map, Bool, true, false, if◌then◌else◌, inl, inr, refl, sym, ◌∙◌, ap, subst, append_assoc, arith, Option, Some, None}
 use Rattle.std.specs.List.{cons_option}
 use Rattle.nfc_base.specs.declared.frame.Tech.{Tech}
-use Rattle.nfc_base.specs.declared.frame.Tech.TheVariants.{A, V}
+use Rattle.nfc_base.specs.declared.frame.Tech.TheVariants.{A, V, F}
 use Rattle.nfc_base.specs.declared.event.Event.{Event}
 use Rattle.nfc_base.specs.declared.event.Heard.{Heard}
 use Rattle.nfc_base.specs.declared.event.Heard.TheVariants.{Whole, Damaged, Silent}
@@ -73,6 +73,7 @@ module _ {L : Type 0} (m : Machine L) (f : Signal) (request : f.tech ≡ V) wher
   only_v : (t : Tech) → same_tech t V ≡ true → t ≡ V
   only_v A e = absurd cc
   only_v V e = refl
+  only_v F e = absurd cc
 
   -- whether it hears it or not, a steady listener hands nothing over and answers the same
   holds_still : (l : L) → IsSteady m f l → (n : ℕ) (v : Bool) → hears m l f ≡ v → (hands_over m (again n l) f ≡ Untouched) × (answer_of (again n l) ≡ answer_of l)

@@ -1,10 +1,11 @@
 -- A resolution over listeners without links leaves the device that it picks active alone.
 use Rattle.std.proofs.Common.{◌≡◌, ℕ, List, [], ◌∷◌, length, drop, map, Bool, true, false, if◌then◌else◌, inl, inr, refl, sym, ◌∙◌, ap, subst, None, Result, Ok, Err}
 use Rattle.nfc_base.specs.declared.frame.Tech.{Tech}
-use Rattle.nfc_base.specs.declared.frame.Tech.TheVariants.{A, V}
+use Rattle.nfc_base.specs.declared.frame.Tech.TheVariants.{A, V, F}
 use Rattle.nfc_base.specs.declared.event.Heard.{Heard}
 use Rattle.nfc_base.specs.Signal.{Signal}
 use Rattle.nfc_base.specs.Trace.{noise}
+use Rattle.air_core.specs.Joint.{same_tech}
 use Rattle.air_core.specs.World.{Machine, World}
 use Rattle.air_core.specs.Turn.{Air, moment}
 use Rattle.nfca_poll.specs.declared.fault.Picked.{Picked}
@@ -43,15 +44,19 @@ module _ {L : Type 0} (m : Machine L) (identifier' : L → List ℕ) (ours : Are
     one_unlinked : (l : L) → IsUnlinked l → IsUnlinked (step m ours f request l)
     one_unlinked l u = by_tech (m.tech l) refl
       where
+        by_other : (other : Tech) → same_tech other A ≡ false → m.tech l ≡ other → IsUnlinked (step m ours f request l)
+        by_other other apart t =
+            let goes : step m ours f request l ≡ l = ap (λ v. if v then m.after l f (mute_reply (m.handed l f)) else l) (not_heard m ours f request l other apart t) in
+            subst IsUnlinked (sym goes) u
+
         by_tech : (t : Tech) → m.tech l ≡ t → IsUnlinked (step m ours f request l)
         by_tech A t =
             let s : StepsByFront m identifier' ours.kind ours.front l f = by_front l t (u t) in
             let goes : step m ours f request l ≡ m.after l f None =
             ap (λ v. if v then m.after l f (mute_reply (m.handed l f)) else l) (heard_by_it m ours f request l t) ∙ ap (λ h. m.after l f (mute_reply h)) s.untouched in
             (λ z. ap unlinked goes ∙ (leaves l f c t (u t) reads).1)
-        by_tech V t =
-            let goes : step m ours f request l ≡ l = ap (λ v. if v then m.after l f (mute_reply (m.handed l f)) else l) (not_heard m ours f request l t) in
-            subst IsUnlinked (sym goes) u
+        by_tech V t = by_other V refl t
+        by_tech F t = by_other F refl t
 
     all_unlinked : (ls : List L) → Each IsUnlinked ls → Each IsUnlinked (map (step m ours f request) ls)
     all_unlinked [] u = tt

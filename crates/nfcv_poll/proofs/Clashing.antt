@@ -1,9 +1,9 @@
 -- Where tags clash in a round, two of them at least have its mask and this slot.
-use Rattle.std.proofs.Common.{◌≡◌, ◌⊎◌, inl, inr, ◌≤◌, ℕ, ◌+◌, ◌*◌, List, [], ◌∷◌, length, map, filter_map, Bool, true, ◌&&◌, nat_eq, if◌then◌else◌, Option, Some, None, refl, sym, ◌∙◌, ap, subst, arith}
+use Rattle.std.proofs.Common.{◌≡◌, ◌⊎◌, inl, inr, ◌≤◌, ℕ, ◌+◌, ◌*◌, List, [], ◌∷◌, length, map, filter_map, Bool, true, false, ◌&&◌, nat_eq, if◌then◌else◌, Option, Some, None, refl, sym, ◌∙◌, ap, subst, arith}
 use Rattle.std.specs.List.{cons_option}
 use Rattle.std.specs.Cmp.Lexicographic.{pointwise}
 use Rattle.nfc_base.specs.declared.frame.Tech.{Tech}
-use Rattle.nfc_base.specs.declared.frame.Tech.TheVariants.{A, V}
+use Rattle.nfc_base.specs.declared.frame.Tech.TheVariants.{A, V, F}
 use Rattle.nfc_base.specs.Signal.{Signal}
 use Rattle.air_core.specs.Joint.{Clashing, joint, same_tech}
 use Rattle.air_core.specs.World.{Machine, answered_by, stepped_by}
@@ -63,7 +63,8 @@ module _ {L : Type 0} (m : Machine L) (tag : L → T5State) (lit : L → Bool) (
             record { lit' = g.0; at = at (tag (m.after l f None)) g.1 }
 
         one : (t : Tech) → m.tech l ≡ t → m.tech (next l) ≡ V → IsWith n current (next l)
-        one A e v = absurd (let no_ : A ≡ V = sym e ∙ ap m.tech (sym (stepped_other m tag lit are ids f of_v l e)) ∙ v in cc)
+        one A e v = absurd (let no_ : A ≡ V = sym e ∙ ap m.tech (sym (stepped_other m tag lit are ids f of_v l A refl e)) ∙ v in cc)
+        one F e v = absurd (let no_ : F ≡ V = sym e ∙ ap m.tech (sym (stepped_other m tag lit are ids f of_v l F refl e)) ∙ v in cc)
         one V e v = subst (IsWith n current) (sym (stepped_tag m tag lit are ids f of_v l e)) (on (h.0 e) e)
 
     -- who answers has the mask and the slot
@@ -93,13 +94,18 @@ module _ {L : Type 0} (m : Machine L) (tag : L → T5State) (lit : L → Bool) (
           by_answer (Some a) (inl nothing) rest = absurd cc
           by_answer (Some a) (inr both) rest = rw (shares_it (tag l) both) (omega (arith, rest))
 
+          by_other : (t : Tech) → same_tech V t ≡ false → m.tech l ≡ t → length (filter_map saying ls) ≤ sharing fork (tag_ids m tag ls)
+              → length (cons_option (saying l) (filter_map saying ls)) ≤ sharing fork (cons_option (id_if m tag l) (tag_ids m tag ls))
+          by_other t apart e rest =
+              let C : Option Signal → Option (List ℕ) → Type 0 = λ o i. length (cons_option o (filter_map saying ls)) ≤ sharing fork (cons_option i (tag_ids m tag ls)) in
+              let none : saying l ≡ None = said_other m tag lit are ids f of_v l t apart e in
+              let other : id_if m tag l ≡ None = ap (λ v. if v then Some (tag l).id else None) (ap (same_tech V) e ∙ apart) in
+              subst (λ o. C o (id_if m tag l)) (sym none) (subst (λ i. C None i) (sym other) rest)
+
           one : (t : Tech) → m.tech l ≡ t → length (filter_map saying ls) ≤ sharing fork (tag_ids m tag ls)
               → length (cons_option (saying l) (filter_map saying ls)) ≤ sharing fork (cons_option (id_if m tag l) (tag_ids m tag ls))
-          one A e rest =
-              let C : Option Signal → Option (List ℕ) → Type 0 = λ o i. length (cons_option o (filter_map saying ls)) ≤ sharing fork (cons_option i (tag_ids m tag ls)) in
-              let none : saying l ≡ None = said_other m tag lit are ids f of_v l e in
-              let other : id_if m tag l ≡ None = ap (λ t. if same_tech V t then Some (tag l).id else None) e in
-              subst (λ o. C o (id_if m tag l)) (sym none) (subst (λ i. C None i) (sym other) rest)
+          one A e rest = by_other A refl e rest
+          one F e rest = by_other F refl e rest
           one V e rest =
               let C : Option Signal → Option (List ℕ) → Type 0 = λ o i. length (cons_option o (filter_map saying ls)) ≤ sharing fork (cons_option i (tag_ids m tag ls)) in
               let t = h.0 e in

@@ -2,7 +2,7 @@
 use Rattle.std.proofs.Common.{◌≡◌, inl, inr, ℕ, zero, suc, List, [], ◌∷◌, Bool, true, false, nat_eq, nat_lt, if◌then◌else◌, Option, Some, None, refl, subst}
 use Rattle.std.specs.List.{cons_option}
 use Rattle.nfc_base.specs.declared.frame.Tech.{Tech}
-use Rattle.nfc_base.specs.declared.frame.Tech.TheVariants.{A, V}
+use Rattle.nfc_base.specs.declared.frame.Tech.TheVariants.{A, V, F}
 use Rattle.air_core.specs.Joint.{same_tech}
 use Rattle.air_core.specs.World.{Machine}
 use Rattle.nfca_poll.specs.Crowd.{Each}
@@ -51,6 +51,7 @@ module _ {L : Type 0} (m : Machine L) (tag : L → T5State) where
     where
       by_tech : (t : Tech) → (t ≡ V → P (tag l).id) → Each P (tag_ids m tag ls) → Each P (cons_option (if same_tech V t then Some (tag l).id else None) (tag_ids m tag ls))
       by_tech A k rest = rest
+      by_tech F k rest = rest
       by_tech V k rest = (k refl, rest)
 
   -- each tag's identifier is one of theirs
@@ -68,4 +69,5 @@ module _ {L : Type 0} (m : Machine L) (tag : L → T5State) where
     where
       by_tech : (t : Tech) → t ≡ V → IsOneOf (tag l).id (cons_option (if same_tech V t then Some (tag l).id else None) (tag_ids m tag ls))
       by_tech A e = absurd cc
+      by_tech F e = absurd cc
       by_tech V e = inl refl

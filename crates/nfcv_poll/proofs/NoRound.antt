@@ -1,7 +1,7 @@
 -- Tags that are in no round: behind a reset, and behind a question that reaches them.
 use Rattle.std.proofs.Common.{◌≡◌, ℕ, List, [], ◌∷◌, map, replicate, Bool, None, refl, sym, ◌∙◌, ap, subst}
 use Rattle.nfc_base.specs.declared.frame.Tech.{Tech}
-use Rattle.nfc_base.specs.declared.frame.Tech.TheVariants.{A, V}
+use Rattle.nfc_base.specs.declared.frame.Tech.TheVariants.{A, V, F}
 use Rattle.nfc_base.specs.Signal.{Signal}
 use Rattle.air_core.specs.World.{Machine, stepped_by}
 use Rattle.nfca_poll.specs.Muted.{muted}
@@ -49,5 +49,6 @@ module _ {L : Type 0} (m : Machine L) (tag : L → T5State) (lit : L → Bool) (
           record { lit' = g.0; at = in_none (mask_by []) 0 (tag (m.after l question_frame None)) out }
 
       one : (t : Tech) → m.tech l ≡ t → m.tech (next l) ≡ V → IsWith m tag lit are ids (mask_by []) 0 (next l)
-      one A e v = absurd (let no_ : A ≡ V = sym e ∙ ap m.tech (sym (stepped_other m tag lit are ids question_frame refl l e)) ∙ v in cc)
+      one A e v = absurd (let no_ : A ≡ V = sym e ∙ ap m.tech (sym (stepped_other m tag lit are ids question_frame refl l A refl e)) ∙ v in cc)
+      one F e v = absurd (let no_ : F ≡ V = sym e ∙ ap m.tech (sym (stepped_other m tag lit are ids question_frame refl l F refl e)) ∙ v in cc)
       one V e v = subst (IsWith m tag lit are ids (mask_by []) 0) (sym (stepped_tag m tag lit are ids question_frame refl l e)) (on (h.0 e) e)

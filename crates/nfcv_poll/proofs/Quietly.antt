@@ -8,7 +8,7 @@ use Rattle.nfc_base.specs.declared.event.Fate.TheVariants.{Pass, Damage, Lose, B
 use Rattle.nfc_base.specs.declared.event.Heard.{Heard}
 use Rattle.nfc_base.specs.declared.event.Heard.TheVariants.{Whole, Collided}
 use Rattle.nfc_base.specs.declared.frame.Tech.{Tech}
-use Rattle.nfc_base.specs.declared.frame.Tech.TheVariants.{A, V}
+use Rattle.nfc_base.specs.declared.frame.Tech.TheVariants.{A, V, F}
 use Rattle.nfc_base.specs.Bits.{bits, of_bits}
 use Rattle.nfc_base.specs.Signal.{Signal}
 use Rattle.nfc_base.specs.Trace.{heard_by}
@@ -44,6 +44,11 @@ techs A A e = refl
 techs A V e = absurd cc
 techs V A e = absurd cc
 techs V V e = refl
+techs A F e = absurd cc
+techs V F e = absurd cc
+techs F A e = absurd cc
+techs F V e = absurd cc
+techs F F e = refl
 
 same_frame : (g k : Signal) → same_signal g k ≡ true → k ≡ g
 same_frame g k e =
@@ -175,8 +180,10 @@ module _ {L : Type 0} (m : Machine L) (tag : L → T5State) (lit : L → Bool) (
     abbrev saying : L → Option Signal
     saying l = answered_by (muted m) l f None
 
-    not_other : (l : L) → m.tech l ≡ A → m.tech (next l) ≡ V → ⊥
-    not_other l e v = let no_ : A ≡ V = sym e ∙ ap m.tech (sym (stepped_other m tag lit are ids f of_v l e)) ∙ v in cc
+    not_other : (l : L) (t : Tech) → same_tech V t ≡ false → m.tech l ≡ t → m.tech (next l) ≡ V → ⊥
+    not_other l t apart e v =
+        let is : V ≡ t = sym v ∙ ap m.tech (stepped_other m tag lit are ids f of_v l t apart e) ∙ e in
+        let no_ : true ≡ false = ap (same_tech V) is ∙ apart in cc
 
     -- what it makes of each tag it makes of the listeners
     pub each_goes : (P Q : T5State → Type 0) → ((t : T5State) → P t → Q (t5_after t f)) → (ls : List L) → ArePlaced m tag lit are ids found ls → Each (λ l. m.tech l ≡ V → P (tag l)) ls
@@ -185,7 +192,8 @@ module _ {L : Type 0} (m : Machine L) (tag : L → T5State) (lit : L → Bool) (
     each_goes P Q go (l ∷ ls) p h = (one (m.tech l) refl, each_goes P Q go ls p.1 h.1)
       where
         one : (t : Tech) → m.tech l ≡ t → m.tech (next l) ≡ V → Q (tag (next l))
-        one A e v = absurd (not_other l e v)
+        one A e v = absurd (not_other l A refl e v)
+        one F e v = absurd (not_other l F refl e v)
         one V e v =
             let g = are.goes l f e (p.0 e).lit' in
             subst (λ z. Q (tag z)) (sym (stepped_tag m tag lit are ids f of_v l e)) (subst Q (sym g.1) (go (tag l) (h.0 e)))
@@ -199,7 +207,8 @@ module _ {L : Type 0} (m : Machine L) (tag : L → T5State) (lit : L → Bool) (
         each_none (k ∷ ks) p h = (one (m.tech k) refl, each_none ks p.1 h.1)
           where
             one : (t : Tech) → m.tech k ≡ t → saying k ≡ None
-            one A e = said_other m tag lit are ids f of_v k e
+            one A e = said_other m tag lit are ids f of_v k A refl e
+            one F e = said_other m tag lit are ids f of_v k F refl e
             one V e = said_tag m tag lit are ids f of_v k e ∙ are.answers k f e (p.0 e).lit' ∙ h.0 e
 
   due_of_v : (path : List ℕ) (v : Bool) → (due_frame path v).tech ≡ V
@@ -236,7 +245,8 @@ module _ {L : Type 0} (m : Machine L) (tag : L → T5State) (lit : L → Bool) (
             (goes_sought ids found path slot cs ws h found' cs' ws' learns is less (tag l) long small (fares (tag l)) heard (k.0 e))
 
         one : (t : Tech) → m.tech l ≡ t → m.tech (step l) ≡ V → Sought found' path (slot + 1) cs' ws' (tag (step l))
-        one A e v = absurd (not_other f of_v found l e v)
+        one A e v = absurd (not_other f of_v found l A refl e v)
+        one F e v = absurd (not_other f of_v found l F refl e v)
         one V e v = subst (λ z. Sought found' path (slot + 1) cs' ws' (tag z)) (sym (stepped_tag m tag lit are ids f of_v l e)) (on e)
 
     pub sought_on : (ls : List L) → ArePlaced m tag lit are ids found ls → Each (ToldOf h) (filter_map (λ l. answered_by (muted m) l f None) ls) → AreSought found path slot cs ws ls

@@ -2,10 +2,10 @@
 use Rattle.std.proofs.Common.{◌≡◌, ◌⊎◌, inl, inr, ℕ, List, [], ◌∷◌, map, filter_map, Bool, true, false, if◌then◌else◌, Option, Some, None, refl, sym, ◌∙◌, ap, subst}
 use Rattle.std.specs.List.{cons_option}
 use Rattle.nfc_base.specs.declared.frame.Tech.{Tech}
-use Rattle.nfc_base.specs.declared.frame.Tech.TheVariants.{A, V}
+use Rattle.nfc_base.specs.declared.frame.Tech.TheVariants.{A, V, F}
 use Rattle.nfc_base.specs.Signal.{Signal}
 use Rattle.air_core.specs.Joint.{same_tech}
-use Rattle.air_core.specs.World.{Machine, answered_by, stepped_by}
+use Rattle.air_core.specs.World.{hears, Machine, answered_by, stepped_by}
 use Rattle.nfca_poll.specs.Crowd.{Each}
 use Rattle.nfca_poll.specs.Muted.{mute_reply, muted}
 use Rattle.nfca_poll.proofs.Eaches.{each_map, IfSaid, said_each}
@@ -80,6 +80,7 @@ module _ {L : Type 0} (m : Machine L) (tag : L → T5State) (lit : L → Bool) (
 
       one : (t : Tech) → m.tech l ≡ t → id_if m tag (relit l) ≡ id_if m tag l
       one A e = ap (λ t. if same_tech V t then Some (tag (relit l)).id else None) (are.woken_tech l ∙ e) ∙ sym (ap (λ t. if same_tech V t then Some (tag l).id else None) e)
+      one F e = ap (λ t. if same_tech V t then Some (tag (relit l)).id else None) (are.woken_tech l ∙ e) ∙ sym (ap (λ t. if same_tech V t then Some (tag l).id else None) e)
       one V e =
           ap (λ t. if same_tech V t then Some (tag (relit l)).id else None) (are.woken_tech l ∙ e)
           ∙ ap (λ (t : T5State). Some t.id) (are.woken l e).1
@@ -106,15 +107,19 @@ module _ {L : Type 0} (m : Machine L) (tag : L → T5State) (lit : L → Bool) (
         ∙ ap (λ t. if same_tech V t then m.answer l f (mute_reply (m.handed l f)) else None) of_v
         ∙ ap (λ u. m.answer l f (mute_reply u)) (are.untouched l f e)
 
-    pub stepped_other : (l : L) → m.tech l ≡ A → next l ≡ l
-    stepped_other l e =
-        ap (λ t. if same_tech t f.tech then m.after l f (mute_reply (m.handed l f)) else l) e
-        ∙ ap (λ t. if same_tech A t then m.after l f (mute_reply (m.handed l f)) else l) of_v
+    not_heard : (l : L) (t : Tech) → same_tech V t ≡ false → m.tech l ≡ t → hears m l f ≡ false
+    not_heard l t apart e = ap (λ u. same_tech u f.tech) e ∙ ap (same_tech t) of_v ∙ turned t apart
+      where
+        turned : (u : Tech) → same_tech V u ≡ false → same_tech u V ≡ false
+        turned A n = refl
+        turned V n = n
+        turned F n = refl
 
-    pub said_other : (l : L) → m.tech l ≡ A → says l ≡ None
-    said_other l e =
-        ap (λ t. if same_tech t f.tech then m.answer l f (mute_reply (m.handed l f)) else None) e
-        ∙ ap (λ t. if same_tech A t then m.answer l f (mute_reply (m.handed l f)) else None) of_v
+    pub stepped_other : (l : L) (t : Tech) → same_tech V t ≡ false → m.tech l ≡ t → next l ≡ l
+    stepped_other l t apart e = ap (λ v. if v then m.after l f (mute_reply (m.handed l f)) else l) (not_heard l t apart e)
+
+    pub said_other : (l : L) (t : Tech) → same_tech V t ≡ false → m.tech l ≡ t → says l ≡ None
+    said_other l t apart e = ap (λ v. if v then m.answer l f (mute_reply (m.handed l f)) else None) (not_heard l t apart e)
 
     pub same_ids : (found : List (List ℕ)) → ((t : T5State) → Fares found t f) → (ls : List L) → ArePlaced found ls → tag_ids m tag (map next ls) ≡ tag_ids m tag ls
     same_ids found fares [] h = refl
@@ -122,7 +127,8 @@ module _ {L : Type 0} (m : Machine L) (tag : L → T5State) (lit : L → Bool) (
         ap (λ o. cons_option o (tag_ids m tag (map next ls))) (one (m.tech l) refl) ∙ ap (λ is. cons_option (id_if m tag l) is) (same_ids found fares ls h.1)
       where
         one : (t : Tech) → m.tech l ≡ t → id_if m tag (next l) ≡ id_if m tag l
-        one A e = ap (id_if m tag) (stepped_other l e)
+        one A e = ap (id_if m tag) (stepped_other l A refl e)
+        one F e = ap (id_if m tag) (stepped_other l F refl e)
         one V e =
             ap (id_if m tag) (stepped_tag l e)
             ∙ ap (λ t. if same_tech V t then Some (tag (m.after l f None)).id else None) (are.after_tech l f e)
@@ -151,7 +157,8 @@ module _ {L : Type 0} (m : Machine L) (tag : L → T5State) (lit : L → Bool) (
             found_if (inr o) k = o
 
         one : (t : Tech) → m.tech l ≡ t → m.tech (next l) ≡ V → IsPlaced found (next l)
-        one A e v = absurd (let no_ : A ≡ V = sym e ∙ ap m.tech (sym (stepped_other l e)) ∙ v in cc)
+        one A e v = absurd (let no_ : A ≡ V = sym e ∙ ap m.tech (sym (stepped_other l A refl e)) ∙ v in cc)
+        one F e v = absurd (let no_ : F ≡ V = sym e ∙ ap m.tech (sym (stepped_other l F refl e)) ∙ v in cc)
         one V e v = subst (IsPlaced found) (sym (stepped_tag l e)) (on (h.0 e) e)
 
     -- each answer tells one of the identifiers
@@ -167,7 +174,8 @@ module _ {L : Type 0} (m : Machine L) (tag : L → T5State) (lit : L → Bool) (
         by_said l (Some g) k e q = tells_one (tag l) g (k e).own (fares (tag l)).says (sym (are.answers l f e (k e).lit') ∙ sym (said_tag l e) ∙ q)
 
         by_tech : (l : L) (t : Tech) → m.tech l ≡ t → (m.tech l ≡ V → IsPlaced found l) → IfSaid (TellsOne ids) (says l)
-        by_tech l A e k = subst (IfSaid (TellsOne ids)) (sym (said_other l e)) tt
+        by_tech l A e k = subst (IfSaid (TellsOne ids)) (sym (said_other l A refl e)) tt
+        by_tech l F e k = subst (IfSaid (TellsOne ids)) (sym (said_other l F refl e)) tt
         by_tech l V e k = by_said l (says l) k e refl
 
         one : (l : L) → (m.tech l ≡ V → IsPlaced found l) → IfSaid (TellsOne ids) (says l)

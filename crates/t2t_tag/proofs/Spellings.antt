@@ -1,7 +1,7 @@
 -- A frame spells at most one command, and that is the one read from it.
 use Rattle.std.proofs.Common.{◌≡◌, ℕ, List, [], ◌∷◌, length, drop, slice_index, slice_index_or, Bool, true, false, ◌==◌, ◌&&◌, if◌then◌else◌, Option, Some, None, IsNone, ◌↔◌, refl, sym, ◌∙◌, ap, subst, arith}
 use Rattle.nfc_base.specs.declared.frame.Tech.{Tech}
-use Rattle.nfc_base.specs.declared.frame.Tech.TheVariants.{A, V}
+use Rattle.nfc_base.specs.declared.frame.Tech.TheVariants.{A, V, F}
 use Rattle.nfc_base.specs.Signal.{Signal, signal, whole_a, is_nfc_a, last_byte}
 use Rattle.nfc_base.specs.Headed.{is_headed, t2_read_code, t2_write_code}
 use Rattle.t2t_tag.specs.declared.command.T2Command.{T2Command}
@@ -33,6 +33,7 @@ is_begun v t n i size head h = (grind (arith, h), grind (arith, h), grind (arith
 of_nfc_a : (t : Tech) → is_nfc_a t ≡ true → t ≡ A
 of_nfc_a A h = refl
 of_nfc_a V h = absurd cc
+of_nfc_a F h = absurd cc
 
 whole_frame : (f : Signal) (bytes : List ℕ) → f.tech ≡ A → f.tail ≡ 0 → f.bytes ≡ bytes → f ≡ whole_a bytes
 whole_frame f bytes t z b = ap (λ x. signal x f.bytes f.tail) t ∙ ap (λ n. signal A f.bytes n) z ∙ ap whole_a b

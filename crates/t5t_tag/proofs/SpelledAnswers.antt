@@ -1,7 +1,7 @@
 -- What is read from a frame is exactly the answer that it spells.
 use Rattle.std.proofs.Common.{◌≡◌, ℕ, ◌≤◌, ◌%◌, List, [], ◌∷◌, length, Bool, true, false, nat_le, ◌==◌, ◌&&◌, if◌then◌else◌, Option, Some, None, ◌↔◌, refl, sym, ◌∙◌, ap, subst, arith}
 use Rattle.nfc_base.specs.declared.frame.Tech.{Tech}
-use Rattle.nfc_base.specs.declared.frame.Tech.TheVariants.{A, V}
+use Rattle.nfc_base.specs.declared.frame.Tech.TheVariants.{A, V, F}
 use Rattle.nfc_base.specs.Signal.{Signal, signal, whole_v}
 use Rattle.t5t_tag.specs.declared.answer.T5Answer.{T5Answer}
 use Rattle.t5t_tag.specs.declared.answer.T5Answer.TheVariants.{Present, Content, Error}
@@ -77,6 +77,7 @@ whole_told bytes tail false is x e = cc
 
 frame_told : (tech : Tech) (bytes : List ℕ) (tail : ℕ) (x : T5Answer) → spelled_answer (signal tech bytes tail) ≡ Some x → T5AnswerSpelling x (signal tech bytes tail)
 frame_told A bytes tail x e = cc
+frame_told F bytes tail x e = cc
 frame_told V bytes tail x e = whole_told bytes tail (tail == 0) refl x e
 
 identifier_reads : (id : List ℕ) → length id ≡ 8 → read_told (no_dsfid ∷ low_first id) ≡ Some (Present id)

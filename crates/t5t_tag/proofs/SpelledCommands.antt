@@ -4,7 +4,7 @@ use Rattle.std.specs.Cmp.Lexicographic.{pointwise}
 use Rattle.std.proofs.lemmas.List.{append-nil, get_or-drop, length-append, length-reverse, length-take-le, nil_from_length, reverse-reverse, take-append-drop}
 use Rattle.std.proofs.Math.Seq.{take-append_seam, drop-append_seam}
 use Rattle.nfc_base.specs.declared.frame.Tech.{Tech}
-use Rattle.nfc_base.specs.declared.frame.Tech.TheVariants.{A, V}
+use Rattle.nfc_base.specs.declared.frame.Tech.TheVariants.{A, V, F}
 use Rattle.nfc_base.specs.Signal.{Signal, signal, whole_v}
 use Rattle.t5t_tag.specs.declared.command.T5Command.{T5Command}
 use Rattle.t5t_tag.specs.declared.command.T5Command.TheVariants.{Inventory, Slots, NextSlot, Quiet, Read, Write, ReadMany, ReadWide, WriteWide}
@@ -204,6 +204,7 @@ whole_told bytes tail false is c small e = cc
 
 frame_told : (tech : Tech) (bytes : List ℕ) (tail : ℕ) (c : T5Command) → AreBytes bytes → spelled_command (signal tech bytes tail) ≡ Some c → T5Spelling c (signal tech bytes tail)
 frame_told A bytes tail c small e = cc
+frame_told F bytes tail c small e = cc
 frame_told V bytes tail c small e = whole_told bytes tail (tail == 0) refl c small e
 
 -- what stands behind an identifier is read as it is without one

@@ -3,7 +3,7 @@
 use Rattle.std.specs.Prelude.{ℕ, ◌+◌, ◌*◌, List, [], ◌∷◌, length, take, drop, Bool, true, false, ◌==◌, ◌&&◌, not, nat_eq, nat_le, if◌then◌else◌, Option, Some, None}
 use Rattle.std.specs.Cmp.Lexicographic.{pointwise}
 use Rattle.nfc_base.specs.declared.frame.Tech.{Tech}
-use Rattle.nfc_base.specs.declared.frame.Tech.TheVariants.{A, V}
+use Rattle.nfc_base.specs.declared.frame.Tech.TheVariants.{A, V, F}
 use Rattle.nfc_base.specs.Signal.{Signal}
 use Rattle.nfc_base.specs.Blocks.{with_block, block_of}
 use Rattle.t5t_tag.specs.declared.answer.T5Answer.{T5Answer}
@@ -177,6 +177,7 @@ bytes_turn t (flags ∷ rest) = flagged_turn (out_of_round t) flags rest
 abbrev pub is_nfc_v : Tech → Bool
 is_nfc_v A = false
 is_nfc_v V = true
+is_nfc_v F = false
 
 -- the step of the tag
 abbrev pub t5_turn : T5State → Signal → T5Turn

@@ -4,7 +4,7 @@ use Rattle.std.specs.Prelude.{◌⊎◌, ◌==◌, true, false}
 use Rattle.std.proofs.lemmas.Bool.{cases_Bool}
 use Rattle.nfc_base.specs.Signal.{Signal}
 use Rattle.nfc_base.specs.declared.frame.Tech.{Tech}
-use Rattle.nfc_base.specs.declared.frame.Tech.TheVariants.{A, V}
+use Rattle.nfc_base.specs.declared.frame.Tech.TheVariants.{A, V, F}
 
 -- the same, or not
 abbrev pub IsSameOrNot : {X : Type 0} → X → X → Type 0
@@ -33,6 +33,11 @@ technologies A A = inl refl
 technologies V V = inl refl
 technologies A V = inr (λ e. cc)
 technologies V A = inr (λ e. cc)
+technologies F F = inl refl
+technologies A F = inr (λ e. cc)
+technologies V F = inr (λ e. cc)
+technologies F A = inr (λ e. cc)
+technologies F V = inr (λ e. cc)
 
 pub signals : (x y : Signal) → IsSameOrNot x y
 signals x y = elim (technologies x.tech y.tech) [
