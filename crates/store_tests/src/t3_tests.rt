@@ -1,6 +1,7 @@
 //! What Type 3 tags answer frame by frame, which stores they have, and their grammar.
 
 use arrayvec::ArrayVec;
+use nfc_base::{Frame, Tech};
 use std::alloc::Global;
 use std::process::Abort;
 use std::test::Fail;
@@ -36,10 +37,15 @@ fn addressed(code: u8, rest: &[u8]) -> Result<ArrayVec<u8, 255>, Fail> {
     Ok(bytes)
 }
 
-/// Whether an answer has these bytes; where there are none, whether the tag is silent.
-fn is_answer(told: &Option<T3Answer>, bytes: &[u8]) -> bool {
+/// A whole NFC-F frame of these bytes.
+fn frame(bytes: &[u8]) -> Result<Frame, Fail> {
+    Ok(Frame::whole(Tech::F, bytes)?)
+}
+
+/// Whether an answer is a whole NFC-F frame of these bytes; where there are none, whether the tag is silent.
+fn is_answer(told: &Option<Frame>, bytes: &[u8]) -> bool {
     match told {
-        Some(answer) => answer.to_bytes().as_slice() == bytes,
+        Some(answer) => answer.tech() == Tech::F && answer.tail() == 0 && answer.view() == bytes,
         None => bytes.is_empty(),
     }
 }
@@ -50,7 +56,7 @@ type Row<'a> = (u8, &'a [u8], &'a [u8]);
 /// A tag answers commands for it so.
 fn obeys(rt: &impl Abort, tag: &mut T3Tag, rows: &[Row]) -> Result<(), Fail> {
     for (code, rest, answer) in rows {
-        let told = tag.obey(&addressed(*code, rest)?);
+        let told = tag.obey(&frame(&addressed(*code, rest)?)?);
         let mut bytes: ArrayVec<u8, 255> = ArrayVec::new();
         if !answer.is_empty() {
             bytes = addressed(code.saturating_add(1), answer)?;
@@ -109,9 +115,9 @@ const CHECKS: [Row; 20] = [
 fn obeys_checks(rt: HostRuntime) -> Result<(), Fail> {
     let mut tag = tag(rt.alloc(), 14, &ATTRIBUTES)?;
     obeys(&rt, &mut tag, &CHECKS)?;
-    let told = tag.obey(&addressed(6, &FIFTEEN)?);
+    let told = tag.obey(&frame(&addressed(6, &FIFTEEN)?)?);
     let size = match told {
-        Some(answer) => answer.to_bytes().len(),
+        Some(answer) => answer.view().len(),
         None => 0,
     };
     assert_eq!(rt; size, 253);
@@ -288,10 +294,28 @@ const FRAMES: [(&[u8], &[u8]); 20] = [
 fn hears_frames_by_their_length(rt: HostRuntime) -> Result<(), Fail> {
     let mut tag = tag(rt.alloc(), 14, &ATTRIBUTES)?;
     for (request, answer) in FRAMES {
-        let told = tag.obey(request);
+        let told = tag.obey(&frame(request)?);
         assert!(rt; is_answer(&told, answer), "at {request:?}: {told:?}");
     }
     assert!(rt; tag.store().starts_with(&ENDS[16..]));
+    Ok(())
+}
+
+/// A poll and a Check in another technology or with a tail, and an Update too, tell nothing and change nothing.
+#[test]
+fn hears_whole_frames_of_nfc_f_alone(rt: HostRuntime) -> Result<(), Fail> {
+    let check = addressed(6, &[1, 0x0B, 0, 1, 0x80, 0])?;
+    let mut tag = tag(rt.alloc(), 14, &ATTRIBUTES)?;
+    for bytes in [&POLLED[..0], &[6, 0, 0x12, 0xFC, 0, 0], &check, &BEGINS] {
+        for (tech, tail) in [(Tech::A, 0), (Tech::V, 0), (Tech::F, 7)] {
+            let Ok(other) = Frame::part(tech, bytes, tail) else {
+                continue;
+            };
+            assert_eq!(rt; tag.obey(&other), None, "at {tech:?} {tail} {bytes:?}");
+            assert_eq!(rt; T3Command::read_from(&other), None, "at {tech:?} {tail}");
+        }
+    }
+    assert!(rt; tag.store().starts_with(&ATTRIBUTES));
     Ok(())
 }
 
@@ -353,8 +377,8 @@ fn an_update_of_block_0_may_leave_no_store_of_a_tag(rt: HostRuntime) -> Result<(
             content: *attributes,
         };
         assert_eq!(rt;
-            tag.obey(&update.to_bytes()),
-            Some(T3Answer::Done { id: ID })
+            tag.obey(&update.to_frame()),
+            Some(T3Answer::Done { id: ID }.to_frame())
         );
         let store = tag.store().to_vec(rt.alloc())?;
         assert_eq!(rt; T3Tag::new(ID, store).is_ok(), taken, "at {attributes:?}");
@@ -367,17 +391,19 @@ fn an_update_of_block_0_may_leave_no_store_of_a_tag(rt: HostRuntime) -> Result<(
 fn has_as_many_blocks_as_its_store(rt: HostRuntime) -> Result<(), Fail> {
     for (blocks, last, is_next) in [(1usize, 0u8, true), (2, 1, true), (256, 255, false)] {
         let mut tag = T3Tag::new(ID, vec![in rt.alloc(); 0u8; 16 * blocks]?)?;
-        let told = tag.obey(&addressed(6, &[1, 0x0B, 0, 1, 0x80, last])?);
+        let request = addressed(6, &[1, 0x0B, 0, 1, 0x80, last])?;
+        let told = tag.obey(&frame(&request)?);
         assert!(rt;
-            matches!(told, Some(T3Answer::Content { .. })),
+            told.is_some_and(|answer| answer.view().len() == 29),
             "at {blocks}"
         );
-        let next = tag.obey(&addressed(6, &[1, 0x0B, 0, 1, 0x80, last.saturating_add(1)])?);
+        let request = addressed(6, &[1, 0x0B, 0, 1, 0x80, last.saturating_add(1)])?;
+        let next = tag.obey(&frame(&request)?);
         let refused = T3Answer::CheckRefused {
             id: ID,
             status: 0xFF02,
         };
-        assert_eq!(rt; next == Some(refused), is_next, "at {blocks}");
+        assert_eq!(rt; next == Some(refused.to_frame()), is_next, "at {blocks}");
     }
     Ok(())
 }
@@ -430,15 +456,16 @@ const SPELLED: [(&[u8], bool, bool); 17] = [
 #[test]
 fn reads_what_is_spelled_and_spells_it_again(rt: HostRuntime) -> Result<(), Fail> {
     for (bytes, is_command, is_answer) in SPELLED {
-        let command = T3Command::read_from(bytes);
+        let spelled = frame(bytes)?;
+        let command = T3Command::read_from(&spelled);
         assert_eq!(rt; command.is_some(), is_command, "at {bytes:?}");
         if let Some(command) = command {
-            assert!(rt; command.to_bytes().as_slice() == bytes, "at {bytes:?}");
+            assert!(rt; command.to_frame() == spelled, "at {bytes:?}");
         }
-        let answer = T3Answer::read_from(bytes);
+        let answer = T3Answer::read_from(&spelled);
         assert_eq!(rt; answer.is_some(), is_answer, "at {bytes:?}");
         if let Some(answer) = answer {
-            assert!(rt; answer.to_bytes().as_slice() == bytes, "at {bytes:?}");
+            assert!(rt; answer.to_frame() == spelled, "at {bytes:?}");
         }
     }
     Ok(())

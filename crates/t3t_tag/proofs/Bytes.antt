@@ -4,7 +4,10 @@ use Rattle.std.specs.Cmp.Lexicographic.{pointwise}
 use Rattle.std.proofs.lemmas.List.{get_or-drop, length-append, length-take-le, take-append-drop}
 use Rattle.std.proofs.Math.Seq.{take-append_seam, drop-append_seam}
 use Rattle.t3t_tag.specs.Store.{id_size}
-use Rattle.t3t_tag.specs.Spelling.{two_bytes, pair}
+use Rattle.nfc_base.specs.declared.frame.Tech.{Tech}
+use Rattle.nfc_base.specs.declared.frame.Tech.TheVariants.{A, V, F}
+use Rattle.nfc_base.specs.Signal.{Signal, signal, whole_f}
+use Rattle.t3t_tag.specs.Spelling.{two_bytes, pair, is_nfc_f, is_whole_f}
 use Rattle.t3t_tag.specs.Reading.{behind_id}
 
 pub equal_of : (m n : ℕ) → (m == n) ≡ true → m ≡ n
@@ -39,6 +42,18 @@ left_of false b h = h
 pub right_of : (a b : Bool) → (a && b) ≡ true → b ≡ true
 right_of true b h = h
 right_of false b h = absurd cc
+
+of_nfc_f : (t : Tech) → is_nfc_f t ≡ true → t ≡ F
+of_nfc_f A h = absurd cc
+of_nfc_f V h = absurd cc
+of_nfc_f F h = refl
+
+-- a whole NFC-F frame is that of its bytes
+pub whole_frame : (f : Signal) (bytes : List ℕ) → is_whole_f f ≡ true → f.bytes ≡ bytes → f ≡ whole_f bytes
+whole_frame f bytes h b =
+    ap (λ x. signal x f.bytes f.tail) (of_nfc_f f.tech (left_of (is_nfc_f f.tech) (f.tail == 0) h))
+    ∙ ap (λ n. signal F f.bytes n) (equal_of f.tail 0 (right_of (is_nfc_f f.tech) (f.tail == 0) h))
+    ∙ ap whole_f b
 
 pub both_of : (a b : Bool) → a ≡ true → b ≡ true → (a && b) ≡ true
 both_of true b h k = k

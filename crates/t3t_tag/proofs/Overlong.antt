@@ -1,6 +1,7 @@
 -- Which frame leaves a store that no new tag has.
 use Rattle.std.proofs.Common.{◌≡◌, ℕ, zero, suc, ◌/◌, ◌<◌, List, length, Bool, true, false, nat_le, ◌&&◌, ◌↔◌, refl, sym, ap, subst}
 use Rattle.nfc_base.specs.Blocks.{with_block}
+use Rattle.nfc_base.specs.Signal.{Signal, whole_f}
 use Rattle.t3t_tag.specs.Attributes.{is_summed, message_blocks}
 use Rattle.t3t_tag.specs.Store.{T3State, IsT3Store, IsOverlong, block_size, id_size, block_count, attributes, most_message_blocks}
 use Rattle.t3t_tag.specs.Step.{T3Turn, t3_turn, t3_after, SpoilsStore}
@@ -50,9 +51,9 @@ changed_store t block content is within size fits =
     }
 
 -- an Update after which the store isn't one
-ruined : (t : T3State) (bytes : List ℕ) → IsT3Store t.store → (block : ℕ) (content : List ℕ) → IsUpdate t bytes block content
-    → (IsT3Store (with_block block_size t.store block content) → ⊥) → SpoilsStore t bytes
-ruined t bytes is zero content u none = record {
+ruined : (t : T3State) (f : Signal) → IsT3Store t.store → (block : ℕ) (content : List ℕ) → IsUpdate t f block content
+    → (IsT3Store (with_block block_size t.store block content) → ⊥) → SpoilsStore t f
+ruined t f is zero content u none = record {
   content = content;
   frame = u.frame;
   size = u.size;
@@ -60,28 +61,28 @@ ruined t bytes is zero content u none = record {
   overlong = overlong_of (block_count t.store) content (λ fits. none (changed_store t 0 content is u.within u.size
       (λ over. fits (subst (λ x. IsOverlong (block_count t.store) x) (attributes_changed t.store content u.size) over))));
 }
-ruined t bytes is (suc block) content u none =
+ruined t f is (suc block) content u none =
     absurd (none (changed_store t (suc block) content is u.within u.size
     (λ over. is.room (subst (λ x. IsOverlong (block_count t.store) x) (attributes_kept t.store block content u.within) over))))
 
-ruins : (t : T3State) (bytes : List ℕ) → length t.id ≡ id_size → IsT3Store t.store → SpoilsStore t bytes → IsT3Store (t3_after t bytes).store → ⊥
-ruins t bytes size is u after =
+ruins : (t : T3State) (f : Signal) → length t.id ≡ id_size → IsT3Store t.store → SpoilsStore t f → IsT3Store (t3_after t f).store → ⊥
+ruins t f size is u after =
     let within : 0 < block_count t.store = is.blocks.least in
-    let turn : t3_turn t bytes ≡ writes t 0 u.content = update_writes t size bytes 0 u.content (record { frame = u.frame; within = within; size = u.size; free = u.free }) in
+    let turn : t3_turn t f ≡ writes t 0 u.content = update_writes t size f 0 u.content (record { frame = u.frame; within = within; size = u.size; free = u.free }) in
     let changed : IsT3Store (with_block block_size t.store 0 u.content) = subst (λ (r : T3Turn). IsT3Store r.after.store) turn after in
     let count : block_count (with_block block_size t.store 0 u.content) ≡ block_count t.store = ap (λ n. n / 16) (length_with_block t.store 0 u.content within u.size) in
     changed.room (subst (λ n. IsOverlong n (attributes (with_block block_size t.store 0 u.content))) (sym count)
     (subst (λ x. IsOverlong (block_count t.store) x) (sym (attributes_changed t.store u.content u.size)) u.overlong))
 
-pub store_ruined : (t : T3State) (bytes : List ℕ) → length t.id ≡ id_size → AreBytes bytes → IsT3Store t.store → (IsT3Store (t3_after t bytes).store → ⊥) ↔ SpoilsStore t bytes
-store_ruined t bytes size small is = (
-  on_turn t bytes (λ r. (IsT3Store r.after.store → ⊥) → SpoilsStore t bytes) small (record {
+pub store_ruined : (t : T3State) (f : Signal) → length t.id ≡ id_size → AreBytes f.bytes → IsT3Store t.store → (IsT3Store (t3_after t f).store → ⊥) ↔ SpoilsStore t f
+store_ruined t f size small is = (
+  on_turn t f (λ r. (IsT3Store r.after.store → ⊥) → SpoilsStore t f) small (record {
     none = λ none. absurd (none is);
     polled = λ none. absurd (none is);
     refused_check = λ status h none. absurd (none is);
     content = λ blocks least most there none. absurd (none is);
     refused_update = λ status h none. absurd (none is);
-    written = λ block content u none. ruined t bytes is block content u none;
+    written = λ block content u none. ruined t f is block content u none;
   }),
-  (λ u after. ruins t bytes size is u after),
+  (λ u after. ruins t f size is u after),
 )

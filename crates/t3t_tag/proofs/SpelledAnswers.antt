@@ -1,23 +1,29 @@
--- What is read from bytes is exactly the answer that they spell.
-use Rattle.std.proofs.Common.{◌≡◌, ℕ, suc, ◌*◌, ◌/◌, ◌%◌, ◌≤◌, List, [], ◌∷◌, ◌++◌, length, replicate, true, nat_eq, nat_le, ◌==◌, ◌&&◌, if◌then◌else◌, Option, Some, None, IsNone, ◌↔◌, sym, ◌∙◌, ap, subst, arith}
+-- What is read from a frame is exactly the answer that it spells.
+use Rattle.std.proofs.Common.{◌≡◌, ℕ, suc, ◌*◌, ◌/◌, ◌%◌, ◌≤◌, List, [], ◌∷◌, ◌++◌, length, replicate, true, nat_eq, nat_le, ◌==◌, ◌&&◌, if◌then◌else◌, Option, Some, None, ◌↔◌, sym, ◌∙◌, ap, subst, arith}
+use Rattle.nfc_base.specs.Signal.{Signal}
 use Rattle.std.specs.Cmp.Lexicographic.{pointwise}
 use Rattle.t3t_tag.specs.declared.answer.T3Answer.{T3Answer}
 use Rattle.t3t_tag.specs.declared.answer.T3Answer.TheVariants.{Polled, Content, Done, CheckRefused, UpdateRefused}
 use Rattle.t3t_tag.specs.Store.{block_size, id_size}
-use Rattle.t3t_tag.specs.Spelling.{polled_code, checked_code, updated_code, most_elements, two_bytes, pair, framed, done, pad_size, answer_bytes, IsContent, IsT3Answer, T3AnswerSpelling}
-use Rattle.t3t_tag.specs.Reading.{is_element_count, is_content, read_polled, read_checked, read_updated, behind_id, read_reply, answer_of}
-use Rattle.t3t_tag.proofs.Bytes.{equal_of, is_equal, other_of, is_other, same_number, at_most, left_of, right_of, both_of, equal_bytes, by_if, none_by, AreBytes, two_bytes_of, pair_of, behind_told, behind_reads}
+use Rattle.t3t_tag.specs.Spelling.{polled_code, checked_code, updated_code, most_elements, two_bytes, pair, framed, done, pad_size, answer_bytes, IsContent, IsT3Answer, is_whole_f, T3AnswerSpelling}
+use Rattle.t3t_tag.specs.Reading.{is_element_count, is_content, read_polled, read_checked, read_updated, behind_id, read_reply, answer_of, spelled_answer}
+use Rattle.t3t_tag.proofs.Bytes.{equal_of, is_equal, other_of, is_other, same_number, whole_frame, at_most, left_of, right_of, both_of, equal_bytes, by_if, AreBytes, two_bytes_of, pair_of, behind_told, behind_reads}
 use Rattle.t3t_tag.proofs.Elements.{count_in_range}
 
-told : (v a : T3Answer) (bytes : List ℕ) → T3AnswerSpelling v bytes → Some v ≡ Some a → T3AnswerSpelling a bytes
+-- these bytes spell it
+pub record AreSpelled (a : T3Answer) (bytes : List ℕ) : Type 0 where
+  pub range : IsT3Answer a
+  pub frame : bytes ≡ answer_bytes a
+
+told : (v a : T3Answer) (bytes : List ℕ) → AreSpelled v bytes → Some v ≡ Some a → AreSpelled a bytes
 told v a bytes is e =
-    let P : T3Answer → Type 0 = λ x. T3AnswerSpelling x bytes in
+    let P : T3Answer → Type 0 = λ x. AreSpelled x bytes in
     subst P (let d : v ≡ a = cc in d) is
 
-polled_told : (id behind : List ℕ) (a : T3Answer) → length id ≡ id_size → read_polled id behind ≡ Some a → T3AnswerSpelling a (framed (polled_code ∷ (id ++ behind)))
+polled_told : (id behind : List ℕ) (a : T3Answer) → length id ≡ id_size → read_polled id behind ≡ Some a → AreSpelled a (framed (polled_code ∷ (id ++ behind)))
 polled_told id behind a size =
     let bytes : List ℕ = framed (polled_code ∷ (id ++ behind)) in
-    by_if (pointwise nat_eq behind (replicate pad_size 0)) (Some (Polled id)) None a (T3AnswerSpelling a bytes)
+    by_if (pointwise nat_eq behind (replicate pad_size 0)) (Some (Polled id)) None a (AreSpelled a bytes)
     (λ h e. told (Polled id) a bytes (record {
       range = size;
       frame = ap (λ t. framed (polled_code ∷ (id ++ t))) (equal_bytes behind (replicate pad_size 0) h);
@@ -40,12 +46,12 @@ content_told count content h =
       number = omega (arith, sized);
     }
 
-checked_told : (id behind : List ℕ) (a : T3Answer) → length id ≡ id_size → AreBytes behind → read_checked id behind ≡ Some a → T3AnswerSpelling a (framed (checked_code ∷ (id ++ behind)))
+checked_told : (id behind : List ℕ) (a : T3Answer) → length id ≡ id_size → AreBytes behind → read_checked id behind ≡ Some a → AreSpelled a (framed (checked_code ∷ (id ++ behind)))
 checked_told id [] a size small e = cc
 checked_told id (high ∷ []) a size small e = cc
 checked_told id (high ∷ low ∷ []) a size small e =
     let bytes : List ℕ = framed (checked_code ∷ (id ++ high ∷ low ∷ [])) in
-    by_if (pair high low == done) None (Some (CheckRefused id (pair high low))) a (T3AnswerSpelling a bytes)
+    by_if (pair high low == done) None (Some (CheckRefused id (pair high low))) a (AreSpelled a bytes)
     (λ h e. cc)
     (λ h e. told (CheckRefused id (pair high low)) a bytes (record {
       range = (size, other_of (pair high low) done h);
@@ -53,7 +59,7 @@ checked_told id (high ∷ low ∷ []) a size small e =
     }) e) e
 checked_told id (high ∷ low ∷ count ∷ content) a size small e =
     let bytes : List ℕ = framed (checked_code ∷ (id ++ high ∷ low ∷ count ∷ content)) in
-    by_if ((pair high low == done) && is_content count content) (Some (Content id (record { items = content }))) None a (T3AnswerSpelling a bytes)
+    by_if ((pair high low == done) && is_content count content) (Some (Content id (record { items = content }))) None a (AreSpelled a bytes)
     (λ h e.
     let status : pair high low ≡ done = equal_of (pair high low) done (left_of (pair high low == done) (is_content count content) h) in
     let are : AreBlocks count content = content_told count content (right_of (pair high low == done) (is_content count content) h) in
@@ -66,13 +72,13 @@ checked_told id (high ∷ low ∷ count ∷ content) a size small e =
     }) e)
     (λ h e. cc) e
 
-updated_told : (id behind : List ℕ) (a : T3Answer) → length id ≡ id_size → AreBytes behind → read_updated id behind ≡ Some a → T3AnswerSpelling a (framed (updated_code ∷ (id ++ behind)))
+updated_told : (id behind : List ℕ) (a : T3Answer) → length id ≡ id_size → AreBytes behind → read_updated id behind ≡ Some a → AreSpelled a (framed (updated_code ∷ (id ++ behind)))
 updated_told id [] a size small e = cc
 updated_told id (high ∷ []) a size small e = cc
 updated_told id (high ∷ low ∷ []) a size small e =
     let bytes : List ℕ = framed (updated_code ∷ (id ++ high ∷ low ∷ [])) in
     let pairs : high ∷ low ∷ [] ≡ two_bytes (pair high low) = sym (two_bytes_of high low (small 1)) in
-    by_if (pair high low == done) (Some (Done id)) (Some (UpdateRefused id (pair high low))) a (T3AnswerSpelling a bytes)
+    by_if (pair high low == done) (Some (Done id)) (Some (UpdateRefused id (pair high low))) a (AreSpelled a bytes)
     (λ h e. told (Done id) a bytes (record {
       range = size;
       frame = ap (λ t. framed (updated_code ∷ (id ++ t))) (pairs ∙ ap two_bytes (equal_of (pair high low) done h));
@@ -84,31 +90,31 @@ updated_told id (high ∷ low ∷ []) a size small e =
 updated_told id (high ∷ low ∷ more ∷ rest) a size small e = cc
 
 -- the same behind another name of the code
-coded : (code n : ℕ) (rest : List ℕ) (a : T3Answer) → (code == n) ≡ true → T3AnswerSpelling a (framed (n ∷ rest)) → T3AnswerSpelling a (framed (code ∷ rest))
+coded : (code n : ℕ) (rest : List ℕ) (a : T3Answer) → (code == n) ≡ true → AreSpelled a (framed (n ∷ rest)) → AreSpelled a (framed (code ∷ rest))
 coded code n rest a h is =
-    let P : ℕ → Type 0 = λ m. T3AnswerSpelling a (framed (m ∷ rest)) in
+    let P : ℕ → Type 0 = λ m. AreSpelled a (framed (m ∷ rest)) in
     subst P (sym (equal_of code n h)) is
 
-reply_told : (bytes : List ℕ) (a : T3Answer) → AreBytes bytes → read_reply bytes ≡ Some a → T3AnswerSpelling a (framed bytes)
+reply_told : (bytes : List ℕ) (a : T3Answer) → AreBytes bytes → read_reply bytes ≡ Some a → AreSpelled a (framed bytes)
 reply_told [] a small e = cc
 reply_told (code ∷ rest) a small e =
     let behind : AreBytes rest = λ i. small (suc i) in
-    let G : Type 0 = T3AnswerSpelling a (framed (code ∷ rest)) in
+    let G : Type 0 = AreSpelled a (framed (code ∷ rest)) in
     let third : Option T3Answer = if code == updated_code then behind_id read_updated rest else None in
     by_if (code == polled_code) (behind_id read_polled rest) (if code == checked_code then behind_id read_checked rest else third) a G
-    (λ h e. coded code polled_code rest a h (behind_told read_polled rest a (λ t. T3AnswerSpelling a (framed (polled_code ∷ t))) behind (λ id t size small f. polled_told id t a size f) e))
+    (λ h e. coded code polled_code rest a h (behind_told read_polled rest a (λ t. AreSpelled a (framed (polled_code ∷ t))) behind (λ id t size small f. polled_told id t a size f) e))
     (λ g. by_if (code == checked_code) (behind_id read_checked rest) third a G
-    (λ h e. coded code checked_code rest a h (behind_told read_checked rest a (λ t. T3AnswerSpelling a (framed (checked_code ∷ t))) behind (λ id t size small f. checked_told id t a size small f) e))
+    (λ h e. coded code checked_code rest a h (behind_told read_checked rest a (λ t. AreSpelled a (framed (checked_code ∷ t))) behind (λ id t size small f. checked_told id t a size small f) e))
     (λ k. by_if (code == updated_code) (behind_id read_updated rest) None a G
-    (λ h e. coded code updated_code rest a h (behind_told read_updated rest a (λ t. T3AnswerSpelling a (framed (updated_code ∷ t))) behind (λ id t size small f. updated_told id t a size small f) e))
+    (λ h e. coded code updated_code rest a h (behind_told read_updated rest a (λ t. AreSpelled a (framed (updated_code ∷ t))) behind (λ id t size small f. updated_told id t a size small f) e))
     (λ h e. cc))) e
 
-bytes_told : (bytes : List ℕ) (a : T3Answer) → AreBytes bytes → answer_of bytes ≡ Some a → T3AnswerSpelling a bytes
+bytes_told : (bytes : List ℕ) (a : T3Answer) → AreBytes bytes → answer_of bytes ≡ Some a → AreSpelled a bytes
 bytes_told [] a small e = cc
 bytes_told (size ∷ rest) a small e =
-    by_if (size == suc (length rest)) (read_reply rest) None a (T3AnswerSpelling a (size ∷ rest))
+    by_if (size == suc (length rest)) (read_reply rest) None a (AreSpelled a (size ∷ rest))
     (λ h e.
-    let P : ℕ → Type 0 = λ n. T3AnswerSpelling a (n ∷ rest) in
+    let P : ℕ → Type 0 = λ n. AreSpelled a (n ∷ rest) in
     subst P (sym (equal_of size (suc (length rest)) h)) (reply_told rest a (λ i. small (suc i)) e))
     (λ h e. cc) e
 
@@ -148,19 +154,24 @@ answer_reads (UpdateRefused id status) is =
     ∙ ap (λ n. if n == done then Some (Done id) else Some (UpdateRefused id n)) (pair_of status)
     ∙ ap (λ v. if v then Some (Done id) else Some (UpdateRefused id status)) (is_other status done is.1)
 
--- what is read from bytes is exactly what they spell
-pub exact_answer : (bytes : List ℕ) (o : Option T3Answer) → AreBytes bytes → o ≡ answer_of bytes → (a : T3Answer) → (o ≡ Some a) ↔ T3AnswerSpelling a bytes
-exact_answer bytes o small is a = (
-  (λ e. bytes_told bytes a small (sym is ∙ e)),
-  (λ s. is ∙ ap answer_of s.frame ∙ answer_reads a s.range),
+-- what is read from a frame is exactly what it spells
+frame_told : (f : Signal) (a : T3Answer) → AreBytes f.bytes → spelled_answer f ≡ Some a → T3AnswerSpelling a f
+frame_told f a small =
+    by_if (is_whole_f f) (answer_of f.bytes) None a (T3AnswerSpelling a f)
+    (λ h e.
+    let s : AreSpelled a f.bytes = bytes_told f.bytes a small e in
+    record { range = s.range; frame = whole_frame f (answer_bytes a) h s.frame })
+    (λ h e. cc)
+
+pub exact_answer : (f : Signal) (o : Option T3Answer) → AreBytes f.bytes → o ≡ spelled_answer f → (a : T3Answer) → (o ≡ Some a) ↔ T3AnswerSpelling a f
+exact_answer f o small is a = (
+  (λ e. frame_told f a small (sym is ∙ e)),
+  (λ s. is ∙ ap spelled_answer s.frame ∙ answer_reads a s.range),
 )
 
-pub no_answer : (bytes : List ℕ) (o : Option T3Answer) → AreBytes bytes → o ≡ answer_of bytes → IsNone o ↔ ((a : T3Answer) → ¬ T3AnswerSpelling a bytes)
-no_answer bytes o small is = none_by (λ a. T3AnswerSpelling a bytes) o (exact_answer bytes o small is)
-
--- no bytes spell two answers
-pub one_answer : (bytes : List ℕ) (a b : T3Answer) → T3AnswerSpelling a bytes → T3AnswerSpelling b bytes → a ≡ b
-one_answer bytes a b p q =
-    let c : answer_of bytes ≡ Some a = ap answer_of p.frame ∙ answer_reads a p.range in
-    let d : answer_of bytes ≡ Some b = ap answer_of q.frame ∙ answer_reads b q.range in
+-- no frame spells two
+pub one_answer : (f : Signal) (x y : T3Answer) → T3AnswerSpelling x f → T3AnswerSpelling y f → x ≡ y
+one_answer f x y p q =
+    let a : spelled_answer f ≡ Some x = ap spelled_answer p.frame ∙ answer_reads x p.range in
+    let b : spelled_answer f ≡ Some y = ap spelled_answer q.frame ∙ answer_reads y q.range in
     cc

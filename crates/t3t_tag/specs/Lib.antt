@@ -4,3 +4,4 @@ pub mod Form
 pub mod Spelling
 pub mod Reading
 pub mod Step
+pub mod Linked

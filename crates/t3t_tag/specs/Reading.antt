@@ -1,13 +1,14 @@
--- What bytes are read as, as a function: the command or the answer that they spell, where they spell one.
+-- What a frame is read as, as a function: the command or the answer that it spells, where it spells one.
 use Rattle.std.specs.Prelude.{ℕ, ◌*◌, List, [], ◌∷◌, length, take, drop, replicate, Bool, ◌==◌, ◌&&◌, nat_eq, nat_le, if◌then◌else◌, Option, Some, None}
 use Rattle.std.specs.Cmp.Lexicographic.{pointwise}
+use Rattle.nfc_base.specs.Signal.{Signal}
 use Rattle.arrayvec.specs.ArrayVec.{ArrayVec}
 use Rattle.t3t_tag.specs.declared.command.T3Command.{T3Command}
 use Rattle.t3t_tag.specs.declared.command.T3Command.TheVariants.{Poll, Check, Update}
 use Rattle.t3t_tag.specs.declared.answer.T3Answer.{T3Answer}
 use Rattle.t3t_tag.specs.declared.answer.T3Answer.TheVariants.{Polled, Content, Done, CheckRefused, UpdateRefused}
 use Rattle.t3t_tag.specs.Store.{block_size, id_size}
-use Rattle.t3t_tag.specs.Spelling.{poll_code, polled_code, check_code, checked_code, update_code, updated_code, read_service, write_service, element_code, most_elements, pair, done, pad_size}
+use Rattle.t3t_tag.specs.Spelling.{poll_code, polled_code, check_code, checked_code, update_code, updated_code, read_service, write_service, element_code, most_elements, pair, done, pad_size, is_whole_f}
 
 -- one block more in front, where there are some
 abbrev pub with_block_number : ℕ → Option (List ℕ) → Option (List ℕ)
@@ -66,6 +67,9 @@ abbrev pub command_of : List ℕ → Option T3Command
 command_of [] = None
 command_of (size ∷ rest) = if size == length (size ∷ rest) then read_request rest else None
 
+abbrev pub spelled_command : Signal → Option T3Command
+spelled_command f = if is_whole_f f then command_of f.bytes else None
+
 -- behind the identifier, as many bytes as there are, each 0
 abbrev pub read_polled : List ℕ → List ℕ → Option T3Answer
 read_polled id rest = if pointwise nat_eq rest (replicate pad_size 0) then Some (Polled id) else None
@@ -94,6 +98,9 @@ read_reply (code ∷ rest) =
 abbrev pub answer_of : List ℕ → Option T3Answer
 answer_of [] = None
 answer_of (size ∷ rest) = if size == length (size ∷ rest) then read_reply rest else None
+
+abbrev pub spelled_answer : Signal → Option T3Answer
+spelled_answer f = if is_whole_f f then answer_of f.bytes else None
 
 -- the same, as the list that a function gives
 abbrev pub found_blocks : Option (List ℕ) → Option (ArrayVec ℕ)

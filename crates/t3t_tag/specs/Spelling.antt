@@ -1,5 +1,8 @@
 -- How the commands of a reader and the answers of a tag stand in frames (NFC Forum Type 3 Tag; JIS X 6319-4).
-use Rattle.std.specs.Prelude.{◌≡◌, ◌≢◌, ℕ, suc, ◌+◌, ◌*◌, ◌/◌, ◌%◌, ◌≤◌, List, [], ◌∷◌, ◌++◌, length, replicate}
+use Rattle.std.specs.Prelude.{◌≡◌, ◌≢◌, ℕ, suc, ◌+◌, ◌*◌, ◌/◌, ◌%◌, ◌≤◌, List, [], ◌∷◌, ◌++◌, length, replicate, Bool, true, false, ◌==◌, ◌&&◌}
+use Rattle.nfc_base.specs.declared.frame.Tech.{Tech}
+use Rattle.nfc_base.specs.declared.frame.Tech.TheVariants.{A, V, F}
+use Rattle.nfc_base.specs.Signal.{Signal, whole_f}
 use Rattle.t3t_tag.specs.declared.command.T3Command.{T3Command}
 use Rattle.t3t_tag.specs.declared.command.T3Command.TheVariants.{Poll, Check, Update}
 use Rattle.t3t_tag.specs.declared.answer.T3Answer.{T3Answer}
@@ -67,16 +70,28 @@ command_bytes (Poll system request slots) = framed (poll_code ∷ (two_bytes sys
 command_bytes (Check id blocks) = framed (check_code ∷ (id ++ (asked_of read_service (length blocks.items) ++ elements blocks.items)))
 command_bytes (Update id block content) = framed (update_code ∷ (id ++ (asked_of write_service 1 ++ (elements (block ∷ []) ++ content))))
 
+abbrev pub command_frame : T3Command → Signal
+command_frame c = whole_f (command_bytes c)
+
+-- a frame is NFC-F, and of whole bytes
+abbrev pub is_nfc_f : Tech → Bool
+is_nfc_f A = false
+is_nfc_f V = false
+is_nfc_f F = true
+
+abbrev pub is_whole_f : Signal → Bool
+is_whole_f f = is_nfc_f f.tech && (f.tail == 0)
+
 -- which commands are in range
 abbrev pub IsT3Command : T3Command → Type 0
 IsT3Command (Poll system request slots) = Unit {0}
 IsT3Command (Check id blocks) = (length id ≡ id_size) × (1 ≤ length blocks.items) × (length blocks.items ≤ most_elements)
 IsT3Command (Update id block content) = (length id ≡ id_size) × (length content ≡ block_size)
 
--- the bytes spell the command
-pub record T3Spelling (c : T3Command) (bytes : List ℕ) : Type 0 where
+-- the frame spells the command
+pub record T3Spelling (c : T3Command) (f : Signal) : Type 0 where
   pub range : IsT3Command c
-  pub frame : bytes ≡ command_bytes c
+  pub frame : f ≡ command_frame c
 
 -- Two bytes tell what became of a Check or an Update; both 0 where it succeeded.
 abbrev pub done : ℕ
@@ -93,6 +108,9 @@ answer_bytes (Done id) = framed (updated_code ∷ (id ++ two_bytes done))
 answer_bytes (CheckRefused id status) = framed (checked_code ∷ (id ++ two_bytes status))
 answer_bytes (UpdateRefused id status) = framed (updated_code ∷ (id ++ two_bytes status))
 
+abbrev pub answer_frame : T3Answer → Signal
+answer_frame a = whole_f (answer_bytes a)
+
 -- 1 to 15 whole blocks
 pub record IsContent (content : List ℕ) : Type 0 where
   pub whole : length content % block_size ≡ 0
@@ -107,7 +125,7 @@ IsT3Answer (Done id) = length id ≡ id_size
 IsT3Answer (CheckRefused id status) = (length id ≡ id_size) × (status ≢ done)
 IsT3Answer (UpdateRefused id status) = (length id ≡ id_size) × (status ≢ done)
 
--- the bytes spell the answer
-pub record T3AnswerSpelling (a : T3Answer) (bytes : List ℕ) : Type 0 where
+-- the frame spells the answer
+pub record T3AnswerSpelling (a : T3Answer) (f : Signal) : Type 0 where
   pub range : IsT3Answer a
-  pub frame : bytes ≡ answer_bytes a
+  pub frame : f ≡ answer_frame a

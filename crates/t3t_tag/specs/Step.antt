@@ -1,13 +1,14 @@
--- The step of a Type 3 tag on the bytes of a frame (NFC Forum Type 3 Tag; JIS X 6319-4). Which status a tag tells for
+-- The step of a Type 3 tag on a frame (NFC Forum Type 3 Tag; JIS X 6319-4). Which status a tag tells for
 -- which condition, that block elements have two bytes and that one Update changes one block is this project's own.
 use Rattle.std.specs.Prelude.{◌≡◌, ◌≢◌, ℕ, ◌*◌, List, [], ◌∷◌, length, take, drop, ◌++◌, Bool, true, false, ◌==◌, ◌&&◌, ◌||◌, not, nat_eq, nat_le, nat_lt, if◌then◌else◌, Option, Some, None}
 use Rattle.std.specs.Cmp.Lexicographic.{pointwise}
+use Rattle.nfc_base.specs.Signal.{Signal, whole_f}
 use Rattle.nfc_base.specs.Blocks.{block_of}
 use Rattle.t3t_tag.specs.declared.answer.T3Answer.{T3Answer}
 use Rattle.t3t_tag.specs.declared.answer.T3Answer.TheVariants.{Polled, Content, Done, CheckRefused, UpdateRefused}
 use Rattle.t3t_tag.specs.declared.command.T3Command.TheVariants.{Update}
 use Rattle.t3t_tag.specs.Store.{T3State, IsOverlong, block_size, id_size, block_count, is_locked, rewritten}
-use Rattle.t3t_tag.specs.Spelling.{poll_code, check_code, update_code, read_service, write_service, element_code, pair, framed, command_bytes}
+use Rattle.t3t_tag.specs.Spelling.{poll_code, check_code, update_code, read_service, write_service, element_code, pair, framed, command_frame, answer_frame, is_whole_f}
 use Rattle.t3t_tag.specs.Reading.{blocks_asked}
 
 -- the statuses: of a service or elements that the tag doesn't take, of a block that isn't there, of a locked block
@@ -105,32 +106,41 @@ request_turn t (code ∷ rest) =
     else if code == update_code then update_turn t (drop id_size rest)
     else silent t
 
--- The step of the tag. A frame begins with its length, itself included.
-abbrev pub t3_turn : T3State → List ℕ → T3Turn
-t3_turn t [] = silent t
-t3_turn t (size ∷ rest) = if size == length (size ∷ rest) then request_turn t rest else silent t
+-- The bytes of a whole NFC-F frame. They begin with its length, itself included.
+abbrev pub bytes_turn : T3State → List ℕ → T3Turn
+bytes_turn t [] = silent t
+bytes_turn t (size ∷ rest) = if size == length (size ∷ rest) then request_turn t rest else silent t
 
-abbrev pub t3_answer : T3State → List ℕ → Option T3Answer
-t3_answer t bytes = (t3_turn t bytes).answer
+-- the step of the tag
+abbrev pub t3_turn : T3State → Signal → T3Turn
+t3_turn t f = if is_whole_f f then bytes_turn t f.bytes else silent t
 
-abbrev pub t3_after : T3State → List ℕ → T3State
-t3_after t bytes = (t3_turn t bytes).after
+-- the frame of an answer, where there is one
+abbrev pub sent : Option T3Answer → Option Signal
+sent None = None
+sent (Some a) = Some (answer_frame a)
 
--- The bytes are a frame for a tag of another identifier, which stands behind the code.
-pub record IsForAnother (t : T3State) (bytes : List ℕ) : Type 0 where
+abbrev pub t3_answer : T3State → Signal → Option Signal
+t3_answer t f = sent (t3_turn t f).answer
+
+abbrev pub t3_after : T3State → Signal → T3State
+t3_after t f = (t3_turn t f).after
+
+-- The frame is for a tag of another identifier, which stands behind the code.
+pub record IsForAnother (t : T3State) (f : Signal) : Type 0 where
   pub code : ℕ
   pub id : List ℕ
   pub rest : List ℕ
-  pub frame : bytes ≡ framed (code ∷ (id ++ rest))
+  pub frame : f ≡ whole_f (framed (code ∷ (id ++ rest)))
   pub command : code ≢ poll_code
   pub size : length id ≡ id_size
   pub other : id ≢ t.id
 
--- The bytes are an Update of a block 0 that isn't locked, by an attribute block that names more blocks than there are:
+-- The frame is an Update of a block 0 that isn't locked, by an attribute block that names more blocks than there are:
 -- the store is then none that a new tag has.
-pub record SpoilsStore (t : T3State) (bytes : List ℕ) : Type 0 where
+pub record SpoilsStore (t : T3State) (f : Signal) : Type 0 where
   pub content : List ℕ
-  pub frame : bytes ≡ command_bytes (Update t.id 0 content)
+  pub frame : f ≡ command_frame (Update t.id 0 content)
   pub size : length content ≡ block_size
   pub free : is_locked t 0 ≡ false
   pub overlong : IsOverlong (block_count t.store) content

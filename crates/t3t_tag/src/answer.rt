@@ -1,12 +1,13 @@
 //! What a Type 3 tag answers.
 
 ghost use Rattle.std.specs.Prelude.{◌≡◌, ◌↔◌, ◌≤◌, ◌∷◌, ◌++◌, length, Some, IsNone};
-ghost use Rattle.t3t_tag.specs.Spelling.{framed, answer_bytes, IsT3Answer, T3AnswerSpelling};
-ghost use Rattle.t3t_tag.specs.Reading.{read_polled, read_checked, read_updated, read_reply, answer_of, is_content};
+ghost use Rattle.t3t_tag.specs.Spelling.{framed, answer_bytes, answer_frame, IsT3Answer, T3AnswerSpelling};
+ghost use Rattle.t3t_tag.specs.Reading.{read_polled, read_checked, read_updated, read_reply, answer_of, spelled_answer, is_content};
 ghost use Rattle.t3t_tag.specs.declared.answer.T3Answer.{T3Answer};
 
 use crate::command::framed;
 use arrayvec::ArrayVec;
+use nfc_base::{Frame, Tech};
 
 /// The codes of the answers to a poll, a Check and an Update.
 const POLLED: u8 = 0x01;
@@ -49,23 +50,29 @@ pub enum T3Answer {
 }
 
 impl T3Answer {
-    /// The answer that the bytes of a frame spell. It takes no memory.
-    pub fn read_from(bytes: &[u8]) -> Option<T3Answer>
-        ensures exact { (a : T3Answer) → ((result ≡ Some a) ↔ T3AnswerSpelling a bytes.now) }
-        ensures none { IsNone result ↔ ((a : T3Answer) → ¬ T3AnswerSpelling a bytes.now) }
-        ensures reads { result ≡ answer_of bytes.now }
+    /// The answer that a frame spells. It takes no memory.
+    pub fn read_from(frame: &Frame) -> Option<T3Answer>
+        ensures exact { (a : T3Answer) → ((result ≡ Some a) ↔ T3AnswerSpelling a frame.now) }
+        ensures none { IsNone result ↔ ((a : T3Answer) → ¬ T3AnswerSpelling a frame.now) }
+        ensures reads { result ≡ spelled_answer frame.now }
     {
-        let (size, reply) = bytes.split_first()?;
-        if *size as usize != bytes.len() {
+        if frame.tech() != Tech::F || frame.tail() != 0 {
             return None;
         }
-        read_reply(reply)
+        read_bytes(frame.view())
     }
 
-    /// The bytes of the frame that spells it; content is whole blocks, and a refusal's status isn't 0. It takes no memory.
-    pub fn to_bytes(&self) -> ArrayVec<u8, 255>
-        ensures bytes { result.items ≡ answer_bytes self.now }
-        ensures exact { IsT3Answer self.now → T3AnswerSpelling self.now result.items }
+    /// The frame that spells it; content is whole blocks, and a refusal's status isn't 0. It takes no memory.
+    pub fn to_frame(&self) -> Frame
+        ensures frame { result ≡ answer_frame self.now }
+        ensures exact { IsT3Answer self.now → T3AnswerSpelling self.now result }
+    {
+        Frame::whole(Tech::F, &self.bytes()).unwrap()
+    }
+
+    /// The bytes of that frame.
+    fn bytes(&self) -> ArrayVec<u8, 255>
+        ensures { result.items ≡ answer_bytes self.now }
     {
         match self {
             T3Answer::Polled { id } => telling(POLLED, *id, &[0; 8]),
@@ -86,6 +93,17 @@ impl T3Answer {
             }
         }
     }
+}
+
+/// The answer of the bytes of a whole NFC-F frame.
+fn read_bytes(bytes: &[u8]) -> Option<T3Answer>
+    ensures { result ≡ answer_of bytes.now }
+{
+    let (size, reply) = bytes.split_first()?;
+    if *size as usize != bytes.len() {
+        return None;
+    }
+    read_reply(reply)
 }
 
 /// The answer of what stands behind the length.

@@ -12,8 +12,8 @@ const MESSAGE_BLOCKS: usize = 3;
 
 const SUM: usize = 14;
 
-/// The sum of some bytes.
-fn sum_of(bytes: &[u8]) -> u16
+/// The sum of some bytes, as that of the first fourteen of an attribute block.
+pub fn sum_of(bytes: &[u8]) -> u16
     requires { length bytes.now ≤ 14 }
     ensures { result ≡ sum bytes.now }
 {
@@ -33,7 +33,7 @@ fn word(bytes: &[u8], at: usize) -> u16
 }
 
 /// Whether the sum of an attribute block is right.
-pub(crate) fn is_summed(block: &[u8]) -> bool
+pub fn is_summed(block: &[u8]) -> bool
     requires { 16 ≤ length block.now }
     ensures { result ≡ is_summed block.now }
 {
@@ -41,7 +41,7 @@ pub(crate) fn is_summed(block: &[u8]) -> bool
 }
 
 /// How many blocks an attribute block names for the message.
-pub(crate) fn message_blocks(block: &[u8]) -> u16
+pub fn message_blocks(block: &[u8]) -> u16
     requires { 16 ≤ length block.now }
     ensures { result ≡ message_blocks block.now }
 {

@@ -1,11 +1,12 @@
 //! What a reader asks of a Type 3 tag.
 
 ghost use Rattle.std.specs.Prelude.{◌≡◌, ◌↔◌, ◌≤◌, ◌*◌, ◌∷◌, ◌++◌, length, Some, IsNone};
-ghost use Rattle.t3t_tag.specs.Spelling.{asked_of, framed, elements, command_bytes, IsT3Command, T3Spelling};
-ghost use Rattle.t3t_tag.specs.Reading.{blocks_asked, behind_id, read_check, read_update, read_request, command_of, found_blocks};
+ghost use Rattle.t3t_tag.specs.Spelling.{asked_of, framed, elements, command_bytes, command_frame, IsT3Command, T3Spelling};
+ghost use Rattle.t3t_tag.specs.Reading.{blocks_asked, behind_id, read_check, read_update, read_request, command_of, spelled_command, found_blocks};
 ghost use Rattle.t3t_tag.specs.declared.command.T3Command.{T3Command};
 
 use arrayvec::ArrayVec;
+use nfc_base::{Frame, Tech};
 
 /// The codes of the commands: SENSF_REQ, CHECK and UPDATE.
 pub(crate) const POLL: u8 = 0x00;
@@ -48,23 +49,29 @@ pub enum T3Command {
 }
 
 impl T3Command {
-    /// The command that the bytes of a frame spell. It takes no memory.
-    pub fn read_from(bytes: &[u8]) -> Option<T3Command>
-        ensures exact { (c : T3Command) → ((result ≡ Some c) ↔ T3Spelling c bytes.now) }
-        ensures none { IsNone result ↔ ((c : T3Command) → ¬ T3Spelling c bytes.now) }
-        ensures reads { result ≡ command_of bytes.now }
+    /// The command that a frame spells. It takes no memory.
+    pub fn read_from(frame: &Frame) -> Option<T3Command>
+        ensures exact { (c : T3Command) → ((result ≡ Some c) ↔ T3Spelling c frame.now) }
+        ensures none { IsNone result ↔ ((c : T3Command) → ¬ T3Spelling c frame.now) }
+        ensures reads { result ≡ spelled_command frame.now }
     {
-        let (size, request) = bytes.split_first()?;
-        if *size as usize != bytes.len() {
+        if frame.tech() != Tech::F || frame.tail() != 0 {
             return None;
         }
-        read_request(request)
+        read_bytes(frame.view())
     }
 
-    /// The bytes of the frame that spells it, where a Check names a block. It takes no memory.
-    pub fn to_bytes(&self) -> ArrayVec<u8, 255>
-        ensures bytes { result.items ≡ command_bytes self.now }
-        ensures exact { IsT3Command self.now → T3Spelling self.now result.items }
+    /// The frame that spells it, where a Check names a block. It takes no memory.
+    pub fn to_frame(&self) -> Frame
+        ensures frame { result ≡ command_frame self.now }
+        ensures exact { IsT3Command self.now → T3Spelling self.now result }
+    {
+        Frame::whole(Tech::F, &self.bytes()).unwrap()
+    }
+
+    /// The bytes of that frame.
+    fn bytes(&self) -> ArrayVec<u8, 255>
+        ensures { result.items ≡ command_bytes self.now }
     {
         match self {
             T3Command::Poll {
@@ -88,6 +95,17 @@ impl T3Command {
             }
         }
     }
+}
+
+/// The command of the bytes of a whole NFC-F frame.
+fn read_bytes(bytes: &[u8]) -> Option<T3Command>
+    ensures { result ≡ command_of bytes.now }
+{
+    let (size, request) = bytes.split_first()?;
+    if *size as usize != bytes.len() {
+        return None;
+    }
+    read_request(request)
 }
 
 /// The command of what stands behind the length.

@@ -1,15 +1,16 @@
 //! A Type 3 tag.
 
 ghost use Rattle.std.specs.Prelude.{◌≡◌, ◌<◌, ◌≤◌, ◌↔◌, ◌*◌, length, nat_lt, IfOk, IfSome, IsNone, IsOk, Some, true};
-ghost use Rattle.t3t_tag.specs.Spelling.{IsT3Answer};
+ghost use Rattle.t3t_tag.specs.Spelling.{T3AnswerSpelling};
+ghost use Rattle.t3t_tag.specs.declared.answer.T3Answer.{T3Answer};
 ghost use Rattle.t3t_tag.specs.Store.{IsT3Store, IsT3State, IsSameTag, block_count, unlocked, locked_too, store_fault_number};
-ghost use Rattle.t3t_tag.specs.Step.{are_there, content_of, poll_turn, checked_answer, check_answer, update_turn, written_turn, request_turn, t3_turn, t3_answer, t3_after, IsForAnother, SpoilsStore};
+ghost use Rattle.t3t_tag.specs.Step.{are_there, content_of, poll_turn, checked_answer, check_answer, update_turn, written_turn, request_turn, bytes_turn, t3_turn, t3_answer, t3_after, IsForAnother, SpoilsStore};
 
 use crate::answer::T3Answer;
 use crate::attributes::{is_summed, message_blocks};
 use crate::command::{CHECK, ELEMENT, POLL, READ_SERVICE, UPDATE, WRITE_SERVICE, blocks_asked};
 use arrayvec::ArrayVec;
-use nfc_base::Locks;
+use nfc_base::{Frame, Locks, Tech};
 use std::marker::Model;
 use thiserror::Error;
 
@@ -64,6 +65,7 @@ pub struct T3Tag {
 }
 
 impl Model for T3Tag {
+    ghost use Rattle.t3t_tag.specs.declared.answer.T3Answer.{T3Answer};
     ghost use Rattle.t3t_tag.specs.Store.{T3State, IsT3State};
 
     ghost Value = { T3State };
@@ -124,31 +126,43 @@ impl T3Tag {
         self.locks.add(block);
     }
 
-    /// One step on the bytes of a frame: it answers what is said to it, and is silent to every other frame. It takes no
-    /// memory.
-    pub fn obey(&mut self, request: &[u8]) -> Option<T3Answer>
+    /// One step: it answers what is said to it, and is silent to every other frame. It takes no memory.
+    pub fn obey(&mut self, request: &Frame) -> Option<Frame>
         ensures answer { result ≡ t3_answer self.old request.now }
         ensures step { self.new ≡ t3_after self.old request.now }
-        ensures range { IfSome result IsT3Answer }
+        ensures range { IfSome result (λ f. (a : T3Answer) × T3AnswerSpelling a f) }
         ensures same { IsSameTag self.old self.new }
         ensures other { IsForAnother self.old request.now → IsNone result × (self.new ≡ self.old) }
-        // the same bytes once more: the same answer, and nothing changes any more
+        // the same frame once more: the same answer, and nothing changes any more
         ensures again { t3_turn self.new request.now ≡ t3_turn self.old request.now }
         // one Update of block 0 leaves a store that no new tag has, and nothing else does
         ensures store { IsT3Store self.old.store → (¬ IsT3Store self.new.store ↔ SpoilsStore self.old request.now) }
     {
-        // the laws above are of a tag that can be, as its store says
+        // the laws above are of a tag that can be, as its store says, and of a frame that can be
         let _store = self.store();
+        let _bytes = request.view();
         self.hear_frame(request)
     }
 
-    /// The step on a frame, by its length.
-    fn hear_frame(&mut self, request: &[u8]) -> Option<T3Answer>
+    /// The step on a frame.
+    fn hear_frame(&mut self, request: &Frame) -> Option<Frame>
         ensures answer { result ≡ t3_answer self.old request.now }
         ensures step { self.new ≡ t3_after self.old request.now }
     {
-        let (size, said) = request.split_first()?;
-        if *size as usize != request.len() {
+        if request.tech() != Tech::F || request.tail() != 0 {
+            return None;
+        }
+        let answer = self.hear_bytes(request.view())?;
+        Some(answer.to_frame())
+    }
+
+    /// The step on the bytes of a whole NFC-F frame, by their length.
+    fn hear_bytes(&mut self, bytes: &[u8]) -> Option<T3Answer>
+        ensures answer { result ≡ (bytes_turn self.old bytes.now).answer }
+        ensures step { self.new ≡ (bytes_turn self.old bytes.now).after }
+    {
+        let (size, said) = bytes.split_first()?;
+        if *size as usize != bytes.len() {
             return None;
         }
         self.hear(said)

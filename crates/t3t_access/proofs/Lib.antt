@@ -1,0 +1,11 @@
+pub mod Talks
+pub mod Told
+pub mod Growing
+pub mod Judging
+pub mod OwnReading
+pub mod OwnLaw
+pub mod OwnAsked
+pub mod Doing
+pub mod Laying
+pub mod OwnWritten
+pub mod OwnPuts
