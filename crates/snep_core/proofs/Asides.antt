@@ -1,282 +1,335 @@
--- A client and a peer between two calls, as PDUs go from one to the other that are of no request: acknowledgements, and what waits in the
+-- A client and a peer between two calls, as PDUs go from one to the other that are of no request: acknowledgements, beside what waits in the
 -- queues of both.
-use Rattle.std.proofs.Common.{◌≡◌, ◌<◌, ◌≤◌, ◌⊎◌, ℕ, ◌+◌, ◌%◌, ◌==◌, true, false, List, [], ◌∷◌, length, Option, Some, None, IfSome, refl, sym, ◌∙◌, ap, subst, inl, inr, arith, if◌then◌else◌}
-use Rattle.std.proofs.lemmas.Bool.{eq-eqb}
-use Rattle.std.proofs.lemmas.Bool.Decides.{nat_tests}
-use Rattle.llcp_pdu.specs.declared.part.Part.TheVariants.{Rr}
-use Rattle.llcp_pdu.specs.General.{IsMiu}
-use Rattle.llcp_pdu.specs.Wire.{least_miu}
-use Rattle.llcp_conn.specs.Conn.{ConnState, IsSap, IsWindow, modulus}
-use Rattle.llcp_link.specs.State.{Bound, LlcState, Lookup, OwnState, Queued, own_from, with_own}
-use Rattle.llcp_link.specs.Asking.{is_there}
-use Rattle.llcp_link.specs.Names.{is_bound}
-use Rattle.llcp_link.specs.Opened.{opened}
-use Rattle.llcp_link.specs.Taking.{steps_part}
-use Rattle.llcp_link.specs.Giving.{Gave, acknowledges, acknowledges_open, acknowledges_own, first_of_all, gave, informs, informs_open, informs_own, or_else}
-use Rattle.llcp_link.proofs.Ranged.{either}
+use Rattle.std.proofs.Common.{◌≡◌, ◌<◌, ◌≤◌, ◌⊎◌, ℕ, ◌+◌, ◌==◌, Bool, true, false, List, [], ◌∷◌, length, Option, Some, None, IfSome, refl, sym, ◌∙◌, ap, subst, inl, inr, arith, append-nil}
+use Rattle.llcp_conn.specs.Conn.{ConnState, IsSap, first}
+use Rattle.llcp_link.specs.State.{Bound, Lookup, OwnState, Queued, conn_from, own_from, with_conn, with_own}
+use Rattle.llcp_link.specs.Asking.{is_there, unit_of}
+use Rattle.llcp_link.specs.Giving.{Gave, acknowledges, acknowledges_open, acknowledges_own, first_of_all, gave, gave_from, informs, informs_open, informs_own, or_else}
 use Rattle.snep_core.specs.declared.silent.NoService.{NoService}
-use Rattle.snep_core.specs.Accord.{Accords, AreOver, IsApart, IsFair, IsJoined, IsPaired, Numbers, PeerState, client_conn, client_open, server_conn, server_open}
-use Rattle.snep_core.specs.Server.{ServerState, serving, session_of}
-use Rattle.snep_core.specs.Session.{fresh_session, sent}
-use Rattle.snep_core.specs.Talk.{EndState, client_sap, emptied, emptied_by, server_sap, silent, units_of}
-use Rattle.snep_core.proofs.AtOneSap.{found_none}
+use Rattle.snep_core.specs.Accord.{Accords, IsApart, IsClientSap, IsJoined, IsOver, IsPaired, Numbers, PeerState, server_conn}
+use Rattle.snep_core.specs.Server.{Received, ServerState, serving, session_of}
+use Rattle.snep_core.specs.Session.{Offer, fresh_session, sent}
+use Rattle.snep_core.specs.Talk.{EndState, client_sap, emptied, own_of, silent, units_of}
+use Rattle.snep_core.proofs.Around.{found_of}
 use Rattle.snep_core.proofs.Carrying.{HopSo}
-use Rattle.snep_core.proofs.Meets.{IsReached, below, paired_client_acks, paired_server_acks}
-use Rattle.snep_core.proofs.Pairs.{client_ack, client_acks, client_hears, client_none, drop_all, marked, not_lt, right, server_ack, server_acks, server_none}
+use Rattle.snep_core.proofs.Ends.{sizes_of}
+use Rattle.snep_core.proofs.OnConnection.{conn_at}
+use Rattle.snep_core.proofs.Owned.{emptied_none}
+use Rattle.snep_core.proofs.Pairs.{bare_acks, bare_informs, client_ack, client_acks, client_gave, client_hears, client_quiet, client_settled, informs_is, acks_is, server_ack, server_acks, server_gave, server_hears, server_quiet, server_settled}
+use Rattle.snep_core.proofs.Places.{below, paired_client_acks, paired_server_acks}
+use Rattle.snep_core.proofs.Sides.{Place, Sides, Sizes, leaves_same, sides_on}
 
-flip : (s : ℕ) → (s == client_sap) ≡ false → (client_sap == s) ≡ false
-flip s e = grind (arith, nat_tests)
+-- a connection that gives nothing, whatever its end is
+abbrev pub IsStill : Option OwnState → Type 0
+IsStill o = (l : EndState) → (informs_own l o ≡ None) × (acknowledges_own l o ≡ None)
 
--- there is no connection, or one that is over; or one is open, with these numbers
-pub data Stand : Type 0 where
-  Apart : List OwnState → Stand
-  Joined : Numbers → Stand
-
-abbrev pub own_at : Stand → List OwnState
-own_at (Apart os) = os
-own_at (Joined n) = opened client_sap server_sap (client_conn client_sap n []) [] ∷ []
-
-abbrev pub served_at : Stand → List ConnState
-served_at (Apart os) = []
-served_at (Joined n) = server_conn client_sap n ∷ []
-
-abbrev pub IsStand : Stand → ServerState → Type 0
-IsStand (Apart os) s = AreOver os
-IsStand (Joined n) s = IsPaired n 0 × (session_of s client_sap ≡ fresh_session)
-
-abbrev pub client_at : EndState → Stand → List Queued → EndState
-client_at l st q = record l { readable = true; queue = q; served = []; own = own_at st }
-
-abbrev pub peer_at : PeerState → Stand → List Queued → ServerState → PeerState
-peer_at p st q s = record p { readable = true; queue = q; served = served_at st; own = []; service = s }
-
-mark_fair : {S : Type 0} (l : LlcState S) → IsFair l → IsFair (marked l)
-mark_fair l h = record { miu = h.miu; window = h.window; last = omega arith }
-
--- a connection that is over gives nothing
 informs_over : (l : EndState) (o : OwnState) → is_there o.is ≡ false → informs_open l o o.is ≡ None
 informs_over l o h = grind arith
 
 acks_over : (l : EndState) (o : OwnState) → is_there o.is ≡ false → acknowledges_open l o o.is ≡ None
 acks_over l o h = grind arith
 
-abbrev taken_by : (OwnState → Option (Gave NoService)) → Option OwnState → Option (Gave NoService)
-taken_by f None = None
-taken_by f (Some o) = f o
+pub over_still : (o : Option OwnState) → IsOver o → IsStill o
+over_still None h l = (refl, refl)
+over_still (Some o) h l = (informs_over l o h.0, acks_over l o h.0)
 
-own_informs : (l : EndState) (q : Option OwnState) → informs_own l q ≡ taken_by (λ o. informs_open l o o.is) q
-own_informs l None = refl
-own_informs l (Some o) = refl
+-- nothing is under way on the connection from a SAP, whose session is as at first
+pub record Quiet (s : ServerState) (sap : ℕ) (o : Option OwnState) (c : Option ConnState) : Type 0 where
+  pub range : IsClientSap sap
+  pub n : Numbers
+  pub paired : IsPaired n 0
+  pub own : o ≡ Some (conn_at sap n [] [])
+  pub served : c ≡ Some (server_conn sap n)
+  pub session : session_of s sap ≡ fresh_session
 
-own_acks : (l : EndState) (q : Option OwnState) → acknowledges_own l q ≡ taken_by (λ o. acknowledges_open l o o.is) q
-own_acks l None = refl
-own_acks l (Some o) = refl
+-- no connection, or a quiet one
+abbrev pub Rested : ServerState → ℕ → Option OwnState → Option ConnState → Type 0
+Rested s sap o c = (IsOver o × (c ≡ None)) ⊎ Quiet s sap o c
 
--- a peer without a connection gives nothing
-pub bare_none : (far : PeerState) (s : ServerState) → IsFair far → gave serving (peer_at far (Apart []) [] s) ≡ None
-bare_none far s g =
-    let z = peer_at far (Apart []) [] s in
-    ap (λ o. or_else o (first_of_all far.last (acknowledges z))) (found_none (informs serving z) client_sap (λ e t. refl) (omega arith) far.last g.last refl)
-    ∙ found_none (acknowledges z) client_sap (λ e t. refl) (omega arith) far.last g.last refl
+-- at each SAP so
+abbrev pub AllRested : ServerState → Place
+AllRested s sap o c x = Rested s sap o c
 
-over_gives : (l : EndState) (f : OwnState → Option (Gave NoService)) → ((o : OwnState) → is_there o.is ≡ false → f o ≡ None) → (os : List OwnState) → AreOver os → (e : ℕ)
-    → taken_by f (own_from e os) ≡ None
-over_gives l f none [] h e = refl
-over_gives l f none (o ∷ []) h e = either (λ x. taken_by f x ≡ None) (o.here == e) (Some o) None (λ t. none o h.1) (λ t. refl)
-over_gives l f none (o ∷ p ∷ os) h e = absurd h
+-- at the client's first SAP this, and at all others so
+abbrev pub ButBy : ServerState → (Option OwnState → Option ConnState → Type 0) → Bool → ℕ → Option OwnState → Option ConnState → Type 0
+ButBy s special true sap o c = special o c
+ButBy s special false sap o c = Rested s sap o c
 
-apart_none : (l : EndState) (os : List OwnState) → AreOver os → IfSome l.last IsSap → gave silent (client_at l (Apart os) []) ≡ None
-apart_none l os h mark =
-    let z = client_at l (Apart os) [] in
-    let i : (e : ℕ) → informs silent z e ≡ None = λ e. own_informs z (own_from e os) ∙ over_gives l (λ o. informs_open z o o.is) (informs_over z) os h e in
-    let a : (e : ℕ) → acknowledges z e ≡ None = λ e. own_acks z (own_from e os) ∙ over_gives l (λ o. acknowledges_open z o o.is) (acks_over z) os h e in
-    ap (λ o. or_else o (first_of_all l.last (acknowledges z))) (found_none (informs silent z) client_sap (λ e t. i e) (omega arith) l.last mark (i client_sap))
-    ∙ found_none (acknowledges z) client_sap (λ e t. a e) (omega arith) l.last mark (a client_sap)
+abbrev pub But : ServerState → (Option OwnState → Option ConnState → Type 0) → Place
+But s special sap o c x = ButBy s special (client_sap == sap) sap o c
 
--- the server hears an acknowledgement, whatever waits there
-hears_ack : (far : PeerState) (n : Numbers) (q : List Queued) (s : ServerState) → n.told_sa < 16 → length n.told ≤ 15
-    → steps_part serving (peer_at far (Joined n) q s) (Rr server_sap client_sap ((n.told_sa + length n.told) % modulus)) ≡ peer_at far (Joined (client_acks n)) q s
-hears_ack far n q s sa few =
-    rw (right n.told_sa (length n.told) sa few, not_lt (length n.told) (length n.told) (omega arith), drop_all n.told) refl
+-- What stands at a SAP gives nothing and has no connection at the peer, or is quiet, and stays so as it is acknowledged.
+abbrev pub Splits : ServerState → Place → Type 0
+Splits s At = (sap : ℕ) (o : Option OwnState) (c : Option ConnState) → At sap o c s
+    → (IsStill o × (c ≡ None)) ⊎ (Quiet s sap o c × ((p : Option OwnState) (d : Option ConnState) → Quiet s sap p d → At sap p d s))
 
-module _ (Found : List Lookup → Type 0) (names : List Bound) (s : ServerState) where
+pub rested_splits : (s : ServerState) → Splits s (AllRested s)
+rested_splits s sap o c (inl h) = inl (over_still o h.0, h.1)
+rested_splits s sap o c (inr h) = inr (h, λ p d q. inr q)
+
+pub but_splits : (s : ServerState) (special : Option OwnState → Option ConnState → Type 0) → ((o : Option OwnState) (c : Option ConnState) → special o c → IsStill o × (c ≡ None))
+    → Splits s (But s special)
+but_splits s special still sap o c h = go (client_sap == sap) refl h
+  where
+    go : (b : Bool) → (client_sap == sap) ≡ b → ButBy s special b sap o c
+        → (IsStill o × (c ≡ None)) ⊎ (Quiet s sap o c × ((p : Option OwnState) (d : Option ConnState) → Quiet s sap p d → ButBy s special (client_sap == sap) sap p d))
+    go true e y = inl (still o c y)
+    go false e (inl y) = inl (over_still o y.0, y.1)
+    go false e (inr y) = inr (y, λ p d q. subst (λ b. ButBy s special b sap p d) (sym e) (inr q))
+
+module _ (Found : List Lookup → Type 0) (names : List Bound) (s : ServerState) (z : Sizes) (At : Place) (splits : Splits s At) where
   -- Nothing but these waits at the client and at the peer.
-  pub record Calm (client_queue peer_queue : List Queued) (l : EndState) (p : PeerState) : Type 0 where
-    pub base : EndState
-    pub far : PeerState
-    pub st : Stand
-    pub base_fair : IsFair base
-    pub far_fair : IsFair far
-    pub reached : IsReached names far
-    pub stand : IsStand st s
-    pub l_is : l ≡ client_at base st client_queue
-    pub p_is : p ≡ peer_at far st peer_queue s
-    pub found : Found base.lookups
+  pub record Calm (client_waits peer_waits : List Queued) (l : EndState) (p : PeerState) : Type 0 where
+    pub sides : Sides s.limit s.table names s.accepted z At client_waits peer_waits l p
+    pub service_is : p.service ≡ s
+    pub found : Found l.lookups
 
-  module _ (q : List Queued) where
-    client_hop_at : (base : EndState) (far : PeerState) (st : Stand) → IsFair base → IsFair far → IsReached names far → IsStand st s → Found base.lookups
-        → HopSo silent serving (Calm [] q) (peer_at far st q s) (gave silent (client_at base st []))
-    client_hop_at base far (Apart os) f g r h w =
-        subst (λ o. HopSo silent serving (Calm [] q) (peer_at far (Apart os) q s) o) (sym (apart_none base os h f.last)) tt
-    client_hop_at base far (Joined n) f g r h w = by_told n.told refl
+  module _ (client_waits peer_waits : List Queued) (l : EndState) (p : PeerState) (h : Calm client_waits peer_waits l p) where
+    at_ : (sap : ℕ) → At sap (own_from sap l.own) (conn_from sap p.served) s
+    at_ sap = subst (λ x. At sap (own_from sap l.own) (conn_from sap p.served) x) h.service_is (h.sides.at sap)
+
+    few_told : (n : Numbers) → IsPaired n 0 → length n.told ≤ 15
+    few_told n k = let a = k.told in let b = k.client_window.1 in omega arith
+
+    few_asked : (n : Numbers) → IsPaired n 0 → length n.asked ≤ 15
+    few_asked n k = let a = k.asked in let b = k.server_window.1 in omega arith
+
+    -- one that is quiet was acknowledged
+    on_ : (sap : ℕ) (q : Quiet s sap (own_from sap l.own) (conn_from sap p.served)) → ((o : Option OwnState) (d : Option ConnState) → Quiet s sap o d → At sap o d s)
+        → (n : Numbers) → IsPaired n 0 → (client_last peer_last : Option ℕ) → IfSome client_last IsSap → IfSome peer_last IsSap
+        → Calm client_waits peer_waits (record l { own = with_own (conn_at sap n [] []) l.own; last = client_last }) (record p { served = with_conn (server_conn sap n) p.served; last = peer_last })
+    on_ sap q back n k client_last peer_last client_mark peer_mark = record {
+      sides = sides_on s.limit s.table names s.accepted z At At client_waits peer_waits l p h.sides sap (conn_at sap n [] []) _ (server_conn sap n) _ p.service q.own q.served refl refl
+          (leaves_same sap p.service) (λ t m o d a. a)
+          (subst (λ x. At sap (Some (conn_at sap n [] [])) (Some (server_conn sap n)) x) (sym h.service_is)
+          (back (Some (conn_at sap n [] [])) (Some (server_conn sap n)) (record { range = q.range; n = n; paired = k; own = refl; served = refl; session = q.session })))
+          client_last peer_last client_mark peer_mark;
+      service_is = h.service_is;
+      found = h.found;
+    }
+
+    low : (sap : ℕ) → IsClientSap sap → sap < 64
+    low sap r = let k = r.1 in omega arith
+
+    abbrev Out : Option (Gave NoService) → Type 0
+    Out o = HopSo silent serving (Calm client_waits peer_waits) p o
+
+    none_ : l.served ≡ []
+    none_ = h.sides.client_served
+
+    quiet_informs : (sap : ℕ) → Out (informs silent l sap)
+    quiet_informs sap = go (splits sap _ _ (at_ sap))
       where
-        by_told : (told : List (List ℕ)) → n.told ≡ told → HopSo silent serving (Calm [] q) (peer_at far (Joined n) q s) (gave silent (client_at base (Joined n) []))
-        by_told [] e = subst (λ o. HopSo silent serving (Calm [] q) (peer_at far (Joined n) q s) o) (sym (client_none base n [] f.last e)) tt
-        by_told (v ∷ vs) e =
-            subst (λ o. HopSo silent serving (Calm [] q) (peer_at far (Joined n) q s) o) (sym (client_ack base n [] f.last v vs e)) (
-              (((omega arith), (omega arith), below (n.told_sa + length n.told)), omega arith),
-              record {
-                base = marked base;
-                far = far;
-                st = Joined (client_acks n);
-                base_fair = mark_fair base f;
-                far_fair = g;
-                reached = r;
-                stand = (paired_client_acks n 0 h.0, h.1);
-                l_is = refl;
-                p_is = hears_ack far n q s h.0.told_sa (let a = h.0.told in let c = h.0.client_window.1 in omega arith);
-                found = w;
-              },
+        go : ((IsStill (own_from sap l.own) × (conn_from sap p.served ≡ None)) ⊎ (Quiet s sap (own_from sap l.own) (conn_from sap p.served) × ((o : Option OwnState) (d : Option ConnState) → Quiet s sap o d → At sap o d s)))
+            → Out (informs silent l sap)
+        go (inl y) = subst Out (sym (informs_is l none_ sap (own_from sap l.own) refl ∙ (y.0 l).0)) tt
+        go (inr (q, back)) = subst Out (sym (client_quiet l none_ sap q.n [] q.own)) tt
+
+    quiet_acks : (sap : ℕ) → Out (acknowledges l sap)
+    quiet_acks sap = go (splits sap _ _ (at_ sap))
+      where
+        by_told : (q : Quiet s sap (own_from sap l.own) (conn_from sap p.served)) → ((o : Option OwnState) (d : Option ConnState) → Quiet s sap o d → At sap o d s)
+            → (told : List (List ℕ)) → q.n.told ≡ told → Out (acknowledges l sap)
+        by_told q back [] e = subst Out (sym (client_settled l none_ sap q.n [] [] q.own e)) tt
+        by_told q back (v ∷ vs) e =
+            subst Out (sym (client_ack l none_ sap q.n [] [] q.own v vs e)) (
+              (((omega arith), low sap q.range, below (q.n.told_sa + length q.n.told)), omega arith),
+              subst (λ w. Calm client_waits peer_waits (client_gave l (conn_at sap (client_acks q.n) [] [])) w)
+                  (sym (server_hears serving p sap q.n q.served q.paired.told_sa (few_told q.n q.paired)))
+                  (on_ sap q back (client_acks q.n) (paired_client_acks q.n 0 q.paired) (Some sap) p.last (low sap q.range) h.sides.peer_fair.last),
             )
 
-    -- the client gives what it owes
-    pub client_hop : (l : EndState) (p : PeerState) → Calm [] q l p → HopSo silent serving (Calm [] q) p (gave silent l)
-    client_hop l p h =
-        subst (λ z. HopSo silent serving (Calm [] q) p (gave silent z)) (sym h.l_is)
-        (subst (λ z. HopSo silent serving (Calm [] q) z (gave silent (client_at h.base h.st []))) (sym h.p_is)
-        (client_hop_at h.base h.far h.st h.base_fair h.far_fair h.reached h.stand h.found))
+        go : ((IsStill (own_from sap l.own) × (conn_from sap p.served ≡ None)) ⊎ (Quiet s sap (own_from sap l.own) (conn_from sap p.served) × ((o : Option OwnState) (d : Option ConnState) → Quiet s sap o d → At sap o d s)))
+            → Out (acknowledges l sap)
+        go (inl y) = subst Out (sym (acks_is l none_ sap (own_from sap l.own) refl ∙ (y.0 l).1)) tt
+        go (inr (q, back)) = by_told q back q.n.told refl
 
-  peer_hop_at : (base : EndState) (far : PeerState) (st : Stand) → IsFair base → IsFair far → IsReached names far → IsStand st s → Found base.lookups
-      → HopSo serving silent (λ p l. Calm [] [] l p) (client_at base st []) (gave serving (peer_at far st [] s))
-  peer_hop_at base far (Apart os) f g r h w =
-      subst (λ o. HopSo serving silent (λ p l. Calm [] [] l p) (client_at base (Apart os) []) o) (sym (bare_none far s g)) tt
-  peer_hop_at base far (Joined n) f g r h w = by_asked n.asked refl
+    abbrev In : Option (Gave ServerState) → Type 0
+    In o = HopSo serving silent (λ p l. Calm client_waits peer_waits l p) l o
+
+    bare_ : p.own ≡ []
+    bare_ = h.sides.peer_own
+
+    nothing_due : (sap : ℕ) (q : Quiet s sap (own_from sap l.own) (conn_from sap p.served)) → serving.due p.service sap q.n.client_miu ≡ None
+    nothing_due sap q = ap (λ y. (sent q.n.client_miu y).unit) (ap (λ w. session_of w sap) h.service_is ∙ q.session)
+
+    idle_informs : (sap : ℕ) → In (informs serving p sap)
+    idle_informs sap = go (splits sap _ _ (at_ sap))
+      where
+        go : ((IsStill (own_from sap l.own) × (conn_from sap p.served ≡ None)) ⊎ (Quiet s sap (own_from sap l.own) (conn_from sap p.served) × ((o : Option OwnState) (d : Option ConnState) → Quiet s sap o d → At sap o d s)))
+            → In (informs serving p sap)
+        go (inl y) = subst In (sym (bare_informs serving p bare_ sap y.1)) tt
+        go (inr (q, back)) = subst In (sym (server_quiet serving p bare_ sap q.n q.served (inl (nothing_due sap q)))) tt
+
+    idle_acks : (sap : ℕ) → In (acknowledges p sap)
+    idle_acks sap = go (splits sap _ _ (at_ sap))
+      where
+        by_asked : (q : Quiet s sap (own_from sap l.own) (conn_from sap p.served)) → ((o : Option OwnState) (d : Option ConnState) → Quiet s sap o d → At sap o d s)
+            → (asked : List (List ℕ)) → q.n.asked ≡ asked → In (acknowledges p sap)
+        by_asked q back [] e = subst In (sym (server_settled serving p bare_ sap q.n q.served e)) tt
+        by_asked q back (u ∷ us) e =
+            subst In (sym (server_ack serving p bare_ sap q.n q.served u us e)) (
+              ((low sap q.range, (omega arith), below (q.n.asked_sa + length q.n.asked)), omega arith),
+              subst (λ w. Calm client_waits peer_waits w (server_gave p (server_conn sap (server_acks q.n)) p.service))
+                  (sym (client_hears l none_ sap q.n [] [] q.own q.paired.asked_sa (few_asked q.n q.paired)))
+                  (on_ sap q back (server_acks q.n) (paired_server_acks q.n 0 q.paired) l.last (Some sap) h.sides.client_fair.last (low sap q.range)),
+            )
+
+        go : ((IsStill (own_from sap l.own) × (conn_from sap p.served ≡ None)) ⊎ (Quiet s sap (own_from sap l.own) (conn_from sap p.served) × ((o : Option OwnState) (d : Option ConnState) → Quiet s sap o d → At sap o d s)))
+            → In (acknowledges p sap)
+        go (inl y) = subst In (sym (bare_acks serving p bare_ sap y.1)) tt
+        go (inr (q, back)) = by_asked q back q.n.asked refl
+
+  -- the client gives what it owes
+  pub client_hop : (q : List Queued) (l : EndState) (p : PeerState) → Calm [] q l p → HopSo silent serving (Calm [] q) p (gave silent l)
+  client_hop q l p h =
+      subst (λ w. T (gave_from silent l w)) (sym h.sides.client_queue)
+      (found_of (informs silent l) (λ o. T (or_else o (first_of_all l.last (acknowledges l)))) (λ s x i. subst T i (quiet_informs [] q l p h s)) l.last h.sides.client_fair.last
+      (λ k. found_of (acknowledges l) T (λ s x i. subst T i (quiet_acks [] q l p h s)) l.last h.sides.client_fair.last (λ m. tt)))
     where
-      none : serving.due s client_sap n.client_miu ≡ None
-      none = ap (λ x. (sent n.client_miu x).unit) h.1
-
-      by_asked : (asked : List (List ℕ)) → n.asked ≡ asked → HopSo serving silent (λ p l. Calm [] [] l p) (client_at base (Joined n) []) (gave serving (peer_at far (Joined n) [] s))
-      by_asked [] e =
-          subst (λ o. HopSo serving silent (λ p l. Calm [] [] l p) (client_at base (Joined n) []) o) (sym (server_none serving far n s g.last (inl none) e)) tt
-      by_asked (u ∷ us) e =
-          subst (λ o. HopSo serving silent (λ p l. Calm [] [] l p) (client_at base (Joined n) []) o) (sym (server_ack serving far n s g.last (inl none) u us e)) (
-            (((omega arith), (omega arith), below (n.asked_sa + length n.asked)), omega arith),
-            record {
-              base = base;
-              far = marked far;
-              st = Joined (server_acks n);
-              base_fair = f;
-              far_fair = mark_fair far g;
-              reached = r;
-              stand = (paired_server_acks n 0 h.0, h.1);
-              l_is = client_hears base n [] h.0.asked_sa (let a = h.0.asked in let c = h.0.server_window.1 in omega arith) [];
-              p_is = refl;
-              found = w;
-            },
-          )
+      T : Option (Gave NoService) → Type 0
+      T o = HopSo silent serving (Calm [] q) p o
 
   -- the server gives what it owes
   pub peer_hop : (p : PeerState) (l : EndState) → Calm [] [] l p → HopSo serving silent (λ p l. Calm [] [] l p) l (gave serving p)
   peer_hop p l h =
-      subst (λ z. HopSo serving silent (λ p l. Calm [] [] l p) z (gave serving p)) (sym h.l_is)
-      (subst (λ z. HopSo serving silent (λ p l. Calm [] [] l p) (client_at h.base h.st []) (gave serving z)) (sym h.p_is)
-      (peer_hop_at h.base h.far h.st h.base_fair h.far_fair h.reached h.stand h.found))
+      subst (λ w. T (gave_from serving p w)) (sym h.sides.peer_queue)
+      (found_of (informs serving p) (λ o. T (or_else o (first_of_all p.last (acknowledges p)))) (λ s x i. subst T i (idle_informs [] [] l p h s)) p.last h.sides.peer_fair.last
+      (λ k. found_of (acknowledges p) T (λ s x i. subst T i (idle_acks [] [] l p h s)) p.last h.sides.peer_fair.last (λ m. tt)))
+    where
+      T : Option (Gave ServerState) → Type 0
+      T o = HopSo serving silent (λ p l. Calm [] [] l p) l o
 
--- what was heard on it, and not taken up, is nothing
-over_units : (os : List OwnState) → AreOver os → units_of (own_from client_sap os) ≡ []
-over_units [] h = refl
-over_units (o ∷ []) h = either (λ x. units_of x ≡ []) (o.here == client_sap) (Some o) None (λ t. h.2) (λ t. refl)
-over_units (o ∷ p ∷ os) h = absurd h
+-- What was heard on the client's first connection, and not taken up, is nothing.
+module _ (s : ServerState) (l : EndState) (c : Option ConnState) (h : Rested s client_sap (own_of client_sap l) c) where
+  no_unit : (o : Option OwnState) → Rested s client_sap o c → unit_of o ≡ None
+  no_unit None h = refl
+  no_unit (Some o) (inl (h, e)) = ap first h.1
+  no_unit (Some o) (inr q) = ap unit_of q.own
 
-pub stand_units : (st : Stand) (s : ServerState) → IsStand st s → units_of (own_from client_sap (own_at st)) ≡ []
-stand_units (Apart os) s h = over_units os h
-stand_units (Joined n) s h = refl
+  pub rested_units : units_of (own_of client_sap l) ≡ []
+  rested_units = (emptied_none client_sap l (no_unit (own_of client_sap l) h)).0
 
-over_same : (o : OwnState) → o.units ≡ [] → with_own (record o { units = [] }) (o ∷ []) ≡ o ∷ []
-over_same o h =
-    ap (λ b. if b then record o { units = [] } ∷ [] else o ∷ []) (eq-eqb o.here o.here refl)
-    ∙ ap (λ us. record o { units = us } ∷ []) (sym h)
+  pub rested_emptied : emptied l client_sap ≡ l
+  rested_emptied = (emptied_none client_sap l (no_unit (own_of client_sap l) h)).1
 
-over_emptied : (l : EndState) (os : List OwnState) → AreOver os → l.own ≡ os → emptied_by l (own_from client_sap os) ≡ l
-over_emptied l [] h e = refl
-over_emptied l (o ∷ []) h e =
-    either (λ x. emptied_by l x ≡ l) (o.here == client_sap) (Some o) None
-    (λ t. ap (λ z. record l { own = with_own (record o { units = [] }) z }) e ∙ ap (λ z. record l { own = z }) (over_same o h.2) ∙ ap (λ z. record l { own = z }) (sym e)) (λ t. refl)
-over_emptied l (o ∷ p ∷ os) h e = absurd h
+-- Where client and peer accord, each SAP rests.
+module _ (client : EndState) (peer : PeerState) (a : Accords client peer) where
+  stands_rested : (sap : ℕ) → (IsApart sap client peer ⊎ IsJoined sap client peer) → Rested peer.service sap (own_from sap client.own) (conn_from sap peer.served)
+  stands_rested sap (inl h) = inl (h.own, h.served)
+  stands_rested sap (inr h) = inr (record { range = h.range; n = h.numbers; paired = h.paired; own = h.own; served = h.served; session = h.session })
 
-pub stand_emptied : (l : EndState) (st : Stand) (s : ServerState) → IsStand st s → emptied (client_at l st []) client_sap ≡ client_at l st []
-stand_emptied l (Apart os) s h = over_emptied (client_at l (Apart os) []) os h refl
-stand_emptied l (Joined n) s h = refl
-
--- where client and peer accord, nothing waits
-pub record Stands (client : EndState) (peer : PeerState) : Type 0 where
-  pub st : Stand
-  pub stand : IsStand st peer.service
-  pub client_is : client ≡ client_at client st []
-  pub peer_is : peer ≡ peer_at peer st [] peer.service
-
-pub stands_at : (client : EndState) (peer : PeerState) → Accords client peer → Stands client peer
-stands_at client peer a = go a.stands
-  where
-    go : (IsApart client peer ⊎ IsJoined client peer) → Stands client peer
-    go (inr h) = record { st = Joined h.numbers; stand = (h.paired, h.session); client_is = h.client_is; peer_is = h.peer_is }
-    go (inl h) = record {
-      st = Apart client.own;
-      stand = h.client_own;
-      client_is =
-          ap (λ z. record client { readable = z }) h.client_readable
-          ∙ ap (λ z. record client { readable = true; queue = z }) h.client_queue
-          ∙ ap (λ z. record client { readable = true; queue = []; served = z }) h.client_served;
-      peer_is =
-          ap (λ z. record peer { readable = z }) h.peer_readable
-          ∙ ap (λ z. record peer { readable = true; queue = z }) h.peer_queue
-          ∙ ap (λ z. record peer { readable = true; queue = []; served = z }) h.peer_served
-          ∙ ap (λ z. record peer { readable = true; queue = []; served = []; own = z }) h.peer_own;
-    }
-
-fair_again : {S : Type 0} (a b : LlcState S) → a.miu ≡ b.miu → a.window ≡ b.window → a.last ≡ b.last → IsFair b → IsFair a
-fair_again a b i j k f = record {
-  miu = subst IsMiu (sym i) f.miu;
-  window = subst IsWindow (sym j) f.window;
-  last = subst (λ z. IfSome z IsSap) (sym k) f.last;
-}
-
--- and where nothing waits, they accord
-module _ (names : List Bound) (s : ServerState) (base : EndState) (far : PeerState) (client : EndState) (peer : PeerState)
-    (base_fair : IsFair base) (far_fair : IsFair far) (reached : IsReached names far) (seats : client_sap < length s.sessions) where
-  abbrev At : Stand → Type 0
-  At st = (client ≡ client_at base st []) × (peer ≡ peer_at far st [] s)
-
-  pub apart_at : (os : List OwnState) → AreOver os → At (Apart os) → IsApart client peer
-  apart_at os h (l, p) = record {
-    client_readable = ap (λ (z : EndState). z.readable) l;
-    client_queue = ap (λ (z : EndState). z.queue) l;
-    client_served = ap (λ (z : EndState). z.served) l;
-    client_own = subst (λ (z : EndState). AreOver z.own) (sym l) h;
-    peer_readable = ap (λ (z : PeerState). z.readable) p;
-    peer_queue = ap (λ (z : PeerState). z.queue) p;
-    peer_served = ap (λ (z : PeerState). z.served) p;
-    peer_own = ap (λ (z : PeerState). z.own) p;
+  pub sides_at : Sides peer.service.limit peer.service.table peer.bound peer.service.accepted (sizes_of client peer) (AllRested peer.service) [] [] client peer
+  sides_at = record {
+    client_fair = a.client_fair;
+    peer_fair = a.peer_fair;
+    client_readable = a.calm.client_readable;
+    peer_readable = a.calm.peer_readable;
+    client_queue = a.calm.client_queue;
+    peer_queue = a.calm.peer_queue;
+    client_served = a.calm.client_served;
+    peer_own = a.calm.peer_own;
+    reached = (refl, a.peer_serving.bound, a.peer_serving.far_miu);
+    client_miu = refl;
+    client_window = refl;
+    server_miu = refl;
+    server_window = refl;
+    no_other = a.calm.no_other;
+    kept = record { seats = a.peer_serving.seats; most = refl; offers = refl; more = []; grew = sym (append-nil peer.service.accepted) };
+    at = λ sap. stands_rested sap (a.stands sap);
   }
 
-  stands_so : (st : Stand) → IsStand st s → At st → IsApart client peer ⊎ IsJoined client peer
-  stands_so (Apart os) h at = inl (apart_at os h at)
-  stands_so (Joined n) h (l, p) = inr (record {
-    numbers = n;
-    paired = h.0;
-    client_is = subst (λ z. z ≡ client_open z n [] []) (sym l) refl;
-    peer_is = subst (λ z. z ≡ server_open z n z.service) (sym p) refl;
-    session = ap (λ (z : PeerState). session_of z.service client_sap) p ∙ h.1;
+-- And where each rests, and nothing waits, they accord.
+module _ (names : List Bound) (s : ServerState) (z : Sizes) (l : EndState) (p : PeerState) (h : Sides s.limit s.table names s.accepted z (AllRested s) [] [] l p) (is : p.service ≡ s) where
+  rested_stands : (sap : ℕ) → Rested s sap (own_from sap l.own) (conn_from sap p.served) → IsApart sap l p ⊎ IsJoined sap l p
+  rested_stands sap (inl y) = inl (record { own = y.0; served = y.1 })
+  rested_stands sap (inr q) = inr (record {
+    range = q.range;
+    numbers = q.n;
+    paired = q.paired;
+    own = q.own;
+    served = q.served;
+    session = ap (λ w. session_of w sap) is ∙ q.session;
   })
 
-  pub accord_at : (st : Stand) → IsStand st s → At st → Accords client peer
-  accord_at st h (l, p) = record {
-    client_fair = fair_again client base (ap (λ (z : EndState). z.miu) l) (ap (λ (z : EndState). z.window) l) (ap (λ (z : EndState). z.last) l) base_fair;
-    peer_fair = fair_again peer far (ap (λ (z : PeerState). z.miu) p) (ap (λ (z : PeerState). z.window) p) (ap (λ (z : PeerState). z.last) p) far_fair;
-    peer_serving = record {
-      seats = subst (λ (z : PeerState). client_sap < length z.service.sessions) (sym p) seats;
-      bound = ap (λ (z : PeerState). is_bound server_sap z.bound) p ∙ reached.1;
-      far_miu = subst (λ (z : PeerState). least_miu ≤ z.far_miu) (sym p) reached.2;
+  pub accord_at : Accords l p
+  accord_at = record {
+    client_fair = h.client_fair;
+    peer_fair = h.peer_fair;
+    peer_serving = record { seats = h.kept.seats; bound = h.reached.1; far_miu = h.reached.2 };
+    calm = record {
+      client_readable = h.client_readable;
+      client_queue = h.client_queue;
+      client_served = h.client_served;
+      peer_readable = h.peer_readable;
+      peer_queue = h.peer_queue;
+      peer_own = h.peer_own;
+      no_other = h.no_other;
     };
-    stands = stands_so st h (l, p);
+    stands = λ sap. rested_stands sap (h.at sap);
+  }
+
+-- Other queues, and lookups, change nothing else.
+module _ (limit : ℕ) (table : List Offer) (names : List Bound) (old : List Received) (z : Sizes) (At : Place) (client_waits peer_waits : List Queued) (l : EndState) (p : PeerState)
+    (h : Sides limit table names old z At client_waits peer_waits l p) where
+  pub client_queues : (q : List Queued) (found : List Lookup) (asked : ℕ) → Sides limit table names old z At q peer_waits (record l { queue = q; lookups = found; asked = asked }) p
+  client_queues q found asked = record {
+    client_fair = record { miu = h.client_fair.miu; window = h.client_fair.window; last = h.client_fair.last };
+    peer_fair = h.peer_fair;
+    client_readable = h.client_readable;
+    peer_readable = h.peer_readable;
+    client_queue = refl;
+    peer_queue = h.peer_queue;
+    client_served = h.client_served;
+    peer_own = h.peer_own;
+    reached = h.reached;
+    client_miu = h.client_miu;
+    client_window = h.client_window;
+    server_miu = h.server_miu;
+    server_window = h.server_window;
+    no_other = h.no_other;
+    kept = h.kept;
+    at = h.at;
+  }
+
+  pub peer_queues : (q : List Queued) → Sides limit table names old z At client_waits q l (record p { queue = q })
+  peer_queues q = record {
+    client_fair = h.client_fair;
+    peer_fair = record { miu = h.peer_fair.miu; window = h.peer_fair.window; last = h.peer_fair.last };
+    client_readable = h.client_readable;
+    peer_readable = h.peer_readable;
+    client_queue = h.client_queue;
+    peer_queue = refl;
+    client_served = h.client_served;
+    peer_own = h.peer_own;
+    reached = h.reached;
+    client_miu = h.client_miu;
+    client_window = h.client_window;
+    server_miu = h.server_miu;
+    server_window = h.server_window;
+    no_other = h.no_other;
+    kept = h.kept;
+    at = h.at;
+  }
+
+  -- what stands at each SAP, said in other words
+  pub sides_by : (Then : Place) → ((sap : ℕ) → At sap (own_from sap l.own) (conn_from sap p.served) p.service → Then sap (own_from sap l.own) (conn_from sap p.served) p.service)
+      → Sides limit table names old z Then client_waits peer_waits l p
+  sides_by Then so = record {
+    client_fair = h.client_fair;
+    peer_fair = h.peer_fair;
+    client_readable = h.client_readable;
+    peer_readable = h.peer_readable;
+    client_queue = h.client_queue;
+    peer_queue = h.peer_queue;
+    client_served = h.client_served;
+    peer_own = h.peer_own;
+    reached = h.reached;
+    client_miu = h.client_miu;
+    client_window = h.client_window;
+    server_miu = h.server_miu;
+    server_window = h.server_window;
+    no_other = h.no_other;
+    kept = h.kept;
+    at = λ sap. so sap (h.at sap);
   }

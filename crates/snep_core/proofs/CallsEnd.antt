@@ -264,7 +264,7 @@ calls_end w ns (Stepped out reply ∷ did) to way t = go (λ next f u. calls_end
     go rest (GivesUp l) e u = (let z = gave_up l later did to u in let v = some_left w way in omega arith)
 
 -- where a call begins
-put_there : (h : ℕ) (o : OwnState) (os : List OwnState) → (o.here == h) ≡ true → own_from h (put_own o os) ≡ Some o
+pub put_there : (h : ℕ) (o : OwnState) (os : List OwnState) → (o.here == h) ≡ true → own_from h (put_own o os) ≡ Some o
 put_there h o [] i = ap (λ b. if b then Some o else None) i
 put_there h o (p ∷ ps) i = go (put_there h o ps i) (p.here == o.here) refl
   where
@@ -273,7 +273,7 @@ put_there h o (p ∷ ps) i = go (put_there h o ps i) (p.here == o.here) refl
     go more false t =
         ap (λ b. if b then Some p else own_from h (put_own o ps)) (ap (λ k. p.here == k) (sym (eqb-true o.here h i)) ∙ t) ∙ more
 
-put_elsewhere : (s : ℕ) (o : OwnState) (os : List OwnState) → (o.here == s) ≡ false → own_from s (put_own o os) ≡ own_from s os
+pub put_elsewhere : (s : ℕ) (o : OwnState) (os : List OwnState) → (o.here == s) ≡ false → own_from s (put_own o os) ≡ own_from s os
 put_elsewhere s o [] n = ap (λ b. if b then Some o else None) n
 put_elsewhere s o (x ∷ os) n = go (x.here == o.here) refl (put_elsewhere s o os n)
   where

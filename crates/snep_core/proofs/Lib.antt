@@ -23,7 +23,12 @@ pub mod Connecting
 pub mod Cutting
 pub mod Talking
 pub mod Falling
-pub mod AtOneSap
+pub mod Around
+pub mod Tally
+pub mod Reached
+pub mod Sides
+pub mod Places
+pub mod Debts
 pub mod Carrying
 pub mod Pairs
 pub mod Served
@@ -31,8 +36,12 @@ pub mod Conversations
 pub mod Meets
 pub mod Opening
 pub mod Pressing
+pub mod Answered
+pub mod Idling
 pub mod Courses
+pub mod Hops
 pub mod Turns
+pub mod Shares
 pub mod Ends
 pub mod RequestPhases
 pub mod RequestAnswers
@@ -43,6 +52,7 @@ pub mod PutEnds
 pub mod ValuePhases
 pub mod GetPhases
 pub mod GetEnds
+pub mod Removed
 pub mod Peers
 pub mod Asides
 pub mod OneExchange

@@ -8,9 +8,9 @@ use Rattle.llcp_link.specs.Opened.{opened}
 use Rattle.llcp_link.proofs.Awaited.{here_of, with_same}
 use Rattle.llcp_link.proofs.Ranged.{either}
 use Rattle.llcp_link.proofs.Submitted.{own_with}
-use Rattle.snep_core.specs.Accord.{Numbers, client_conn, client_open}
+use Rattle.snep_core.specs.Accord.{Numbers, client_conn}
 use Rattle.snep_core.specs.Jobs.{Job, Begins, Waits, Sends, Asks, Collects, Looks, Closes, Over}
-use Rattle.snep_core.specs.Talk.{EndState, Ready, begins_on, behind_first, client_sap, continue_bytes, miu_of, own_of, readied, ready_so, sends_on, sends_some, server_sap, submits, takes_more}
+use Rattle.snep_core.specs.Talk.{EndState, Ready, begins_on, behind_first, continue_bytes, miu_of, own_of, readied, ready_so, sends_on, sends_some, server_sap, submits, takes_more}
 use Rattle.snep_core.proofs.Owned.{with_twice}
 
 -- a connection, and the job on it that goes on
@@ -149,10 +149,10 @@ module _ (sap : ℕ) where
 abbrev pub conn_at : ℕ → Numbers → List (List ℕ) → List (List ℕ) → OwnState
 conn_at sap n queue units = opened sap server_sap (client_conn sap n queue) units
 
--- at an end that has it alone
-pub readied_open : (l : EndState) (n : Numbers) (queue units queue_now units_now : List (List ℕ)) (job now : Job)
-    → readied_on (conn_at client_sap n queue units) job ≡ on_so (conn_at client_sap n queue_now units_now) now
-    → readied (client_open l n queue units) client_sap job ≡ ready_so (client_open l n queue_now units_now) now
-readied_open l n queue units queue_now units_now job now e =
-    readied_so client_sap (client_open l n queue units) (conn_at client_sap n queue units) refl job
-    ∙ ap (put_so (client_open l n queue units)) e
+-- at an end that has it
+pub readied_open : (sap : ℕ) (l : EndState) (n : Numbers) (queue units queue_now units_now : List (List ℕ)) (job now : Job)
+    → own_of sap l ≡ Some (conn_at sap n queue units)
+    → readied_on (conn_at sap n queue units) job ≡ on_so (conn_at sap n queue_now units_now) now
+    → readied l sap job ≡ ready_so (record l { own = with_own (conn_at sap n queue_now units_now) l.own }) now
+readied_open sap l n queue units queue_now units_now job now there e =
+    readied_so sap l (conn_at sap n queue units) there job ∙ ap (put_so l) e

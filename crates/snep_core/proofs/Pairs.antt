@@ -1,17 +1,18 @@
--- One PDU on a connection between a client and a peer: what the one gives, and what the other makes of it.
-use Rattle.std.proofs.Common.{◌≡◌, ◌<◌, ◌≤◌, ◌⊎◌, nat_lt, ℕ, ◌+◌, ◌-◌, ◌%◌, ◌==◌, Bool, true, false, List, [], ◌∷◌, ◌++◌, length, drop, Some, None, IfSome, refl, sym, ◌∙◌, ap, subst, arith, inl, inr, if◌then◌else◌, length-append}
+-- One PDU on the connection from a SAP, between a client and a peer: what the one gives, and what the other makes of it.
+use Rattle.std.proofs.Common.{◌≡◌, ◌<◌, ◌≤◌, ◌⊎◌, nat_lt, ℕ, ◌+◌, ◌-◌, ◌%◌, ◌==◌, Bool, true, false, List, [], ◌∷◌, ◌++◌, length, drop, Option, Some, None, refl, sym, ◌∙◌, ap, subst, arith, inl, inr, if◌then◌else◌, length-append}
 use Rattle.std.proofs.lemmas.Bool.Decides.{nat_tests}
 use Rattle.llcp_pdu.specs.declared.part.Part.{Part}
 use Rattle.llcp_pdu.specs.declared.part.Part.TheVariants.{Info, Rr}
-use Rattle.llcp_conn.specs.Conn.{ConnState, IsSap, count_end, modulus}
+use Rattle.llcp_conn.specs.Conn.{ConnState, count_end, modulus, takes}
 use Rattle.llcp_link.specs.Serving.{Serving}
-use Rattle.llcp_link.specs.State.{LlcState, OwnState}
+use Rattle.llcp_link.specs.State.{LlcState, OwnState, conn_from, own_from, own_holder, served_holder, with_conn, with_own}
+use Rattle.llcp_link.specs.Asking.{asked_from, is_there}
 use Rattle.llcp_link.specs.Opened.{opened}
-use Rattle.llcp_link.specs.Taking.{steps_part}
-use Rattle.llcp_link.specs.Giving.{acknowledges, acknowledges_own, acknowledges_served, first_of_all, gave, informs, informs_own, informs_served, or_else, sends}
-use Rattle.snep_core.specs.Accord.{Numbers, client_conn, client_open, is_some_of, server_conn}
-use Rattle.snep_core.specs.Talk.{EndState, client_sap, server_sap, silent}
-use Rattle.snep_core.proofs.AtOneSap.{found_at}
+use Rattle.llcp_link.specs.Taking.{numbered, steps_part}
+use Rattle.llcp_link.specs.Giving.{acknowledges, acknowledges_open, acknowledges_own, acknowledges_served, informs, informs_open, informs_own, informs_served, or_else, sends}
+use Rattle.snep_core.specs.Accord.{IsOver, Numbers, client_conn, is_some_of, server_conn}
+use Rattle.snep_core.specs.Talk.{EndState, server_sap, silent}
+use Rattle.snep_core.proofs.OnConnection.{conn_at}
 
 pub not_lt : (m n : ℕ) → n ≤ m → nat_lt m n ≡ false
 not_lt m n h = grind (arith, nat_tests)
@@ -22,9 +23,6 @@ same m = grind (arith, nat_tests)
 pub drop_all : (xs : List (List ℕ)) → drop (length xs) xs ≡ []
 drop_all [] = refl
 drop_all (x ∷ xs) = drop_all xs
-
-flip : (s : ℕ) → (s == client_sap) ≡ false → (client_sap == s) ≡ false
-flip s e = grind (arith, nat_tests)
 
 -- the numbers once the client acknowledged, or the server did
 abbrev pub client_acks : Numbers → Numbers
@@ -41,77 +39,97 @@ abbrev pub tells : Numbers → List ℕ → Numbers
 tells n v = record (server_acks n) { told = n.told ++ v ∷ [] }
 
 -- the PDUs
-abbrev pub asked_part : Numbers → List ℕ → Part
-asked_part n u = Info server_sap client_sap ((n.asked_sa + length n.asked) % modulus) ((n.told_sa + length n.told) % modulus) u
+abbrev pub asked_part : ℕ → Numbers → List ℕ → Part
+asked_part sap n u = Info server_sap sap ((n.asked_sa + length n.asked) % modulus) ((n.told_sa + length n.told) % modulus) u
 
-abbrev pub told_part : Numbers → List ℕ → Part
-told_part n v = Info client_sap server_sap ((n.told_sa + length n.told) % modulus) ((n.asked_sa + length n.asked) % modulus) v
+abbrev pub told_part : ℕ → Numbers → List ℕ → Part
+told_part sap n v = Info sap server_sap ((n.told_sa + length n.told) % modulus) ((n.asked_sa + length n.asked) % modulus) v
 
--- any end with this connection that this end asked for; and any with this one that was asked of it
-abbrev pub asking_end : {S : Type 0} → LlcState S → ConnState → List (List ℕ) → LlcState S
-asking_end l k units = record l {
-  readable = true;
-  queue = [];
-  served = [];
-  own = opened client_sap server_sap k units ∷ [];
-}
+abbrev pub client_ack_part : ℕ → Numbers → Part
+client_ack_part sap n = Rr server_sap sap ((n.told_sa + length n.told) % modulus)
 
-abbrev pub serving_end : {S : Type 0} → LlcState S → ConnState → S → LlcState S
-serving_end p k s = record p { readable = true; queue = []; served = k ∷ []; own = []; service = s }
+abbrev pub server_ack_part : ℕ → Numbers → Part
+server_ack_part sap n = Rr sap server_sap ((n.asked_sa + length n.asked) % modulus)
 
-abbrev pub marked : {S : Type 0} → LlcState S → LlcState S
-marked l = record l { last = Some client_sap }
+-- an end with a connection in the place of that from its SAP, which gave a PDU
+abbrev pub client_gave : EndState → OwnState → EndState
+client_gave l o = record l { own = with_own o l.own; last = Some o.here }
+
+abbrev pub server_gave : {S : Type 0} → LlcState S → ConnState → S → LlcState S
+server_gave p c s = record p { served = with_conn c p.served; last = Some c.there; service = s }
+
+-- and which took one
+abbrev pub client_took : EndState → OwnState → EndState
+client_took l o = record l { own = with_own o l.own }
+
+abbrev pub server_took : {S : Type 0} → LlcState S → ConnState → S → LlcState S
+server_took p c s = record p { served = with_conn c p.served; service = s }
 
 again : (a : ℕ) → (a % 16 + 0) % 16 ≡ a % 16
 again a = omega arith
 
 -- the client gives
-module _ (l : EndState) (n : Numbers) (units : List (List ℕ)) (mark : IfSome l.last IsSap) where
-  abbrev own_at : List (List ℕ) → OwnState
-  own_at queue = opened client_sap server_sap (client_conn client_sap n queue) units
+module _ (l : EndState) (none : l.served ≡ []) (sap : ℕ) where
+  pub informs_is : (q : Option OwnState) → own_from sap l.own ≡ q → informs silent l sap ≡ informs_own l q
+  informs_is q e =
+      ap (λ cs. or_else (informs_served silent l (conn_from sap cs)) (informs_own l (own_from sap l.own))) none ∙ ap (informs_own l) e
 
-  elsewhere : (queue : List (List ℕ)) (s : ℕ) → (s == client_sap) ≡ false → informs silent (client_open l n queue units) s ≡ None
-  elsewhere queue s e =
-      ap (λ b. informs_own (client_open l n queue units) (if b then Some (own_at queue) else None)) (flip s e)
+  pub acks_is : (q : Option OwnState) → own_from sap l.own ≡ q → acknowledges l sap ≡ acknowledges_own l q
+  acks_is q e =
+      ap (λ cs. or_else (acknowledges_served l (conn_from sap cs)) (acknowledges_own l (own_from sap l.own))) none ∙ ap (acknowledges_own l) e
 
-  acks_elsewhere : (queue : List (List ℕ)) (s : ℕ) → (s == client_sap) ≡ false → acknowledges (client_open l n queue units) s ≡ None
-  acks_elsewhere queue s e =
-      ap (λ b. acknowledges_own (client_open l n queue units) (if b then Some (own_at queue) else None)) (flip s e)
+  -- one that is over, and one that is asked for, give nothing
+  informs_over : (o : OwnState) → is_there o.is ≡ false → informs_open l o o.is ≡ None
+  informs_over o h = grind arith
 
-  client_gave : (queue : List (List ℕ)) → gave silent (client_open l n queue units)
-      ≡ or_else (informs silent (client_open l n queue units) client_sap) (acknowledges (client_open l n queue units) client_sap)
-  client_gave queue =
-      ap (λ o. or_else o (first_of_all l.last (acknowledges (client_open l n queue units))))
-      (found_at (informs silent (client_open l n queue units)) client_sap (elsewhere queue) (omega arith) l.last mark)
-      ∙ ap (λ o. or_else (informs silent (client_open l n queue units) client_sap) o)
-      (found_at (acknowledges (client_open l n queue units)) client_sap (acks_elsewhere queue) (omega arith) l.last mark)
+  acks_over : (o : OwnState) → is_there o.is ≡ false → acknowledges_open l o o.is ≡ None
+  acks_over o h = grind arith
 
-  abbrev ack_conn : List (List ℕ) → ℕ → ConnState
-  ack_conn queue vr = record (client_conn client_sap (client_acks n) queue) { vr = vr }
+  over_informs : (q : Option OwnState) → own_from sap l.own ≡ q → IsOver q → informs silent l sap ≡ None
+  over_informs None e h = informs_is None e
+  over_informs (Some o) e h = informs_is (Some o) e ∙ informs_over o h.0
 
-  pub client_unit : (u : List ℕ) (queue : List (List ℕ)) → gave silent (client_open l n (u ∷ queue) units)
-      ≡ Some (record { llc = client_open (marked l) (asks n u) queue units; part = asked_part n u })
-  client_unit u queue =
-      client_gave (u ∷ queue)
-      ∙ ap (λ vr. Some (record { llc = asking_end (marked l) (record (client_conn client_sap (asks n u) queue) { vr = vr }) units; part = asked_part n u }))
-      (sym (again (n.told_sa + length n.told)))
+  over_acks : (q : Option OwnState) → own_from sap l.own ≡ q → IsOver q → acknowledges l sap ≡ None
+  over_acks None e h = acks_is None e
+  over_acks (Some o) e h = acks_is (Some o) e ∙ acks_over o h.0
 
-  pub client_ack : (v : List ℕ) (vs : List (List ℕ)) → n.told ≡ v ∷ vs → gave silent (client_open l n [] units)
-      ≡ Some (record { llc = client_open (marked l) (client_acks n) [] units; part = Rr server_sap client_sap ((n.told_sa + length n.told) % modulus) })
-  client_ack v vs e =
-      client_gave []
-      ∙ subst (λ b. or_else (informs silent (asking_end l (record (client_conn client_sap n []) { owed = b }) units) client_sap)
-      (acknowledges (asking_end l (record (client_conn client_sap n []) { owed = b }) units) client_sap)
-      ≡ Some (record { llc = asking_end (marked l) (record (client_conn client_sap (client_acks n) []) { vr = (n.told_sa + length n.told) % modulus }) units; part = Rr server_sap client_sap ((n.told_sa + length n.told) % modulus) }))
-      (sym (ap is_some_of e)) refl
-      ∙ ap (λ vr. Some (record { llc = asking_end (marked l) (record (client_conn client_sap (client_acks n) []) { vr = vr }) units; part = Rr server_sap client_sap ((n.told_sa + length n.told) % modulus) }))
-      (sym (again (n.told_sa + length n.told)))
+  pub apart_informs : IsOver (own_from sap l.own) → informs silent l sap ≡ None
+  apart_informs h = over_informs (own_from sap l.own) refl h
 
-  pub client_none : n.told ≡ [] → gave silent (client_open l n [] units) ≡ None
-  client_none e =
-      client_gave []
-      ∙ subst (λ b. or_else (informs silent (asking_end l (record (client_conn client_sap n []) { owed = b }) units) client_sap)
-      (acknowledges (asking_end l (record (client_conn client_sap n []) { owed = b }) units) client_sap) ≡ None) (sym (ap is_some_of e)) refl
+  pub apart_acks : IsOver (own_from sap l.own) → acknowledges l sap ≡ None
+  apart_acks h = over_acks (own_from sap l.own) refl h
+
+  pub waiting_informs : own_from sap l.own ≡ Some (asked_from sap server_sap) → informs silent l sap ≡ None
+  waiting_informs e = informs_is (Some (asked_from sap server_sap)) e
+
+  pub waiting_acks : own_from sap l.own ≡ Some (asked_from sap server_sap) → acknowledges l sap ≡ None
+  waiting_acks e = acks_is (Some (asked_from sap server_sap)) e
+
+  module _ (n : Numbers) (units : List (List ℕ)) where
+    pub client_unit : (u : List ℕ) (queue : List (List ℕ)) → own_from sap l.own ≡ Some (conn_at sap n (u ∷ queue) units)
+        → informs silent l sap ≡ Some (record { llc = client_gave l (conn_at sap (asks n u) queue units); part = asked_part sap n u })
+    client_unit u queue e =
+        informs_is (Some (conn_at sap n (u ∷ queue) units)) e
+        ∙ ap (λ vr. Some (record { llc = client_gave l (opened sap server_sap (record (client_conn sap (asks n u) queue) { vr = vr }) units); part = asked_part sap n u }))
+        (sym (again (n.told_sa + length n.told)))
+
+    pub client_quiet : own_from sap l.own ≡ Some (conn_at sap n [] units) → informs silent l sap ≡ None
+    client_quiet e = informs_is (Some (conn_at sap n [] units)) e
+
+    pub client_ack : (queue : List (List ℕ)) → own_from sap l.own ≡ Some (conn_at sap n queue units) → (v : List ℕ) (vs : List (List ℕ)) → n.told ≡ v ∷ vs
+        → acknowledges l sap ≡ Some (record { llc = client_gave l (conn_at sap (client_acks n) queue units); part = client_ack_part sap n })
+    client_ack queue e v vs t =
+        acks_is (Some (conn_at sap n queue units)) e
+        ∙ subst (λ b. acknowledges_own l (Some (opened sap server_sap (record (client_conn sap n queue) { owed = b }) units))
+        ≡ Some (record { llc = client_gave l (opened sap server_sap (record (client_conn sap (client_acks n) queue) { vr = (n.told_sa + length n.told) % modulus }) units); part = client_ack_part sap n }))
+        (sym (ap is_some_of t)) refl
+        ∙ ap (λ vr. Some (record { llc = client_gave l (opened sap server_sap (record (client_conn sap (client_acks n) queue) { vr = vr }) units); part = client_ack_part sap n }))
+        (sym (again (n.told_sa + length n.told)))
+
+    pub client_settled : (queue : List (List ℕ)) → own_from sap l.own ≡ Some (conn_at sap n queue units) → n.told ≡ [] → acknowledges l sap ≡ None
+    client_settled queue e t =
+        acks_is (Some (conn_at sap n queue units)) e
+        ∙ subst (λ b. acknowledges_own l (Some (opened sap server_sap (record (client_conn sap n queue) { owed = b }) units)) ≡ None) (sym (ap is_some_of t)) refl
 
 -- numbers modulo 16
 pub right : (a k : ℕ) → a < 16 → k ≤ 15 → ((a + k) % 16 + 16 - a) % 16 ≡ k
@@ -128,11 +146,13 @@ some_more [] u = refl
 some_more (x ∷ us) u = refl
 
 -- the server takes
-module _ {S : Type 0} (m : Serving S) (p : LlcState S) (n : Numbers) (s : S) (sa : n.told_sa < 16) (few : length n.told ≤ 15) where
+module _ {S : Type 0} (m : Serving S) (p : LlcState S) (sap : ℕ) (n : Numbers) (there : conn_from sap p.served ≡ Some (server_conn sap n))
+    (sa : n.told_sa < 16) (few : length n.told ≤ 15) where
   pub server_takes : (u : List ℕ) → length u ≤ n.server_miu
-      → steps_part m (serving_end p (server_conn client_sap n) s) (asked_part n u) ≡ serving_end p (server_conn client_sap (asks n u)) (m.brought s client_sap u)
+      → steps_part m p (asked_part sap n u) ≡ server_took p (server_conn sap (asks n u)) (m.brought p.service sap u)
   server_takes u fits =
-      rw (
+      ap (λ q. numbered m p (λ c. takes c (asked_part sap n u)) server_sap sap (served_holder server_sap q (own_holder sap (own_from server_sap p.own)))) there
+      ∙ rw (
         not_lt n.server_miu (length u) fits,
         right n.told_sa (length n.told) sa few,
         not_lt (length n.told) (length n.told) (omega arith),
@@ -143,21 +163,24 @@ module _ {S : Type 0} (m : Serving S) (p : LlcState S) (n : Numbers) (s : S) (sa
         some_more n.asked u,
       ) refl
 
-  pub server_hears : steps_part m (serving_end p (server_conn client_sap n) s) (Rr server_sap client_sap ((n.told_sa + length n.told) % modulus))
-      ≡ serving_end p (server_conn client_sap (client_acks n)) s
+  pub server_hears : steps_part m p (client_ack_part sap n) ≡ server_took p (server_conn sap (client_acks n)) p.service
   server_hears =
-      rw (
+      ap (λ q. numbered m p (λ c. takes c (client_ack_part sap n)) server_sap sap (served_holder server_sap q (own_holder sap (own_from server_sap p.own)))) there
+      ∙ rw (
         right n.told_sa (length n.told) sa few,
         not_lt (length n.told) (length n.told) (omega arith),
         drop_all n.told,
       ) refl
 
 -- the client takes
-module _ (l : EndState) (n : Numbers) (units : List (List ℕ)) (sa : n.asked_sa < 16) (few : length n.asked ≤ 15) where
-  pub client_takes : (queue : List (List ℕ)) (v : List ℕ) → length v ≤ n.client_miu
-      → steps_part silent (asking_end l (client_conn client_sap n queue) units) (told_part n v) ≡ asking_end l (client_conn client_sap (tells n v) queue) (units ++ v ∷ [])
-  client_takes queue v fits =
-      rw (
+module _ (l : EndState) (none : l.served ≡ []) (sap : ℕ) (n : Numbers) (queue units : List (List ℕ)) (there : own_from sap l.own ≡ Some (conn_at sap n queue units))
+    (sa : n.asked_sa < 16) (few : length n.asked ≤ 15) where
+  pub client_takes : (v : List ℕ) → length v ≤ n.client_miu
+      → steps_part silent l (told_part sap n v) ≡ client_took l (conn_at sap (tells n v) queue (units ++ v ∷ []))
+  client_takes v fits =
+      ap (λ cs. numbered silent l (λ c. takes c (told_part sap n v)) sap server_sap (served_holder sap (conn_from server_sap cs) (own_holder server_sap (own_from sap l.own)))) none
+      ∙ ap (λ q. numbered silent l (λ c. takes c (told_part sap n v)) sap server_sap (own_holder server_sap q)) there
+      ∙ rw (
         not_lt n.client_miu (length v) fits,
         right n.asked_sa (length n.asked) sa few,
         not_lt (length n.asked) (length n.asked) (omega arith),
@@ -168,65 +191,71 @@ module _ (l : EndState) (n : Numbers) (units : List (List ℕ)) (sa : n.asked_sa
         some_more n.told v,
       ) refl
 
-  pub client_hears : (queue : List (List ℕ)) → steps_part silent (asking_end l (client_conn client_sap n queue) units) (Rr client_sap server_sap ((n.asked_sa + length n.asked) % modulus))
-      ≡ asking_end l (client_conn client_sap (server_acks n) queue) units
-  client_hears queue =
-      rw (
+  pub client_hears : steps_part silent l (server_ack_part sap n) ≡ client_took l (conn_at sap (server_acks n) queue units)
+  client_hears =
+      ap (λ cs. numbered silent l (λ c. takes c (server_ack_part sap n)) sap server_sap (served_holder sap (conn_from server_sap cs) (own_holder server_sap (own_from sap l.own)))) none
+      ∙ ap (λ q. numbered silent l (λ c. takes c (server_ack_part sap n)) sap server_sap (own_holder server_sap q)) there
+      ∙ rw (
         right n.asked_sa (length n.asked) sa few,
         not_lt (length n.asked) (length n.asked) (omega arith),
         drop_all n.asked,
       ) refl
 
 -- the server gives
-module _ {S : Type 0} (m : Serving S) (p : LlcState S) (n : Numbers) (s : S) (mark : IfSome p.last IsSap) where
-  abbrev peer : LlcState S
-  peer = serving_end p (server_conn client_sap n) s
+module _ {S : Type 0} (m : Serving S) (p : LlcState S) (none : p.own ≡ []) (sap : ℕ) where
+  own_none : own_from sap p.own ≡ None
+  own_none = ap (own_from sap) none
 
-  served_elsewhere : (e : ℕ) → (e == client_sap) ≡ false → informs m peer e ≡ None
-  served_elsewhere e t = ap (λ b. or_else (informs_served m peer (if b then Some (server_conn client_sap n) else None)) None) (flip e t)
+  pub bare_informs : conn_from sap p.served ≡ None → informs m p sap ≡ None
+  bare_informs e = ap (λ q. or_else (informs_served m p q) (informs_own p (own_from sap p.own))) e ∙ ap (informs_own p) own_none
 
-  served_acks_elsewhere : (e : ℕ) → (e == client_sap) ≡ false → acknowledges peer e ≡ None
-  served_acks_elsewhere e t = ap (λ b. or_else (acknowledges_served peer (if b then Some (server_conn client_sap n) else None)) None) (flip e t)
+  pub bare_acks : conn_from sap p.served ≡ None → acknowledges p sap ≡ None
+  bare_acks e = ap (λ q. or_else (acknowledges_served p q) (acknowledges_own p (own_from sap p.own))) e ∙ ap (acknowledges_own p) own_none
 
-  server_gave : gave m peer ≡ or_else (informs m peer client_sap) (acknowledges peer client_sap)
-  server_gave =
-      ap (λ o. or_else o (first_of_all p.last (acknowledges peer))) (found_at (informs m peer) client_sap served_elsewhere (omega arith) p.last mark)
-      ∙ ap (λ o. or_else (informs m peer client_sap) o) (found_at (acknowledges peer) client_sap served_acks_elsewhere (omega arith) p.last mark)
+  module _ (n : Numbers) (there : conn_from sap p.served ≡ Some (server_conn sap n)) where
+    on_it : informs m p sap ≡ or_else (informs_served m p (Some (server_conn sap n))) None
+    on_it =
+        ap (λ q. or_else (informs_served m p q) (informs_own p (own_from sap p.own))) there
+        ∙ ap (λ q. or_else (informs_served m p (Some (server_conn sap n))) (informs_own p q)) own_none
 
-  pub server_unit : (v : List ℕ) → m.due s client_sap n.client_miu ≡ Some v → nat_lt (length n.told + 0) n.client_window ≡ true
-      → gave m peer ≡ Some (record { llc = serving_end (marked p) (server_conn client_sap (tells n v)) (m.sent s client_sap n.client_miu); part = told_part n v })
-  server_unit v e room =
-      server_gave
-      ∙ rw (room, e) refl
-      ∙ ap (λ vr. Some (record { llc = serving_end (marked p) (record (server_conn client_sap (tells n v)) { vr = vr }) (m.sent s client_sap n.client_miu); part = told_part n v }))
-      (sym (again (n.asked_sa + length n.asked)))
+    acks_on_it : acknowledges p sap ≡ or_else (acknowledges_served p (Some (server_conn sap n))) None
+    acks_on_it =
+        ap (λ q. or_else (acknowledges_served p q) (acknowledges_own p (own_from sap p.own))) there
+        ∙ ap (λ q. or_else (acknowledges_served p (Some (server_conn sap n))) (acknowledges_own p q)) own_none
 
-  -- nothing is to be sent, or the window is full
-  abbrev pub Rests : Type 0
-  Rests = (m.due s client_sap n.client_miu ≡ None) ⊎ (nat_lt (length n.told + 0) n.client_window ≡ false)
+    pub server_unit : (v : List ℕ) → m.due p.service sap n.client_miu ≡ Some v → nat_lt (length n.told + 0) n.client_window ≡ true
+        → informs m p sap ≡ Some (record { llc = server_gave p (server_conn sap (tells n v)) (m.sent p.service sap n.client_miu); part = told_part sap n v })
+    server_unit v e room =
+        on_it
+        ∙ rw (room, e) refl
+        ∙ ap (λ vr. Some (record { llc = server_gave p (record (server_conn sap (tells n v)) { vr = vr }) (m.sent p.service sap n.client_miu); part = told_part sap n v }))
+        (sym (again (n.asked_sa + length n.asked)))
 
-  rests_none : Rests → informs m peer client_sap ≡ None
-  rests_none (inl e) = go (nat_lt (length n.told + 0) n.client_window) (ap (λ o. sends m peer (server_conn client_sap n) o) e)
-    where
-      go : (b : Bool) → sends m peer (server_conn client_sap n) (m.due s client_sap n.client_miu) ≡ None
-          → or_else (if b then sends m peer (server_conn client_sap n) (m.due s client_sap n.client_miu) else None) None ≡ None
-      go true k = ap (λ o. or_else o None) k
-      go false k = refl
-  rests_none (inr e) = ap (λ b. or_else (if b then sends m peer (server_conn client_sap n) (m.due s client_sap n.client_miu) else None) None) e
+    -- nothing is to be sent, or the window is full
+    abbrev pub Rests : Type 0
+    Rests = (m.due p.service sap n.client_miu ≡ None) ⊎ (nat_lt (length n.told + 0) n.client_window ≡ false)
 
-  pub server_ack : Rests → (u : List ℕ) (us : List (List ℕ)) → n.asked ≡ u ∷ us → gave m peer
-      ≡ Some (record { llc = serving_end (marked p) (server_conn client_sap (server_acks n)) s; part = Rr client_sap server_sap ((n.asked_sa + length n.asked) % modulus) })
-  server_ack r u us e =
-      server_gave
-      ∙ ap (λ o. or_else o (acknowledges peer client_sap)) (rests_none r)
-      ∙ subst (λ b. acknowledges (serving_end p (record (server_conn client_sap n) { owed = b }) s) client_sap
-      ≡ Some (record { llc = serving_end (marked p) (record (server_conn client_sap (server_acks n)) { vr = (n.asked_sa + length n.asked) % modulus }) s; part = Rr client_sap server_sap ((n.asked_sa + length n.asked) % modulus) }))
-      (sym (ap is_some_of e)) refl
-      ∙ ap (λ vr. Some (record { llc = serving_end (marked p) (record (server_conn client_sap (server_acks n)) { vr = vr }) s; part = Rr client_sap server_sap ((n.asked_sa + length n.asked) % modulus) }))
-      (sym (again (n.asked_sa + length n.asked)))
+    pub server_quiet : Rests → informs m p sap ≡ None
+    server_quiet (inl e) = on_it ∙ go (nat_lt (length n.told + 0) n.client_window) (ap (λ o. sends m p (server_conn sap n) o) e)
+      where
+        go : (b : Bool) → sends m p (server_conn sap n) (m.due p.service sap n.client_miu) ≡ None
+            → or_else (if b then sends m p (server_conn sap n) (m.due p.service sap n.client_miu) else None) None ≡ None
+        go true k = ap (λ o. or_else o None) k
+        go false k = refl
+    server_quiet (inr e) =
+        on_it ∙ ap (λ b. or_else (if b then sends m p (server_conn sap n) (m.due p.service sap n.client_miu) else None) None) e
 
-  pub server_none : Rests → n.asked ≡ [] → gave m peer ≡ None
-  server_none r e =
-      server_gave
-      ∙ ap (λ o. or_else o (acknowledges peer client_sap)) (rests_none r)
-      ∙ subst (λ b. acknowledges (serving_end p (record (server_conn client_sap n) { owed = b }) s) client_sap ≡ None) (sym (ap is_some_of e)) refl
+    pub server_ack : (u : List ℕ) (us : List (List ℕ)) → n.asked ≡ u ∷ us
+        → acknowledges p sap ≡ Some (record { llc = server_gave p (server_conn sap (server_acks n)) p.service; part = server_ack_part sap n })
+    server_ack u us e =
+        acks_on_it
+        ∙ subst (λ b. or_else (acknowledges_served p (Some (record (server_conn sap n) { owed = b }))) None
+        ≡ Some (record { llc = server_gave p (record (server_conn sap (server_acks n)) { vr = (n.asked_sa + length n.asked) % modulus }) p.service; part = server_ack_part sap n }))
+        (sym (ap is_some_of e)) refl
+        ∙ ap (λ vr. Some (record { llc = server_gave p (record (server_conn sap (server_acks n)) { vr = vr }) p.service; part = server_ack_part sap n }))
+        (sym (again (n.asked_sa + length n.asked)))
+
+    pub server_settled : n.asked ≡ [] → acknowledges p sap ≡ None
+    server_settled e =
+        acks_on_it
+        ∙ subst (λ b. or_else (acknowledges_served p (Some (record (server_conn sap n) { owed = b }))) None ≡ None) (sym (ap is_some_of e)) refl

@@ -1,5 +1,5 @@
 -- An end with this project's server is a peer, and accords with its client whatever its table for get is.
-use Rattle.std.proofs.Common.{◌⊎◌, ℕ, List, [], refl, sym, ap, inl, inr, append-nil}
+use Rattle.std.proofs.Common.{◌⊎◌, ℕ, List, [], refl, sym, inl, inr, append-nil}
 use Rattle.nfc_base.specs.Choosing.{first_number}
 use Rattle.llcp_link.specs.Taking.{brought, steps, taken_from}
 use Rattle.llcp_link.specs.Answering.{Stops}
@@ -42,24 +42,18 @@ offers_accord client peer table a = record {
   client_fair = a.client_fair;
   peer_fair = record { miu = a.peer_fair.miu; window = a.peer_fair.window; last = a.peer_fair.last };
   peer_serving = record { seats = a.peer_serving.seats; bound = a.peer_serving.bound; far_miu = a.peer_serving.far_miu };
-  stands = go a.stands;
+  calm = record {
+    client_readable = a.calm.client_readable;
+    client_queue = a.calm.client_queue;
+    client_served = a.calm.client_served;
+    peer_readable = a.calm.peer_readable;
+    peer_queue = a.calm.peer_queue;
+    peer_own = a.calm.peer_own;
+    no_other = a.calm.no_other;
+  };
+  stands = λ sap. go sap (a.stands sap);
 }
   where
-    go : (IsApart client peer ⊎ IsJoined client peer) → IsApart client (offering peer table) ⊎ IsJoined client (offering peer table)
-    go (inl h) = inl (record {
-      client_readable = h.client_readable;
-      client_queue = h.client_queue;
-      client_served = h.client_served;
-      client_own = h.client_own;
-      peer_readable = h.peer_readable;
-      peer_queue = h.peer_queue;
-      peer_served = h.peer_served;
-      peer_own = h.peer_own;
-    })
-    go (inr h) = inr (record {
-      numbers = h.numbers;
-      paired = h.paired;
-      client_is = h.client_is;
-      peer_is = ap (λ (z : PeerState). record z { service = record peer.service { table = table } }) h.peer_is;
-      session = h.session;
-    })
+    go : (sap : ℕ) → (IsApart sap client peer ⊎ IsJoined sap client peer) → IsApart sap client (offering peer table) ⊎ IsJoined sap client (offering peer table)
+    go sap (inl h) = inl (record { own = h.own; served = h.served })
+    go sap (inr h) = inr (record { range = h.range; numbers = h.numbers; paired = h.paired; own = h.own; served = h.served; session = h.session })

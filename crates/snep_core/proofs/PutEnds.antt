@@ -10,11 +10,13 @@ use Rattle.snep_core.specs.Accord.{Accords, AddsAtMost, IsPeer, IsTaken, PeerSta
 use Rattle.snep_core.specs.Calling.{RequestFails, Talks, fault_of, refused_by}
 use Rattle.snep_core.specs.Jobs.{Done, Over, Refused}
 use Rattle.snep_core.specs.Talk.{EndState, Ends, Puts, alone, begins, client_sap}
+use Rattle.snep_core.proofs.Ends.{sizes_of}
 use Rattle.snep_core.proofs.PutPhases.{ask, is_read, put_outcome}
-use Rattle.snep_core.proofs.RequestEnds.{Ended, Failed, Fate, request_ended, request_failed}
+use Rattle.snep_core.proofs.RequestEnds.{Ended, Failed, Fate, first_range, request_ended, request_failed}
 use Rattle.snep_core.proofs.RequestPhases.{IsRead, Outcome}
+use Rattle.snep_core.proofs.Sides.{Sizes}
 
-module _ (m : List ℕ) (p : PeerState) (short : length m < 2 ^ 32) where
+module _ (m : List ℕ) (p : PeerState) (short : length m < 2 ^ 32) (z : Sizes) where
   abbrev read : IsRead p.service.limit (ask m)
   read = is_read p.service.limit m short
 
@@ -22,23 +24,23 @@ module _ (m : List ℕ) (p : PeerState) (short : length m < 2 ^ 32) where
   outcome = put_outcome client_sap p.service.limit p.service.table m p.service.accepted
 
   module _ (l : EndState) (q : PeerState) where
-    taken_at : Ended (ask m) p read outcome Done l q → IsTaken m p l q
+    taken_at : Ended client_sap first_range (ask m) p read outcome z Done l q → IsTaken client_sap m p l q
     taken_at h = go h.fate
       where
-        go : Fate (ask m) p read outcome Done q → IsTaken m p l q
+        go : Fate client_sap first_range (ask m) p read outcome z Done q → IsTaken client_sap m p l q
         go (inl (e, within, accepted)) = record { within = within; accepted = accepted; answered = h.answered }
         go (inr (e, beyond, accepted)) = absurd cc
 
-    refused_at : (r : Refusal) → Ended (ask m) p read outcome (Refused r) l q → PutFails m p (refused_by r) l q
+    refused_at : (r : Refusal) → Ended client_sap first_range (ask m) p read outcome z (Refused r) l q → PutFails client_sap m p (refused_by r) l q
     refused_at r h = go h.fate
       where
-        go : Fate (ask m) p read outcome (Refused r) q → PutFails m p (refused_by r) l q
+        go : Fate client_sap first_range (ask m) p read outcome z (Refused r) q → PutFails client_sap m p (refused_by r) l q
         go (inl (e, within, accepted)) = absurd cc
         go (inr (e, beyond, accepted)) =
             let same : r ≡ refusals.Reject = cc in
-            subst (λ w. PutFails m p (refused_by w) l q) (sym same) (record { beyond = beyond; accepted = accepted; answered = h.answered })
+            subst (λ w. PutFails client_sap m p (refused_by w) l q) (sym same) (record { beyond = beyond; accepted = accepted; answered = h.answered })
 
-    broken_at : (c : EndCause) → AddsAtMost m p q → PutFails m p (fault_of c) l q
+    broken_at : (c : EndCause) → AddsAtMost client_sap m p q → PutFails client_sap m p (fault_of c) l q
     broken_at cause.FieldLost h = h
     broken_at cause.SixBad h = h
     broken_at cause.Protocol h = h
@@ -50,19 +52,22 @@ module _ {C A : Type 0} (seen : C → CarrierView) (swaps : C → List ℕ → L
   short : length m < 2 ^ 32
   short = omega arith
 
+  abbrev z_ : Sizes
+  z_ = sizes_of client (view far)
+
   -- it was told to be taken
   pub put_taken : (new : EndState) (now : C) (after : A) → Talks seen swaps steps stops numbers (begins client (Puts m)) link far (Ends (alone (Over Done)) new) now after
-      → IsTaken m (view far) new (view after)
+      → IsTaken client_sap m (view far) new (view after)
   put_taken new now after t =
-      taken_at m (view far) short new (view after)
-      (request_ended seen swaps steps stops view peer client link far a numbers (ask m) (read m (view far) short) (outcome m (view far) short) Done new now after t)
+      taken_at m (view far) short z_ new (view after)
+      (request_ended seen swaps steps stops view peer client link far a numbers (ask m) (read m (view far) short z_) (outcome m (view far) short z_) Done new now after t)
 
   -- it failed
   pub put_fails : (e : SnepFault) (new : EndState) (now : C) (after : A) → RequestFails seen swaps steps stops numbers (begins client (Puts m)) link far e new now after
-      → PutFails m (view far) e new (view after)
+      → PutFails client_sap m (view far) e new (view after)
   put_fails e new now after h =
-      go (request_failed seen swaps steps stops view peer client link far a numbers (ask m) (read m (view far) short) (outcome m (view far) short) e new now after h)
+      go (request_failed seen swaps steps stops view peer client link far a numbers (ask m) (read m (view far) short z_) (outcome m (view far) short z_) e new now after h)
     where
-      go : Failed seen swaps steps stops view peer client link far a numbers (ask m) (read m (view far) short) (outcome m (view far) short) e new after → PutFails m (view far) e new (view after)
-      go (inl (why, f, x)) = subst (λ z. PutFails m (view far) z new (view after)) (sym f) (refused_at m (view far) short new (view after) why x)
-      go (inr (why, f, x)) = subst (λ z. PutFails m (view far) z new (view after)) (sym f) (broken_at m (view far) short new (view after) why x)
+      go : Failed seen swaps steps stops view peer client link far a numbers (ask m) (read m (view far) short z_) (outcome m (view far) short z_) e new after → PutFails client_sap m (view far) e new (view after)
+      go (inl (why, f, x)) = subst (λ z. PutFails client_sap m (view far) z new (view after)) (sym f) (refused_at m (view far) short z_ new (view after) why x)
+      go (inr (why, f, x)) = subst (λ z. PutFails client_sap m (view far) z new (view after)) (sym f) (broken_at m (view far) short z_ new (view after) why x)

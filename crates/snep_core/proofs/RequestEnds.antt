@@ -1,23 +1,26 @@
 -- What a request comes to at a peer that its client accords with.
-use Rattle.std.proofs.Common.{◌≡◌, ◌<◌, ◌≤◌, ◌⊎◌, ℕ, List, [], ◌∷◌, Option, refl, sym, ◌∙◌, ap, subst, inl, inr}
+use Rattle.std.proofs.Common.{◌≡◌, ◌<◌, ◌≤◌, ◌⊎◌, ℕ, Bool, true, false, List, [], ◌∷◌, ◌++◌, Option, None, refl, sym, ◌∙◌, ap, subst, inl, inr, arith, append-nil}
 use Rattle.nfc_base.specs.declared.carrier.EndCause.{EndCause}
 use Rattle.nfc_base.specs.Links.{CarrierView, FarStep}
-use Rattle.llcp_link.specs.State.{Bound}
+use Rattle.llcp_pdu.specs.General.{IsMiu}
+use Rattle.llcp_link.specs.State.{Bound, conn_from, own_from}
 use Rattle.snep_core.specs.declared.fault.SnepFault.{SnepFault}
 use Rattle.snep_core.specs.declared.job.Refusal.{Refusal}
 use Rattle.snep_core.specs.declared.job.Refusal.TheVariants as refusals
-use Rattle.snep_core.specs.Accord.{Accords, IsAnswered, IsPeer, PeerState}
+use Rattle.snep_core.specs.Accord.{Accords, IsAnswered, IsClientSap, IsPeer, PeerState}
 use Rattle.snep_core.specs.Calling.{RequestFails, Talks, fault_of, gives_up, refused_by}
 use Rattle.snep_core.specs.Jobs.{Begins, Ending, Job, Over, Refused}
-use Rattle.snep_core.specs.Server.{Received}
+use Rattle.snep_core.specs.Payloads.{accepted_from}
+use Rattle.snep_core.specs.Server.{Received, received}
 use Rattle.snep_core.specs.Session.{Offer, fresh_session}
-use Rattle.snep_core.specs.Talk.{EndState, Ends, OnSap, Step, alone, begun, behind_first, client_sap, connected}
-use Rattle.snep_core.proofs.Conversations.{Conversation}
+use Rattle.snep_core.specs.Talk.{EndState, Ends, OnSap, Step, begun, behind_first, client_sap, connected, one_on}
+use Rattle.snep_core.proofs.Conversations.{Conversation, Converses, Starts}
 use Rattle.snep_core.proofs.Courses.{Course, breaks_off, came}
-use Rattle.snep_core.proofs.Ends.{accord_begins, accepted_is, accords_again, limit_is, names_are, request_course, table_is}
-use Rattle.snep_core.proofs.Meets.{Joined}
-use Rattle.snep_core.proofs.Opening.{Keeps, Meeting}
-use Rattle.snep_core.proofs.Turns.{rested_meets}
+use Rattle.snep_core.proofs.Ends.{accord_begins, accords_again, all_accepted, at_sap, request_course, sizes_of}
+use Rattle.snep_core.proofs.Meets.{is_in}
+use Rattle.snep_core.proofs.Places.{StandsBy, Talking}
+use Rattle.snep_core.proofs.Sides.{Sizes}
+use Rattle.snep_core.proofs.Turns.{M, Rests, few_at_first, plan_by}
 use Rattle.snep_core.proofs.RequestAnswers.{request_converses, request_starts}
 use Rattle.snep_core.proofs.RequestPhases.{Asked, Came, ContinueHeard, Continues, Holds, IsRead, Outcome, Phase, Refusing, Rejected, RefusalHeard, Sending, Submitted, Unsent, accepted_at, bytes_of, conversation}
 
@@ -25,8 +28,8 @@ ends_nowhere : (most : Option ℕ) (rest : List ℕ) (e : Ending) → Over e ≡
 ends_nowhere most [] e q = cc
 ends_nowhere most (b ∷ bs) e q = cc
 
-module _ (ask : Asked) (p : PeerState) (read : IsRead p.service.limit ask) {end : Ending} {now : List Received}
-    (o : Outcome client_sap p.service.limit p.service.table ask p.service.accepted end now) where
+module _ (sap : ℕ) (range : IsClientSap sap) (ask : Asked) (p : PeerState) (read : IsRead p.service.limit ask) {end : Ending} {now : List Received}
+    (o : Outcome sap p.service.limit p.service.table ask p.service.accepted end now) (z : Sizes) where
   abbrev limit : ℕ
   limit = p.service.limit
 
@@ -40,17 +43,20 @@ module _ (ask : Asked) (p : PeerState) (read : IsRead p.service.limit ask) {end 
   old = p.service.accepted
 
   -- the request at this peer
-  abbrev conv : ℕ → ℕ → Conversation
+  abbrev pub conv : ℕ → ℕ → Conversation
   conv miu size = conversation miu limit table ask old (o.later size)
 
-  keeps : Keeps limit table names conv ask.most (bytes_of ask) old
-  keeps = record {
-    laws = λ miu size range fits. request_converses client_sap miu size limit table ask old (o.later size) (o.converses miu size range fits) (o.whole miu size) range fits read;
-    starts = λ miu size. request_starts client_sap miu limit table ask old (o.later size);
-  }
+  pub laws : (miu size : ℕ) → IsMiu miu → IsMiu size → Converses sap limit table (conv miu size) miu size
+  laws miu size range fits = request_converses sap miu size limit table ask old (o.later size) (o.converses miu size range fits) (o.whole miu size) range fits read
+
+  pub starts : (miu size : ℕ) → Starts sap limit table (conv miu size) (Begins ask.most (bytes_of ask)) old
+  starts miu size = request_starts sap miu limit table ask old (o.later size)
 
   abbrev Asking : Job → EndState → PeerState → Type 0
-  Asking job l q = Meeting limit table names conv ask.most (bytes_of ask) old job l q
+  Asking job l q = M limit table names old z sap conv ask.most (bytes_of ask) range laws job l q
+
+  abbrev pub Rests_ : Job → EndState → PeerState → Type 0
+  Rests_ job l q = Rests limit table names old z sap conv ask.most (bytes_of ask) range laws job l q
 
   -- what is accepted at its end is, and it is within the limit; or nothing was accepted
   abbrev pub AddsSome : List Received → Type 0
@@ -74,10 +80,40 @@ module _ (ask : Asked) (p : PeerState) (read : IsRead p.service.limit ask) {end 
     at_phase Rejected h = inl refl
     at_phase (Came ph) h = inr (o.adds size ph, o.within size ph h)
 
+    now_is : now ≡ old ++ received sap (o.whole miu size).accepts
+    now_is = sym (o.adds size (o.whole miu size).at) ∙ (o.whole miu size).accepted_is
+
+  -- what stands at the job's SAP
+  abbrev By : Job → Bool → Bool → EndState → PeerState → Type 0
+  By job a w l q = StandsBy limit table old z sap (plan_by limit table names old z sap conv ask.most (bytes_of ask) range laws true) job a w (own_from sap l.own) (conn_from sap q.served) q.service
+
+  abbrev Talks_ : Job → EndState → PeerState → Type 0
+  Talks_ job l q = Talking limit table old z sap (plan_by limit table names old z sap conv ask.most (bytes_of ask) range laws true) job (own_from sap l.own) (conn_from sap q.served) q.service
+
+  module _ (job : Job) (l : EndState) (q : PeerState) (h : Asking job l q) where
+    nothing_more : accepted_from sap q.service.accepted ≡ accepted_from sap old → q.service.accepted ≡ old
+    nothing_more e =
+        all_accepted limit table names old z sap conv ask.most (bytes_of ask) range laws job l q h None (e ∙ ap (accepted_from sap) (sym (append-nil old))) ∙ append-nil old
+
+    and_now : (miu size : ℕ) → accepted_from sap q.service.accepted ≡ accepted_from sap now → q.service.accepted ≡ now
+    and_now miu size e =
+        all_accepted limit table names old z sap conv ask.most (bytes_of ask) range laws job l q h (o.whole miu size).accepts (e ∙ ap (accepted_from sap) (now_is miu size)) ∙ sym (now_is miu size)
+
+    by_phase : (t : Talks_ job l q) → AddsSome ((conv t.n.server_miu t.n.client_miu).accepted_at t.phase) → AddsSome q.service.accepted
+    by_phase t (inl e) = inl (nothing_more (t.serves.got ∙ ap (accepted_from sap) e))
+    by_phase t (inr (e, w)) = inr (and_now t.n.server_miu t.n.client_miu (t.serves.got ∙ ap (accepted_from sap) e), w)
+
+    adds_by : (a w : Bool) → By job a w l q → AddsSome q.service.accepted
+    adds_by true w y = inl (nothing_more y.got)
+    adds_by false true y = inl (nothing_more y.serves.got)
+    adds_by false false (inl y) = inl (nothing_more y.got)
+    adds_by false false (inr t) = by_phase t (at_phase t.n.server_miu t.n.client_miu t.phase t.holds)
+
+    stands_ : By job (is_in sap h.asked) (is_in sap h.awaited) l q
+    stands_ = at_sap limit table names old z sap conv ask.most (bytes_of ask) range laws job l q h
+
   adds_some : (job : Job) (l : EndState) (q : PeerState) → Asking job l q → AddsSome q.service.accepted
-  adds_some job l q (inl h) = inl (ap (λ (z : PeerState). z.service.accepted) h.p_is ∙ h.got)
-  adds_some job l q (inr (inl h)) = inl (ap (λ (z : PeerState). z.service.accepted) h.p_is ∙ h.serves.got)
-  adds_some job l q (inr (inr h)) = subst AddsSome (sym (accepted_is limit table names conv h)) (at_phase h.n.server_miu h.n.client_miu h.phase h.holds)
+  adds_some job l q h = adds_by job l q h (is_in sap h.asked) (is_in sap h.awaited) (stands_ job l q h)
 
   -- it came to its outcome within the limit, or was rejected above it
   abbrev pub Fate : Ending → PeerState → Type 0
@@ -88,19 +124,19 @@ module _ (ask : Asked) (p : PeerState) (read : IsRead p.service.limit ask) {end 
     pub fate : Fate e q
     pub answered : IsAnswered p l q
 
-  module _ (e : Ending) (l : EndState) (q : PeerState) (h : Joined limit table names conv (Over e) l q) where
+  module _ (e : Ending) (l : EndState) (q : PeerState) (h : Asking (Over e) l q) (free : (is_in sap h.asked ≡ false) × (is_in sap h.awaited ≡ false)) (t : Talks_ (Over e) l q) where
     abbrev c : Conversation
-    c = conv h.n.server_miu h.n.client_miu
+    c = conv t.n.server_miu t.n.client_miu
 
-    answered_at : c.queue_at h.phase ≡ [] → c.units_at h.phase ≡ [] → c.session_at h.phase ≡ fresh_session → IsAnswered p l q
+    answered_at : c.queue_at t.phase ≡ [] → c.units_at t.phase ≡ [] → c.session_at t.phase ≡ fresh_session → IsAnswered p l q
     answered_at i j k = record {
-      limit = limit_is limit table names conv h;
-      table = table_is limit table names conv h;
-      bound = names_are limit table names conv h;
-      accords = accords_again limit table names conv h i j k;
+      limit = h.sides.kept.most;
+      table = h.sides.kept.offers;
+      bound = h.sides.reached.0;
+      accords = accords_again limit table names old z sap conv ask.most (bytes_of ask) range laws (Over e) l q h free t i j k;
     }
 
-    ended_at : (ph : c.Phase) → h.phase ≡ ph → Over e ≡ c.job_at ph → c.Holds ph → Ended e l q
+    ended_at : (ph : c.Phase) → t.phase ≡ ph → Over e ≡ c.job_at ph → c.Holds ph → Ended e l q
     ended_at Unsent i j k = absurd cc
     ended_at Submitted i j k = absurd (ends_nowhere ask.most _ e j)
     ended_at Refusing i j k = absurd (ends_nowhere ask.most _ e j)
@@ -109,64 +145,97 @@ module _ (ask : Asked) (p : PeerState) (read : IsRead p.service.limit ask) {end 
     ended_at ContinueHeard i j k = absurd (ends_nowhere ask.most _ e j)
     ended_at (Sending info queue rest) i j k = absurd cc
     ended_at Rejected i j k = record {
-      fate = inr ((let z : e ≡ Refused refusals.Reject = cc in z), k, accepted_is limit table names conv h ∙ ap c.accepted_at i);
+      fate = inr ((let w : e ≡ Refused refusals.Reject = cc in w), k, nothing_more (Over e) l q h (t.serves.got ∙ ap (λ w. accepted_from sap (c.accepted_at w)) i));
       answered = answered_at (ap c.queue_at i) (ap c.units_at i) (ap c.session_at i);
     }
     ended_at (Came ph) i j k =
-        let z = o.ends h.n.client_miu ph e j in record {
-          fate = inl (z.end_is, o.within h.n.client_miu ph k, accepted_is limit table names conv h ∙ ap c.accepted_at i ∙ o.adds h.n.client_miu ph);
-          answered = answered_at (ap c.queue_at i ∙ z.queue_is) (ap c.units_at i ∙ z.units_is) (ap c.session_at i ∙ z.session_is);
+        let w = o.ends t.n.client_miu ph e j in record {
+          fate = inl (
+            w.end_is,
+            o.within t.n.client_miu ph k,
+            and_now (Over e) l q h t.n.server_miu t.n.client_miu (t.serves.got ∙ ap (λ v. accepted_from sap (c.accepted_at v)) i ∙ ap (accepted_from sap) (o.adds t.n.client_miu ph)),
+          );
+          answered = answered_at (ap c.queue_at i ∙ w.queue_is) (ap c.units_at i ∙ w.units_is) (ap c.session_at i ∙ w.session_is);
         }
 
-  ended : (e : Ending) (l : EndState) (q : PeerState) → Asking (Over e) l q → Ended e l q
-  ended e l q (inl h) = absurd (let z = h.job_is in cc)
-  ended e l q (inr (inl h)) = absurd (let z = h.job_is in cc)
-  ended e l q (inr (inr h)) = ended_at e l q h h.phase refl h.job_is h.holds
+  pub ended : (e : Ending) (l : EndState) (q : PeerState) → Rests_ (Over e) l q → Ended e l q
+  ended e l q x = go (is_in sap x.meets.asked) (is_in sap x.meets.awaited) refl refl (stands_ (Over e) l q x.meets)
+    where
+      go : (a w : Bool) → is_in sap x.meets.asked ≡ a → is_in sap x.meets.awaited ≡ w → By (Over e) a w l q → Ended e l q
+      go true w ea ew y = absurd (let k = y.job_is in cc)
+      go false true ea ew y = absurd (let k = y.job_is in cc)
+      go false false ea ew (inl y) = absurd (let k = y.none in cc)
+      go false false ea ew (inr t) = ended_at e l q x.meets (ea, ew) t t.phase refl t.job_is t.holds
+
+-- the client's first SAP is one of its own
+pub first_range : IsClientSap client_sap
+first_range = (omega arith, omega arith)
 
 abbrev first_job : Job → List OnSap → Job
 first_job job [] = job
 first_job job (o ∷ os) = o.job
 
-alone_is : (x y : Job) → alone x ≡ alone y → x ≡ y
-alone_is x y e = ap (first_job x) e
+one_is : (sap : ℕ) (x y : Job) → one_on sap x ≡ one_on sap y → x ≡ y
+one_is sap x y e = ap (first_job x) e
 
 module _ {C A : Type 0} (seen : C → CarrierView) (swaps : C → List ℕ → List FarStep → C → Type 0) (steps : A → List ℕ → List ℕ → A → Type 0) (stops : A → List ℕ → A → Type 0)
     (view : A → PeerState) (peer : IsPeer steps stops view) (client : EndState) (link : C) (far : A) (a : Accords client (view far)) (numbers : List ℕ)
     (ask : Asked) (read : IsRead (view far).service.limit ask) {end : Ending} {added : List Received}
     (o : Outcome client_sap (view far).service.limit (view far).service.table ask (view far).service.accepted end added) where
+  abbrev sap : ℕ
+  sap = client_sap
+
+  abbrev range : IsClientSap client_sap
+  range = first_range
+
   abbrev peer_state : PeerState
   peer_state = view far
 
-  abbrev from : Step
-  from = begun (connected client client_sap) (alone (Begins ask.most (bytes_of ask)))
+  abbrev z_ : Sizes
+  z_ = sizes_of client peer_state
 
-  abbrev course : Course (AddsSome ask peer_state read o)
-  course = request_course peer_state.service.limit peer_state.service.table peer_state.bound (conv ask peer_state read o) ask.most (bytes_of ask) peer_state.service.accepted
-      (keeps ask peer_state read o) (AddsSome ask peer_state read o) (adds_some ask peer_state read o)
+  abbrev from : Step
+  from = begun (connected client sap) (one_on sap (Begins ask.most (bytes_of ask)))
+
+  abbrev Adds_ : List Received → Type 0
+  Adds_ accepted = AddsSome sap range ask peer_state read o z_ accepted
+
+  abbrev course : Course Adds_
+  course = request_course peer_state.service.limit peer_state.service.table peer_state.bound peer_state.service.accepted z_ sap (conv sap range ask peer_state read o z_) ask.most (bytes_of ask)
+      range (laws sap range ask peer_state read o z_) Adds_ (adds_some sap range ask peer_state read o z_)
 
   begins_so : course.At from peer_state
-  begins_so = (Begins ask.most (bytes_of ask), connected client client_sap, 0, refl, refl, accord_begins (conv ask peer_state read o) ask.most (bytes_of ask) client peer_state a (keeps ask peer_state read o))
+  begins_so = (
+    Begins ask.most (bytes_of ask),
+    connected client sap,
+    0,
+    refl,
+    refl,
+    accord_begins client peer_state a sap range (conv sap range ask peer_state read o z_) ask.most (bytes_of ask) (laws sap range ask peer_state read o z_) (starts sap range ask peer_state read o z_),
+    few_at_first peer_state.service.limit peer_state.service.table peer_state.bound peer_state.service.accepted z_ sap (conv sap range ask peer_state read o z_) ask.most (bytes_of ask)
+        range (laws sap range ask peer_state read o z_) (connected client sap) peer_state,
+  )
 
   came_to : (to : Step) (now : C) (after : A) → Talks seen swaps steps stops numbers from link far to now after → course.At to (view after)
-  came_to to now after t = came (AddsSome ask peer_state read o) course seen swaps steps stops view peer numbers from to link now far after begins_so t
+  came_to to now after t = came Adds_ course seen swaps steps stops view peer numbers from to link now far after begins_so t
 
   -- it was answered
-  pub request_ended : (e : Ending) (new : EndState) (now : C) (after : A) → Talks seen swaps steps stops numbers from link far (Ends (alone (Over e)) new) now after
-      → Ended ask peer_state read o e new (view after)
+  pub request_ended : (e : Ending) (new : EndState) (now : C) (after : A) → Talks seen swaps steps stops numbers from link far (Ends (one_on sap (Over e)) new) now after
+      → Ended sap range ask peer_state read o z_ e new (view after)
   request_ended e new now after t =
-      let z = came_to (Ends (alone (Over e)) new) now after t in
-      ended ask peer_state read o e new (view after) (subst (λ j. Asking ask peer_state read o j new (view after)) (sym (alone_is (Over e) z.0 z.1))
-      (rested_meets peer_state.service.limit peer_state.service.table peer_state.bound (conv ask peer_state read o) ask.most (bytes_of ask) peer_state.service.accepted (keeps ask peer_state read o) z.2))
+      let w = came_to (Ends (one_on sap (Over e)) new) now after t in
+      ended sap range ask peer_state read o z_ e new (view after)
+      (subst (λ j. Rests_ sap range ask peer_state read o z_ j new (view after)) (sym (one_is sap (Over e) w.0 w.1)) w.2)
 
   -- It was refused; or it broke off.
   abbrev pub Failed : SnepFault → EndState → A → Type 0
   Failed e new after =
-      ((why : Refusal) × (e ≡ refused_by why) × Ended ask peer_state read o (Refused why) new (view after))
-      ⊎ ((why : EndCause) × (e ≡ fault_of why) × AddsSome ask peer_state read o (view after).service.accepted)
+      ((why : Refusal) × (e ≡ refused_by why) × Ended sap range ask peer_state read o z_ (Refused why) new (view after))
+      ⊎ ((why : EndCause) × (e ≡ fault_of why) × Adds_ (view after).service.accepted)
 
   pub request_failed : (e : SnepFault) (new : EndState) (now : C) (after : A) → RequestFails seen swaps steps stops numbers from link far e new now after → Failed e new after
   request_failed e new now after (inl h) = inl (h.why, h.fault, request_ended (Refused h.why) new now after h.talks)
   request_failed e new now after (inr (inl (f, k, t))) = absurd (came_to (gives_up k new) now after t)
   request_failed e new now after (inr (inr b)) =
-      let k = breaks_off (AddsSome ask peer_state read o) course seen swaps steps stops view peer numbers from link far e new now after begins_so b in
+      let k = breaks_off Adds_ course seen swaps steps stops view peer numbers from link far e new now after begins_so b in
       inr (k.why, k.fault, k.added)

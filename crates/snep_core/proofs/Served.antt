@@ -2,13 +2,16 @@
 use Rattle.std.proofs.Common.{◌≡◌, ◌<◌, ℕ, zero, suc, List, [], ◌∷◌, ◌++◌, length, set, get_or, refl, sym, ◌∙◌, ap, subst, arith}
 use Rattle.std.proofs.lemmas.List.{length-set}
 use Rattle.snep_core.specs.Server.{Received, ServerState, brought_by, received, serving, session_of, with_session}
+use Rattle.snep_core.specs.Payloads.{accepted_from}
 use Rattle.snep_core.specs.Session.{Did, Offer, Sent, Session, did, fresh_session, sent}
+use Rattle.snep_core.proofs.SourcesTold.{received_same}
+use Rattle.snep_core.proofs.UnitPuts.{kept}
 
--- The server has this session for a SAP, and accepted these messages.
+-- The server has this session for a SAP, and accepted from it what is from it among these messages.
 pub record Serves (sap limit : ℕ) (table : List Offer) (s : ServerState) (x : Session) (accepted : List Received) : Type 0 where
   pub seats : sap < length s.sessions
   pub session : session_of s sap ≡ x
-  pub got : s.accepted ≡ accepted
+  pub got : accepted_from sap s.accepted ≡ accepted_from sap accepted
   pub most : s.limit ≡ limit
   pub offers : s.table ≡ table
 
@@ -31,7 +34,7 @@ module _ (sap limit : ℕ) (table : List Offer) (s : ServerState) (x : Session) 
       subst (λ z. Serves sap limit table (brought_by s sap z) d.session (accepted ++ received sap d.accepts)) (sym k) (record {
         seats = seats_put sap s d.session h.seats;
         session = session_put s.sessions sap d.session h.seats;
-        got = ap (λ z. z ++ received sap d.accepts) h.got;
+        got = received_same sap s.accepted d.accepts ∙ ap (λ z. z ++ kept d.accepts) h.got ∙ sym (received_same sap accepted d.accepts);
         most = h.most;
         offers = h.offers;
       })

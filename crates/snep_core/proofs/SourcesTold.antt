@@ -38,7 +38,7 @@ sent_gathers miu x = go x.going
     go (b ∷ bs) = refl
 
 -- what is accepted, by its source
-received_same : (c : ℕ) (rs : List Received) (m : Option (List ℕ)) → accepted_from c (rs ++ received c m) ≡ accepted_from c rs ++ kept m
+pub received_same : (c : ℕ) (rs : List Received) (m : Option (List ℕ)) → accepted_from c (rs ++ received c m) ≡ accepted_from c rs ++ kept m
 received_same c [] None = refl
 received_same c [] (Some m) = ap (λ b. if b then m ∷ [] else []) (is_self c)
 received_same c (r ∷ rs) m = go (r.source == c) (received_same c rs m)
@@ -49,7 +49,7 @@ received_same c (r ∷ rs) m = go (r.source == c) (received_same c rs m)
     go true h = ap (λ z. r.message ∷ z) h
     go false h = h
 
-received_other : (c d : ℕ) (rs : List Received) (m : Option (List ℕ)) → (d == c) ≡ false → accepted_from c (rs ++ received d m) ≡ accepted_from c rs
+pub received_other : (c d : ℕ) (rs : List Received) (m : Option (List ℕ)) → (d == c) ≡ false → accepted_from c (rs ++ received d m) ≡ accepted_from c rs
 received_other c d [] None e = refl
 received_other c d [] (Some m) e = ap (λ b. if b then m ∷ [] else []) e
 received_other c d (r ∷ rs) m e = ap (λ z. if r.source == c then r.message ∷ z else z) (received_other c d rs m e)

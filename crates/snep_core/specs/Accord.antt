@@ -1,11 +1,11 @@
 -- A far end that serves as this project's server does, and what a client's end and such a far end come to between
 -- calls.
-use Rattle.std.specs.Prelude.{◌≡◌, ◌<◌, ◌≤◌, ◌⊎◌, ℕ, ◌+◌, ◌%◌, Bool, true, false, List, [], ◌∷◌, ◌++◌, length, IfSome, Some, None}
+use Rattle.std.specs.Prelude.{◌≡◌, ◌<◌, ◌≤◌, ◌⊎◌, ℕ, zero, suc, ◌+◌, ◌%◌, Bool, true, false, List, [], ◌∷◌, ◌++◌, length, Option, IfSome, Some, None, is_some, if◌then◌else◌}
 use Rattle.nfc_base.specs.Choosing.{Choosing}
 use Rattle.llcp_pdu.specs.General.{IsMiu}
 use Rattle.llcp_pdu.specs.Wire.{least_miu}
 use Rattle.llcp_conn.specs.Conn.{ConnState, IsSap, IsWindow, modulus}
-use Rattle.llcp_link.specs.State.{LlcState, OwnState, restarted}
+use Rattle.llcp_link.specs.State.{LlcState, OwnState, conn_from, restarted}
 use Rattle.llcp_link.specs.Opened.{opened}
 use Rattle.llcp_link.specs.Asking.{is_there}
 use Rattle.llcp_link.specs.Names.{found, is_bound}
@@ -17,7 +17,7 @@ use Rattle.snep_core.specs.declared.fault.SnepFault.{SnepFault}
 use Rattle.snep_core.specs.declared.fault.SnepFault.TheVariants.{BadPeer, Excess, LinkEnded, Memory, NotFound, NotImplemented, Reject}
 use Rattle.snep_core.specs.Server.{Received, ServerState, serving, session_of}
 use Rattle.snep_core.specs.Session.{Offer, fresh_session, value_of}
-use Rattle.snep_core.specs.Talk.{EndState, client_sap, server_sap, silent}
+use Rattle.snep_core.specs.Talk.{EndState, client_sap, own_of, server_sap, silent}
 
 abbrev pub PeerState : Type 0
 PeerState = LlcState ServerState
@@ -108,42 +108,53 @@ pub record IsPaired (n : Numbers) (waiting : ℕ) : Type 0 where
   pub asked_sa : n.asked_sa < modulus
   pub told_sa : n.told_sa < modulus
 
--- the ends with this connection, and nothing else under way
-abbrev pub client_open : EndState → Numbers → List (List ℕ) → List (List ℕ) → EndState
-client_open l n queue units = record l {
-  readable = true;
-  queue = [];
-  served = [];
-  own = opened client_sap server_sap (client_conn client_sap n queue) units ∷ [];
-}
+-- The SAPs from which a client's connections are: eight of them.
+abbrev pub last_sap : ℕ
+last_sap = 39
 
-abbrev pub server_open : PeerState → Numbers → ServerState → PeerState
-server_open p n s = record p { readable = true; queue = []; served = server_conn client_sap n ∷ []; own = []; service = s }
+abbrev pub most_clients : ℕ
+most_clients = 8
 
--- the client has no connection, or one that is over, of which no unit is left
-abbrev pub AreOver : List OwnState → Type 0
-AreOver [] = Unit {0}
-AreOver (o ∷ []) = (o.here ≡ client_sap) × (is_there o.is ≡ false) × (o.units ≡ [])
-AreOver (o ∷ p ∷ os) = ⊥
+abbrev pub IsClientSap : ℕ → Type 0
+IsClientSap sap = (client_sap ≤ sap) × (sap ≤ last_sap)
 
--- nothing is under way, and there is no connection
-pub record IsApart (client : EndState) (peer : PeerState) : Type 0 where
+-- how many of so many SAPs, from one on, are so
+abbrev pub how_many : ℕ → ℕ → (ℕ → Bool) → ℕ
+how_many zero sap is_so = 0
+how_many (suc n) sap is_so = (if is_so sap then 1 else 0) + how_many n (sap + 1) is_so
+
+-- how many of a client's SAPs have one of these connections
+abbrev pub clients_in : List ConnState → ℕ
+clients_in conns = how_many most_clients client_sap (λ sap. is_some (conn_from sap conns))
+
+-- there is no connection from a SAP, or one that is over, of which no unit is left
+abbrev pub IsOver : Option OwnState → Type 0
+IsOver None = Unit {0}
+IsOver (Some o) = (is_there o.is ≡ false) × (o.units ≡ [])
+
+-- the ends have no connection from this SAP
+pub record IsApart (sap : ℕ) (client : EndState) (peer : PeerState) : Type 0 where
+  pub own : IsOver (own_of sap client)
+  pub served : conn_from sap peer.served ≡ None
+
+-- nothing is under way on the connection from this SAP, and the server awaits a request there
+pub record IsJoined (sap : ℕ) (client : EndState) (peer : PeerState) : Type 0 where
+  pub range : IsClientSap sap
+  pub numbers : Numbers
+  pub paired : IsPaired numbers 0
+  pub own : own_of sap client ≡ Some (opened sap server_sap (client_conn sap numbers []) [])
+  pub served : conn_from sap peer.served ≡ Some (server_conn sap numbers)
+  pub session : session_of peer.service sap ≡ fresh_session
+
+-- nothing else is under way at either end, and the peer has no connection but one for each of these SAPs at most
+pub record IsCalm (client : EndState) (peer : PeerState) : Type 0 where
   pub client_readable : client.readable ≡ true
   pub client_queue : client.queue ≡ []
   pub client_served : client.served ≡ []
-  pub client_own : AreOver client.own
   pub peer_readable : peer.readable ≡ true
   pub peer_queue : peer.queue ≡ []
-  pub peer_served : peer.served ≡ []
   pub peer_own : peer.own ≡ []
-
--- nothing is under way on the connection that there is, and the server awaits a request
-pub record IsJoined (client : EndState) (peer : PeerState) : Type 0 where
-  pub numbers : Numbers
-  pub paired : IsPaired numbers 0
-  pub client_is : client ≡ client_open client numbers [] []
-  pub peer_is : peer ≡ server_open peer numbers peer.service
-  pub session : session_of peer.service client_sap ≡ fresh_session
+  pub no_other : length peer.served ≡ clients_in peer.served
 
 -- an end's MIU, window and mark are in range
 pub record IsFair {S : Type 0} (l : LlcState S) : Type 0 where
@@ -151,19 +162,20 @@ pub record IsFair {S : Type 0} (l : LlcState S) : Type 0 where
   pub window : IsWindow l.window
   pub last : IfSome l.last IsSap
 
--- a peer has a session for the client, its server is bound to its SAP, and the client's MIU on the link is one that can
--- be said
+-- a peer has a session for each of a client's SAPs, its server is bound to its own, and the client's MIU on the link is
+-- one that can be said
 pub record IsServing (peer : PeerState) : Type 0 where
-  pub seats : client_sap < length peer.service.sessions
+  pub seats : last_sap < length peer.service.sessions
   pub bound : is_bound server_sap peer.bound ≡ true
   pub far_miu : least_miu ≤ peer.far_miu
 
--- What a client's end and a peer come to between calls.
+-- What a client's end and a peer come to between calls: of each SAP they are apart, or joined.
 pub record Accords (client : EndState) (peer : PeerState) : Type 0 where
   pub client_fair : IsFair client
   pub peer_fair : IsFair peer
   pub peer_serving : IsServing peer
-  pub stands : IsApart client peer ⊎ IsJoined client peer
+  pub calm : IsCalm client peer
+  pub stands : (sap : ℕ) → IsApart sap client peer ⊎ IsJoined sap client peer
 
 -- What is said of a call where its client's end and its far end are so: it holds of each view in which the far end is a
 -- peer, and with which the client accords.
@@ -186,9 +198,12 @@ pub record IsBegun (client : EndState) (peer : PeerState) : Type 0 where
   pub peer_window : IsWindow peer.window
   pub bound : is_bound server_sap peer.bound ≡ true
 
--- a message that a peer accepted from the client
+-- a message that a peer accepted from a SAP of the client, and from its first
+abbrev pub from_sap : ℕ → List ℕ → Received
+from_sap sap m = record { source = sap; message = m }
+
 abbrev pub from_client : List ℕ → Received
-from_client m = record { source = client_sap; message = m }
+from_client m = from_sap client_sap m
 
 -- A request that was answered: the peer's limit, its table for get and its names are as before, and client and peer
 -- accord again.
@@ -198,10 +213,10 @@ pub record IsAnswered (old : PeerState) (client : EndState) (new : PeerState) : 
   pub bound : new.bound ≡ old.bound
   pub accords : Accords client new
 
--- A put that was told to be taken: the peer accepted its message, once, and it is within the limit.
-pub record IsTaken (m : List ℕ) (old : PeerState) (client : EndState) (new : PeerState) : Type 0 where
+-- A put that was told to be taken: the peer accepted its message, once, from its SAP, and it is within the limit.
+pub record IsTaken (sap : ℕ) (m : List ℕ) (old : PeerState) (client : EndState) (new : PeerState) : Type 0 where
   pub within : length m ≤ old.service.limit
-  pub accepted : new.service.accepted ≡ old.service.accepted ++ from_client m ∷ []
+  pub accepted : new.service.accepted ≡ old.service.accepted ++ from_sap sap m ∷ []
   pub answered : IsAnswered old client new
 
 -- A message or a key that was rejected: it is longer than the limit, and nothing was accepted.
@@ -210,21 +225,21 @@ pub record IsRejected (m : List ℕ) (old : PeerState) (client : EndState) (new 
   pub accepted : new.service.accepted ≡ old.service.accepted
   pub answered : IsAnswered old client new
 
--- nothing was accepted, or the message once, which is within the limit
-abbrev pub AddsAtMost : List ℕ → PeerState → PeerState → Type 0
-AddsAtMost m old new =
+-- nothing was accepted, or the message once, from its SAP, which is within the limit
+abbrev pub AddsAtMost : ℕ → List ℕ → PeerState → PeerState → Type 0
+AddsAtMost sap m old new =
     (new.service.accepted ≡ old.service.accepted)
-    ⊎ ((new.service.accepted ≡ old.service.accepted ++ from_client m ∷ []) × (length m ≤ old.service.limit))
+    ⊎ ((new.service.accepted ≡ old.service.accepted ++ from_sap sap m ∷ []) × (length m ≤ old.service.limit))
 
--- a put that failed so
-abbrev pub PutFails : List ℕ → PeerState → SnepFault → EndState → PeerState → Type 0
-PutFails m old Reject client new = IsRejected m old client new
-PutFails m old NotFound client new = ⊥
-PutFails m old Excess client new = ⊥
-PutFails m old NotImplemented client new = ⊥
-PutFails m old (LinkEnded c) client new = AddsAtMost m old new
-PutFails m old Memory client new = AddsAtMost m old new
-PutFails m old BadPeer client new = ⊥
+-- a put on the connection from a SAP that failed so
+abbrev pub PutFails : ℕ → List ℕ → PeerState → SnepFault → EndState → PeerState → Type 0
+PutFails sap m old Reject client new = IsRejected m old client new
+PutFails sap m old NotFound client new = ⊥
+PutFails sap m old Excess client new = ⊥
+PutFails sap m old NotImplemented client new = ⊥
+PutFails sap m old (LinkEnded c) client new = AddsAtMost sap m old new
+PutFails sap m old Memory client new = AddsAtMost sap m old new
+PutFails sap m old BadPeer client new = ⊥
 
 -- A value that was told, of at most so many bytes: it is the one that the peer's table has under the key, and nothing
 -- was accepted.
@@ -272,9 +287,9 @@ pub record IsFound (name : List ℕ) (old : PeerState) (sap : ℕ) (client : End
   pub told : sap ≡ found old.bound name
   pub aside : IsAside old client new
 
--- A connection that was ended, or none was open: there is none.
-pub record IsClosed (old : PeerState) (client : EndState) (new : PeerState) : Type 0 where
-  pub apart : IsApart client new
+-- The connection from a SAP was ended, or none was open: there is none.
+pub record IsClosed (sap : ℕ) (old : PeerState) (client : EndState) (new : PeerState) : Type 0 where
+  pub apart : IsApart sap client new
   pub aside : IsAside old client new
 
 -- a call that puts nothing, and failed so: by the link or by want of memory

@@ -5,7 +5,7 @@ ghost use Rattle.llcp_link.specs.Asking.{is_open_by};
 ghost use Rattle.snep_core.specs.Accord.{Accords, AsideFails, AtPeers, GetFails, IsBegun, IsClosed, IsFound, IsGot, IsTaken, PeerState, PutFails};
 ghost use Rattle.snep_core.specs.Calling.{FailsBy, RequestFails, Talks, is_memory};
 ghost use Rattle.snep_core.specs.Jobs.{Done, Over, Sap, Value};
-ghost use Rattle.snep_core.specs.Talk.{Ends, Finds, Gets, Leaves, Puts, alone, begins, begun, connected, gave_between as gave, is_waiting as awaits, one_on, own_of, stands_of};
+ghost use Rattle.snep_core.specs.Talk.{Ends, Finds, Gets, Leaves, Puts, alone, begins, begun, client_sap, connected, gave_between as gave, is_waiting as awaits, one_on, own_of, stands_of};
 ghost use Rattle.snep_core.specs.Waning.{IsOf, aim_by};
 ghost use Rattle.snep_core.specs.declared.fault.SnepFault.{SnepFault};
 ghost use Rattle.snep_core.specs.declared.job.Job.{Job};
@@ -185,9 +185,9 @@ impl Client {
             (begins self.old.llc (Puts message.now)) carrier.old far.old e self.new.llc carrier.new far.new) }
         // Over a far end that serves as this project's server does, and with which the client accords:
         ensures taken { AtPeers A.steps A.stops self.old.llc far.old (λ view.
-            OnOk result (IsTaken message.now (view far.old) self.new.llc (view far.new))) }
+            OnOk result (IsTaken client_sap message.now (view far.old) self.new.llc (view far.new))) }
         ensures fails { AtPeers A.steps A.stops self.old.llc far.old (λ view.
-            IfErr result (λ e. PutFails message.now (view far.old) e self.new.llc (view far.new))) }
+            IfErr result (λ e. PutFails client_sap message.now (view far.old) e self.new.llc (view far.new))) }
         ensures spent { IfErr result (λ e. self.new.spent ≡ is_memory e) }
         ensures stays { self.old.spent ≡ true
             → (self.new ≡ self.old) × (carrier.new ≡ carrier.old) × (far.new ≡ far.old) }
@@ -306,7 +306,7 @@ impl Client {
             (begins self.old.llc Leaves) carrier.old far.old e self.new.llc carrier.new far.new) }
         // Over a far end that serves as this project's server does, and with which the client accords:
         ensures closed { AtPeers A.steps A.stops self.old.llc far.old (λ view.
-            OnOk result (IsClosed (view far.old) self.new.llc (view far.new))) }
+            OnOk result (IsClosed client_sap (view far.old) self.new.llc (view far.new))) }
         ensures fails { AtPeers A.steps A.stops self.old.llc far.old (λ view.
             IfErr result (λ e. AsideFails (view far.old) e (view far.new))) }
         ensures spent { IfErr result (λ e. self.new.spent ≡ is_memory e) }

@@ -47,16 +47,16 @@ returns-then-not-is_open-clause-closed g c = λ view peer a.
     c.args.carrier.now c.args.far.now a c.args.counts c.args.self.now.llc c.args.carrier.now c.args.far.now (returns-then-not-is_open-clause-ok g c)
 
 pub returns-clause-closed : goal.returns-clause-closed
-returns-clause-closed g c = λ view peer a.
+returns-clause-closed g c =
     let ok : OnOk c.match-converse.result (Talks g.C.Carrier.seen g.C.Carrier.swaps g.A.Answerer.steps g.A.Answerer.stops c.args.counts
     (begins c.args.self.now.llc Leaves) c.args.carrier.now c.args.far.now (Ends (alone (Over Done)) c.converse.new.self.llc)
     c.converse.new.carrier c.converse.new.far) = search rules in
-    on_ok_weaker c.match-converse.result (λ t. close_ends g.C.Carrier.seen g.C.Carrier.swaps g.A.Answerer.steps g.A.Answerer.stops view peer
+    λ view peer a. on_ok_weaker c.match-converse.result (λ t. close_ends g.C.Carrier.seen g.C.Carrier.swaps g.A.Answerer.steps g.A.Answerer.stops view peer
     c.args.self.now.llc c.args.carrier.now c.args.far.now a c.args.counts c.converse.new.self.llc c.converse.new.carrier c.converse.new.far t) ok
 
 pub returns-clause-fails : goal.returns-clause-fails
-returns-clause-fails g c = λ view peer a.
+returns-clause-fails g c =
     let err : IfErr c.match-converse.result (λ e. FailsBy g.C.Carrier.seen g.C.Carrier.swaps g.A.Answerer.steps g.A.Answerer.stops c.args.counts
     (begins c.args.self.now.llc Leaves) c.args.carrier.now c.args.far.now e c.converse.new.self.llc c.converse.new.carrier c.converse.new.far) = search rules in
-    IfErr-weaker c.match-converse.result _ _ (λ e t. close_fails g.C.Carrier.seen g.C.Carrier.swaps g.A.Answerer.steps g.A.Answerer.stops view peer
+    λ view peer a. IfErr-weaker c.match-converse.result _ _ (λ e t. close_fails g.C.Carrier.seen g.C.Carrier.swaps g.A.Answerer.steps g.A.Answerer.stops view peer
     c.args.self.now.llc c.args.carrier.now c.args.far.now a c.args.counts e c.converse.new.self.llc c.converse.new.carrier c.converse.new.far t) err

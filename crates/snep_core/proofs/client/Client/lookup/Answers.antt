@@ -24,17 +24,17 @@ returns-in-Err-clause-fails g c = λ view peer a.
     subst (λ f. AsideFails (view c.args.far.now) f (view c.args.far.now)) (sym c.spend.ensures.fault) refl
 
 pub returns-clause-found : goal.returns-clause-found
-returns-clause-found g c = λ view peer a.
+returns-clause-found g c =
     let ok : IfOk c.match-converse.result (λ sap. Talks g.C.Carrier.seen g.C.Carrier.swaps g.A.Answerer.steps g.A.Answerer.stops c.args.counts
     (begins c.args.self.now.llc (Finds c.args.name.now)) c.args.carrier.now c.args.far.now (Ends (alone (Over (Sap sap))) c.converse.new.self.llc)
     c.converse.new.carrier c.converse.new.far) = search rules in
-    IfOk-weaker c.match-converse.result _ _ (λ sap t. lookup_found g.C.Carrier.seen g.C.Carrier.swaps g.A.Answerer.steps g.A.Answerer.stops view peer
+    λ view peer a. IfOk-weaker c.match-converse.result _ _ (λ sap t. lookup_found g.C.Carrier.seen g.C.Carrier.swaps g.A.Answerer.steps g.A.Answerer.stops view peer
     c.args.name.now c.requires.name c.args.self.now.llc c.args.carrier.now c.args.far.now a c.args.counts sap c.converse.new.self.llc c.converse.new.carrier c.converse.new.far t) ok
 
 pub returns-clause-fails : goal.returns-clause-fails
-returns-clause-fails g c = λ view peer a.
+returns-clause-fails g c =
     let err : IfErr c.match-converse.result (λ e. FailsBy g.C.Carrier.seen g.C.Carrier.swaps g.A.Answerer.steps g.A.Answerer.stops c.args.counts
     (begins c.args.self.now.llc (Finds c.args.name.now)) c.args.carrier.now c.args.far.now e c.converse.new.self.llc
     c.converse.new.carrier c.converse.new.far) = search rules in
-    IfErr-weaker c.match-converse.result _ _ (λ e t. lookup_fails g.C.Carrier.seen g.C.Carrier.swaps g.A.Answerer.steps g.A.Answerer.stops view peer
+    λ view peer a. IfErr-weaker c.match-converse.result _ _ (λ e t. lookup_fails g.C.Carrier.seen g.C.Carrier.swaps g.A.Answerer.steps g.A.Answerer.stops view peer
     c.args.name.now c.requires.name c.args.self.now.llc c.args.carrier.now c.args.far.now a c.args.counts e c.converse.new.self.llc c.converse.new.carrier c.converse.new.far t) err

@@ -49,7 +49,7 @@ returns-in-Ok-Refused-clause-err g c =
 
 pub returns-in-Err-clause-fails : goal.returns-in-Err-clause-fails
 returns-in-Err-clause-fails g c = λ view peer a.
-    subst (λ f. PutFails c.args.message.now (view c.args.far.now) f c.spend.new.self.llc (view c.args.far.now)) (sym c.spend.ensures.fault) (inl refl)
+    subst (λ f. PutFails client_sap c.args.message.now (view c.args.far.now) f c.spend.new.self.llc (view c.args.far.now)) (sym c.spend.ensures.fault) (inl refl)
 
 pub returns-in-Err-ask-clause-fails : goal.returns-in-Err-ask-clause-fails
 returns-in-Err-ask-clause-fails g c = λ view peer a.
