@@ -76,7 +76,8 @@ adding more (Some k) = Some (record { limit = k.limit; accepted = k.accepted ++ 
 
 abbrev pub with_held : List Accepted → ℕ → List (Option ℕ) → List (Option Held) → List (Option Held)
 with_held more n [] ks = ks
-with_held more n (p ∷ ps) ks = if is_number n p then adding more (first_far ks) ∷ later_fars ks else first_far ks ∷ with_held more n ps (later_fars ks)
+with_held more n (p ∷ ps) [] = []
+with_held more n (p ∷ ps) (k ∷ ks) = if is_number n p then adding more k ∷ ks else k ∷ with_held more n ps ks
 
 held_adding : (more : List Accepted) (o : Option FarEnd) → held (accepting_if more o) ≡ adding more (held o)
 held_adding more None = refl
@@ -84,12 +85,7 @@ held_adding more (Some l) = refl
 
 adding_held : (more : List Accepted) (n : ℕ) (ps : List (Option ℕ)) (os : List (Option FarEnd)) → map held (with_accepted more n ps os) ≡ with_held more n ps (map held os)
 adding_held more n [] os = refl
-adding_held more n (p ∷ ps) [] = by (is_number n p) (adding_held more n ps [])
-  where
-    by : (v : Bool) → map held (with_accepted more n ps []) ≡ with_held more n ps []
-        → map held (if v then None ∷ [] else None ∷ with_accepted more n ps []) ≡ (if v then None ∷ [] else None ∷ with_held more n ps [])
-    by true e = refl
-    by false e = ap (λ ks. None ∷ ks) e
+adding_held more n (p ∷ ps) [] = refl
 adding_held more n (p ∷ ps) (o ∷ os) = by (is_number n p) (adding_held more n ps os)
   where
     by : (v : Bool) → map held (with_accepted more n ps os) ≡ with_held more n ps (map held os)
@@ -132,30 +128,38 @@ held_none_more n (p ∷ ps) (k ∷ ks) all = by (is_number n p) (held_none_more 
     by true e = ap (λ x. x ∷ ks) (adding_none k)
     by false e = ap (λ xs. k ∷ xs) e
 
+at_none : (n : ℕ) (ps : List (Option ℕ)) → at_number n ps [] ≡ None
+at_none n [] = refl
+at_none n (p ∷ ps) = by (is_number n p) (at_none n ps)
+  where
+    by : (v : Bool) → at_number n ps [] ≡ None → (if v then None else at_number n ps []) ≡ None
+    by true e = refl
+    by false e = e
+
 -- the one with the number gained it, and the others nothing
 pub at_own : (more : List Accepted) (n : ℕ) (ps : List (Option ℕ)) (ks : List (Option Held)) → at_number n ps (with_held more n ps ks) ≡ adding more (at_number n ps ks)
 at_own more n [] ks = refl
-at_own more n (p ∷ ps) ks = by (is_number n p) (at_own more n ps (later_fars ks))
+at_own more n (p ∷ ps) [] = at_none n (p ∷ ps) ∙ ap (adding more) (sym (at_none n (p ∷ ps)))
+at_own more n (p ∷ ps) (k ∷ ks) = by (is_number n p) (at_own more n ps ks)
   where
-    by : (v : Bool) → at_number n ps (with_held more n ps (later_fars ks)) ≡ adding more (at_number n ps (later_fars ks))
-        → (if v then first_far (if v then adding more (first_far ks) ∷ later_fars ks else first_far ks ∷ with_held more n ps (later_fars ks))
-        else at_number n ps (later_fars (if v then adding more (first_far ks) ∷ later_fars ks else first_far ks ∷ with_held more n ps (later_fars ks))))
-        ≡ adding more (if v then first_far ks else at_number n ps (later_fars ks))
+    by : (v : Bool) → at_number n ps (with_held more n ps ks) ≡ adding more (at_number n ps ks)
+        → (if v then first_far (if v then adding more k ∷ ks else k ∷ with_held more n ps ks) else at_number n ps (later_fars (if v then adding more k ∷ ks else k ∷ with_held more n ps ks)))
+        ≡ adding more (if v then k else at_number n ps ks)
     by true e = refl
     by false e = e
 
 pub at_other : (more : List Accepted) (n m : ℕ) → nat_eq n m ≡ false → (ps : List (Option ℕ)) (ks : List (Option Held)) → at_number m ps (with_held more n ps ks) ≡ at_number m ps ks
 at_other more n m apart [] ks = refl
-at_other more n m apart (p ∷ ps) ks = by (is_number n p) (is_number m p) (not_both p) (at_other more n m apart ps (later_fars ks))
+at_other more n m apart (p ∷ ps) [] = refl
+at_other more n m apart (p ∷ ps) (k ∷ ks) = by (is_number n p) (is_number m p) (not_both p) (at_other more n m apart ps ks)
   where
     not_both : (q : Option ℕ) → is_number n q ≡ true → is_number m q ≡ true → ⊥
     not_both None a b = cc
     not_both (Some q) a b = let clash : nat_eq n m ≡ true = eq-eqb n m (sym (eqb-true q n a) ∙ eqb-true q m b) in cc
 
-    by : (v w : Bool) → (v ≡ true → w ≡ true → ⊥) → at_number m ps (with_held more n ps (later_fars ks)) ≡ at_number m ps (later_fars ks)
-        → (if w then first_far (if v then adding more (first_far ks) ∷ later_fars ks else first_far ks ∷ with_held more n ps (later_fars ks))
-        else at_number m ps (later_fars (if v then adding more (first_far ks) ∷ later_fars ks else first_far ks ∷ with_held more n ps (later_fars ks))))
-        ≡ (if w then first_far ks else at_number m ps (later_fars ks))
+    by : (v w : Bool) → (v ≡ true → w ≡ true → ⊥) → at_number m ps (with_held more n ps ks) ≡ at_number m ps ks
+        → (if w then first_far (if v then adding more k ∷ ks else k ∷ with_held more n ps ks) else at_number m ps (later_fars (if v then adding more k ∷ ks else k ∷ with_held more n ps ks)))
+        ≡ (if w then k else at_number m ps ks)
     by true true never e = absurd (never refl refl)
     by true false never e = refl
     by false true never e = refl

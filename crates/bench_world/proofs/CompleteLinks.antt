@@ -12,20 +12,21 @@ use Rattle.snep_core.specs.declared.job.Job.{Job}
 use Rattle.snep_core.specs.declared.job.Job.TheVariants.{Begins, Waits, Sends, Asks, Collects, Looks, Closes, Over}
 use Rattle.snep_core.specs.Server.{Received}
 use Rattle.snep_core.specs.Session.{Offer, value_of}
-use Rattle.snep_core.specs.Talk.{Step, Goes, Ends, GivesUp, Puts, Gets, Finds}
+use Rattle.snep_core.specs.Talk.{Step, Goes, Ends, GivesUp, Task, Puts, Gets, Finds, Leaves}
 use Rattle.link_calls.specs.CallDue.{CallStanding, Carries, Comes, BrokenBy, Strays}
 use Rattle.link_calls.specs.ClosingDue.{ClosingStanding, Calls, Releasing, Released}
 use Rattle.bench_script.specs.declared.command.Command.{Command}
-use Rattle.bench_script.specs.declared.command.Command.TheVariants.{Skip, Fates, PlaceT2, PlaceT4, PlaceT5, PlacePeer, Lock, Busy, Offer as Offers, Remove, Dump, Inbox, Find, Crowd, Read, Write, Link, Put, Get, Lookup, Unlink}
-use Rattle.bench_script.specs.Messages.{message_of}
+use Rattle.bench_script.specs.declared.command.Command.TheVariants.{Put}
 use Rattle.bench_world.specs.declared.entry.Answer.{Answer}
 use Rattle.bench_world.specs.declared.entry.Answer.TheVariants as answers
 use Rattle.bench_world.specs.declared.entry.Entry.{Entry}
 use Rattle.bench_world.specs.declared.entry.Loss.{Loss}
 use Rattle.bench_world.specs.declared.entry.Loss.TheVariants as losses
-use Rattle.bench_world.specs.Calls.{IfLinked, IsTold, OfEnd, PutAdds, GetTells, LookupTells, told_ending, told_job, told_step, told_call, told_closing, stands_on, stands_closing}
-use Rattle.bench_world.specs.CompletingLinks.{put_answer, value_answer, table_answer, get_answer, IsUndisturbedOn, PutsComplete, GetsComplete, LookupsComplete, UnlinksComplete, IsValid, IsOk, ValidIsOk}
-use Rattle.bench_world.specs.Legal.{State, Given, LegalStep, AnswerLaw, PutLaw, GetLaw, LookupLaw, UnlinkLaw, end_of}
+use Rattle.bench_world.specs.Calls.{HadSixBad, IfLinked, IsTold, OfEnd, PeerAdds, PeerTells, PutAdds, GetTells, LookupTells, told_asked, told_ending, told_job, told_step, told_call, told_closing, stands_on, stands_closing}
+use Rattle.bench_world.specs.CompletingLinks.{put_answer, value_answer, table_answer, get_answer, peer_answer, HadSixBadBy, HadSixBadOn, IsUndisturbedOn, AskedComplete, IsOkAsking, IsOkBy, IsValidAsking, IsValidBy, ValidIsOk}
+use Rattle.bench_world.specs.Legal.{State, Given, LegalStep, AnswerBy, CallLaw, end_of}
+use Rattle.link_calls.specs.Asking.{LinkAsking, Does, Closes}
+use Rattle.bench_world.specs.Asked.{asked_on_link}
 use Rattle.bench_world.specs.Links.{OpenLink}
 use Rattle.bench_world.specs.World.{FarEnd}
 use Rattle.bench_world.proofs.Complete.{told_once, no_lost}
@@ -180,115 +181,98 @@ over_end P Q h (Some end) p = h end p
 
 -- So a command on the up link is answered, by the law of its answers.
 module _ (s t : State) (g : Given) (e : Entry) (l : OpenLink) (step : LegalStep s g e t) where
-  abbrev lawful : Command → Type 0
-  lawful c = AnswerLaw s g c e.events e.answer
-
   linked : (Is : OpenLink → Type 0) (Else : Type 0) → s.link ≡ Some l → IfLinked s.link Is Else → Is l
   linked Is Else up h = subst (λ o. IfLinked o Is Else) up h
 
-  pub put_law : (m : _) → e.command ≡ Put m → s.link ≡ Some l → PutLaw s g.joins l m e.events e.answer
-  put_law m is up = linked (λ k. PutLaw s g.joins k m e.events e.answer) (e.answer ≡ answers.NoLink) up (subst lawful is step.answered)
+  pub call_law : (asked : LinkAsking) → asked_on_link e.command ≡ Some asked → s.link ≡ Some l → CallLaw s g.joins l asked e.command e.events e.answer
+  call_law asked asks up =
+      linked (λ k. CallLaw s g.joins k asked e.command e.events e.answer) (e.answer ≡ answers.NoLink) up (subst (λ o. AnswerBy o s g e.command e.events e.answer) asks step.answered)
 
-  pub get_law : (most : ℕ) (key : List ℕ) → e.command ≡ Get most key → s.link ≡ Some l → GetLaw s g.joins l most key e.events e.answer
-  get_law most key is up = linked (λ k. GetLaw s g.joins k most key e.events e.answer) (e.answer ≡ answers.NoLink) up (subst lawful is step.answered)
+-- no command asks for the end of the connection alone
+never_leaves : (c : Command) → asked_on_link c ≡ Some (Does Leaves) → ⊥
+never_leaves (Put m) e = cc
+never_leaves c e = cc
 
-  pub lookup_law : (name : List ℕ) → e.command ≡ Lookup name → s.link ≡ Some l → LookupLaw s g.joins l name e.events e.answer
-  lookup_law name is up = linked (λ k. LookupLaw s g.joins k name e.events e.answer) (e.answer ≡ answers.NoLink) up (subst lawful is step.answered)
+-- what the answer of its peer gives
+told_peer : (task : Task) (end : FarEnd) (more : List Received) (x : Ending) → (task ≡ Leaves → ⊥) → PeerAdds (Does task) end (told_ending x) more → PeerTells (Does task) end (told_ending x)
+    → told_ending x ≡ peer_answer (Does task) end
+told_peer (Puts m) end more x not adds tells = put_told m end more x adds
+told_peer (Gets most key) end more x not adds tells = get_told most key end x tells
+told_peer (Finds name) end more x not adds tells = lookup_told name end x tells
+told_peer Leaves end more x not adds tells = absurd (not refl)
 
-  pub unlink_law : e.command ≡ Unlink → s.link ≡ Some l → UnlinkLaw s g.joins l e.events e.answer
-  unlink_law is up = linked (λ k. UnlinkLaw s g.joins k e.events e.answer) (e.answer ≡ answers.NoLink) up (subst lawful is step.answered)
+peer_goes_on : (asked : LinkAsking) (end : FarEnd) → GoesOn (peer_answer asked end)
+peer_goes_on (Does (Puts m)) end loss e = put_goes_on m end loss e
+peer_goes_on (Does (Gets most key)) end loss e = get_goes_on most key end loss e
+peer_goes_on (Does (Finds name)) end loss e = cc
+peer_goes_on (Does Leaves) end loss e = cc
+peer_goes_on Closes end loss e = cc
 
-pub puts_complete : PutsComplete
-puts_complete s t g e l m step is up =
-    let law : PutLaw s g.joins l m e.events e.answer = put_law s t g e l step m is up in
-    let stands : CallStanding = stands_on l g.joins.own (Puts (message_of m)) e.events in
-    over_end (λ end. PutAdds (message_of m) end e.answer law.more) (λ end. (e.answer ≡ put_answer (message_of m) end) ↔ IsUndisturbedOn l g.joins.own (Put m) e.events)
-    (λ end adds. (
-      λ so.
-          let on : GoesOn e.answer = subst GoesOn (sym so) (put_goes_on (message_of m) end) in
-          record { lit = none_broken (told_call stands) e.events e.answer law.told on; waits = λ six. none_six (told_call stands) e.events e.answer law.told on (ap told_call six) },
-      λ calm.
-          let ended : IsEnded e.answer = call_ended stands e.events e.answer law.told calm.lit calm.waits in
-          ended.told ∙ put_told (message_of m) end law.more ended.ending (subst (λ a. PutAdds (message_of m) end a law.more) ended.told adds),
-    ))
-    (end_of s l) law.adds
+pub six_told : (asked : LinkAsking) (l : OpenLink) (joins : List ℕ) (es : List Event) → HadSixBad asked l joins es → told_asked asked l joins es ≡ Some (answers.LinkEnded losses.SixBad)
+six_told (Does task) l joins es six = ap told_call six
+six_told Closes l joins es six = ap told_closing six
 
-pub gets_complete : GetsComplete
-gets_complete s t g e l most key step is up =
-    let law : GetLaw s g.joins l most key e.events e.answer = get_law s t g e l step most key is up in
-    let stands : CallStanding = stands_on l g.joins.own (Gets most key) e.events in
-    over_end (λ end. GetTells most key end e.answer) (λ end. (e.answer ≡ get_answer most key end) ↔ IsUndisturbedOn l g.joins.own (Get most key) e.events)
-    (λ end tells. (
-      λ so.
-          let on : GoesOn e.answer = subst GoesOn (sym so) (get_goes_on most key end) in
-          record { lit = none_broken (told_call stands) e.events e.answer law.told on; waits = λ six. none_six (told_call stands) e.events e.answer law.told on (ap told_call six) },
-      λ calm.
-          let ended : IsEnded e.answer = call_ended stands e.events e.answer law.told calm.lit calm.waits in
-          ended.told ∙ get_told most key end ended.ending (subst (GetTells most key end) ended.told tells),
-    ))
-    (end_of s l) law.tells
+both_ends : (P Q R : FarEnd → Type 0) → ((end : FarEnd) → P end → Q end → R end) → (o : Option FarEnd) → OfEnd P o → OfEnd Q o → OfEnd R o
+both_ends P Q R h None p q = absurd p
+both_ends P Q R h (Some end) p q = h end p q
 
-pub lookups_complete : LookupsComplete
-lookups_complete s t g e l name step is up =
-    let law : LookupLaw s g.joins l name e.events e.answer = lookup_law s t g e l step name is up in
-    let stands : CallStanding = stands_on l g.joins.own (Finds name) e.events in
-    over_end (λ end. LookupTells name end e.answer) (λ end. (e.answer ≡ answers.Sap (found end.bound name)) ↔ IsUndisturbedOn l g.joins.own (Lookup name) e.events)
-    (λ end tells. (
-      λ so.
-          let on : GoesOn e.answer = λ loss ended. (let clash : answers.Sap (found end.bound name) ≡ answers.LinkEnded loss = sym so ∙ ended in cc) in
-          record { lit = none_broken (told_call stands) e.events e.answer law.told on; waits = λ six. none_six (told_call stands) e.events e.answer law.told on (ap told_call six) },
-      λ calm.
-          let ended : IsEnded e.answer = call_ended stands e.events e.answer law.told calm.lit calm.waits in
-          ended.told ∙ lookup_told name end ended.ending (subst (LookupTells name end) ended.told tells),
-    ))
-    (end_of s l) law.tells
+-- by the law of what was asked
+module _ (s t : State) (g : Given) (e : Entry) (l : OpenLink) (asked : LinkAsking) (step : LegalStep s g e t) (asks : asked_on_link e.command ≡ Some asked) (up : s.link ≡ Some l) where
+  abbrev law : CallLaw s g.joins l asked e.command e.events e.answer
+  law = call_law s t g e l step asked asks up
 
-pub unlinks_complete : UnlinksComplete
-unlinks_complete s t g e l step is up =
-    let law : UnlinkLaw s g.joins l e.events e.answer = unlink_law s t g e l step is up in
-    let stands : ClosingStanding = stands_closing l g.joins.own e.events in (
-      λ so.
-          let on : GoesOn e.answer = λ loss ended. (let clash : answers.Unlinked ≡ answers.LinkEnded loss = sym so ∙ ended in cc) in
-          record { lit = none_broken (told_closing stands) e.events e.answer law.told on; waits = λ six. none_six (told_closing stands) e.events e.answer law.told on (ap told_closing six) },
-      λ calm. closing_ended stands e.events e.answer law.told calm.lit calm.waits,
-    )
+  -- a wait of it had six bad receptions
+  pub six_bad : HadSixBadOn l g.joins.own e.command e.events → HadSixBad asked l g.joins.own e.events
+  six_bad six = subst (λ o. HadSixBadBy o l g.joins.own e.events) asks six
+
+  pub had_six : HadSixBad asked l g.joins.own e.events → HadSixBadOn l g.joins.own e.command e.events
+  had_six six = subst (λ o. HadSixBadBy o l g.joins.own e.events) (sym asks) six
+
+  undisturbed : GoesOn e.answer → IsUndisturbedOn l g.joins.own e.command e.events
+  undisturbed on = record {
+    lit = none_broken (told_asked asked l g.joins.own e.events) e.events e.answer law.told on;
+    waits = λ six. none_six (told_asked asked l g.joins.own e.events) e.events e.answer law.told on (six_told asked l g.joins.own e.events (six_bad six));
+  }
+
+  -- what was told where nothing kept it from its answer
+  answered_by : (a : LinkAsking) → asked_on_link e.command ≡ Some a → IsTold (told_asked a l g.joins.own e.events) e.events e.answer → (HadSixBad a l g.joins.own e.events → ⊥) → breaks e.events ≡ 0
+      → (end : FarEnd) → PeerAdds a end e.answer law.more → PeerTells a end e.answer → e.answer ≡ peer_answer a end
+  answered_by (Does task) is told none lit end adds tells =
+      let ended : IsEnded e.answer = call_ended (stands_on l g.joins.own task e.events) e.events e.answer told lit none in
+      ended.told
+      ∙ told_peer task end law.more ended.ending (λ q. never_leaves e.command (is ∙ ap (λ k. Some (Does k)) q)) (subst (λ a. PeerAdds (Does task) end a law.more) ended.told adds)
+      (subst (λ a. PeerTells (Does task) end a) ended.told tells)
+  answered_by Closes is told none lit end adds tells = closing_ended (stands_closing l g.joins.own e.events) e.events e.answer told lit none
+
+  pub complete : OfEnd (λ end. (e.answer ≡ peer_answer asked end) ↔ IsUndisturbedOn l g.joins.own e.command e.events) (end_of s l)
+  complete =
+      both_ends (λ end. PeerAdds asked end e.answer law.more) (λ end. PeerTells asked end e.answer) (λ end. (e.answer ≡ peer_answer asked end) ↔ IsUndisturbedOn l g.joins.own e.command e.events)
+      (λ end adds tells. (
+        λ so. undisturbed (subst GoesOn (sym so) (peer_goes_on asked end)),
+        λ calm. answered_by asked asks law.told (λ six. calm.waits (had_six six)) calm.lit end adds tells,
+      ))
+      (end_of s l) law.adds law.tells
+
+pub asked_complete : AskedComplete
+asked_complete asked s t g e l step asks up = complete s t g e l asked step asks up
 
 -- A valid command gives its defined answer.
 valid_get : (most : ℕ) (key v : List ℕ) (end : FarEnd) → length key ≤ end.service.limit → value_of key end.service.table ≡ Some v → length v ≤ most → get_answer most key end ≡ answers.Value v
 valid_get most key v end key_fits has fits =
     has_value most key end v key_fits has ∙ either (nat_lt most (length v)) false answers.Excess (answers.Value v) (within most (length v) fits)
 
-pub valid_is_ok : ValidIsOk
-valid_is_ok s t g e l end step up found_end valid calm = by_command e.command refl valid calm
-  where
-    at_end : (P : FarEnd → Type 0) → OfEnd P (end_of s l) → P end
-    at_end P h = subst (OfEnd P) found_end h
+valid_told : (asked : LinkAsking) (end : FarEnd) (answer : Answer) → (asked ≡ Does Leaves → ⊥) → IsValidAsking asked end → answer ≡ peer_answer asked end → IsOkAsking asked end answer
+valid_told (Does (Puts m)) end answer not v e = e ∙ either (nat_lt end.service.limit (length m)) false answers.Reject answers.Success (within end.service.limit (length m) v)
+valid_told (Does (Gets most key)) end answer not v e = (v.1, v.2, e ∙ valid_get most key v.1 end v.0 v.2 v.3)
+valid_told (Does (Finds name)) end answer not v e = e
+valid_told (Does Leaves) end answer not v e = absurd (not refl)
+valid_told Closes end answer not v e = e
 
-    by_command : (c : Command) → e.command ≡ c → IsValid end c → IsUndisturbedOn l g.joins.own c e.events → IsOk end c e.answer
-    by_command (Put m) is v u =
-        (at_end (λ x. (e.answer ≡ put_answer (message_of m) x) ↔ IsUndisturbedOn l g.joins.own (Put m) e.events) (puts_complete s t g e l m step is up)).1 u
-        ∙ either (nat_lt end.service.limit (length (message_of m))) false answers.Reject answers.Success (within end.service.limit (length (message_of m)) v)
-    by_command (Get most key) is v u = (
-      v.1,
-      v.2,
-      (at_end (λ x. (e.answer ≡ get_answer most key x) ↔ IsUndisturbedOn l g.joins.own (Get most key) e.events) (gets_complete s t g e l most key step is up)).1 u ∙ valid_get most key v.1 end v.0 v.2 v.3,
-    )
-    by_command (Lookup name) is v u = (at_end (λ x. (e.answer ≡ answers.Sap (found x.bound name)) ↔ IsUndisturbedOn l g.joins.own (Lookup name) e.events) (lookups_complete s t g e l name step is up)).1 u
-    by_command Unlink is v u = (unlinks_complete s t g e l step is up).1 u
-    by_command Skip is v u = absurd v
-    by_command (Fates fates) is v u = absurd v
-    by_command (PlaceT2 id blocks head) is v u = absurd v
-    by_command (PlaceT4 id code container head) is v u = absurd v
-    by_command (PlaceT5 id blocks size head) is v u = absurd v
-    by_command (PlacePeer id lr miu rw most) is v u = absurd v
-    by_command (Lock id block) is v u = absurd v
-    by_command (Busy id count times) is v u = absurd v
-    by_command (Offers id key value) is v u = absurd v
-    by_command (Remove id) is v u = absurd v
-    by_command (Dump id) is v u = absurd v
-    by_command (Inbox id) is v u = absurd v
-    by_command Find is v u = absurd v
-    by_command Crowd is v u = absurd v
-    by_command (Read id) is v u = absurd v
-    by_command (Write id m) is v u = absurd v
-    by_command (Link id miu window) is v u = absurd v
+pub valid_is_ok : ValidIsOk
+valid_is_ok s t g e l end step up found_end valid calm = by (asked_on_link e.command) refl valid
+  where
+    by : (o : Option LinkAsking) → asked_on_link e.command ≡ o → IsValidBy o end → IsOkBy o end e.answer
+    by None asks v = absurd v
+    by (Some asked) asks v =
+        valid_told asked end e.answer (λ q. never_leaves e.command (asks ∙ ap Some q)) v
+        ((subst (OfEnd (λ x. (e.answer ≡ peer_answer asked x) ↔ IsUndisturbedOn l g.joins.own e.command e.events)) found_end (complete s t g e l asked step asks up)).1 calm)

@@ -16,14 +16,18 @@ use Rattle.snep_core.specs.Session.{Offer}
 use Rattle.snep_core.proofs.CallsKeep.{giving_keeps}
 use Rattle.snep_core.proofs.CutOff.{cut_off_accepts}
 use Rattle.link_calls.specs.Arriving.{Arrives, ArrivesCut, StopsAtLast, all_answered}
+use Rattle.snep_core.specs.Talk.{Puts, Gets, Finds}
+use Rattle.link_calls.specs.Asking.{LinkAsking, Does, Closes}
 use Rattle.bench_script.specs.declared.command.Command.{Command}
 use Rattle.bench_script.specs.declared.command.Command.TheVariants.{Find, Crowd, Read, Write, Link, Put, Get, Lookup, Unlink}
+use Rattle.bench_script.specs.Messages.{message_of}
 use Rattle.bench_world.specs.World.{FarEnd}
 use Rattle.bench_world.specs.Arrivals.{Arrival, arrival_marks, arrivals_of, end_at, end_behind, giving_values}
 use Rattle.bench_world.specs.Arriving.{ArrivesCutAt}
 use Rattle.bench_world.specs.ByPayloads.{IsByPayloads, IsFrontOfPayloads, PutsAtLeast}
 use Rattle.bench_world.specs.Calls.{IfLinked}
-use Rattle.bench_world.specs.Legal.{State, Given, Joins, CutCall, CutPut, CutShort, CutStores, FrontOf, IsOnLink, LeavesStable, PeerHalts, changed, link_after, world_after}
+use Rattle.bench_world.specs.Asked.{asked_on_link}
+use Rattle.bench_world.specs.Legal.{State, Given, Joins, CutCall, CutLeft, CutShort, CutStores, FrontOf, LeavesStable, PeerHalts, changed, link_after, peers_left, world_after}
 use Rattle.bench_world.specs.LinkLaw.{cut_stretch}
 use Rattle.bench_world.specs.Links.{OpenLink, end_numbered}
 use Rattle.bench_world.specs.Peers.{Peers}
@@ -33,6 +37,8 @@ use Rattle.bench_world.proofs.PayloadsOn.{Kept, OnLink, above_is, all_and_last, 
 use Rattle.bench_world.proofs.PutsTold.{accepted_more}
 use Rattle.bench_world.proofs.SameStories.{last_equal}
 use Rattle.bench_world.proofs.ServerRuns.{answered_is, arrivals_front, arrivals_put, behind_then, bytes_are}
+use Rattle.bench_world.proofs.Talks as talks
+use Rattle.bench_world.proofs.Talks.{still_on}
 use Rattle.bench_world.proofs.Tales.{accepted_in, accepted_of, gained_by, goes_on, stories_behind}
 use Rattle.bench_world.proofs.Unfinished.{short_front}
 use Rattle.bench_world.proofs.Unlinking.{same_numbers}
@@ -247,32 +253,24 @@ module _ (s t : State) (g : Given) (cut : List Event) (ys : List Story) (h : Kep
           linked_front s t g.joins c cut ys h l (still ∙ open_) open_ numbers
           (subst (λ (z : State). ArrivesCutAt l s.peers.numbers g.joins.far s.world.fars z.world.fars cut) (sym front.after) (came l p))
 
+  talk_front : (asked : LinkAsking) (c : Command) → asked_on_link c ≡ Some asked → FrontOf s g c cut None t → CutLeft (Some asked) s g.joins c cut → Goal c
+  talk_front asked c asks front stores =
+      on_link c (ap (λ (z : State). z.link) (still_on s c (talks.on_link c asked asks))) front
+      (ap (λ (z : State). z.peers.numbers) front.after ∙ ap (λ o. (peers_left o s g.joins c cut None).numbers) asks
+      ∙ unless_numbers (link_after s g.joins c cut None) s.link (world_after s g.joins c cut).fars s.peers)
+      (λ l. CutCall s g.joins l asked c cut) (LeavesStable s g.joins c cut) (λ l p. p.came) stores
+
   front_by : (c : Command) → FrontOf s g c cut None t → CutStores s g.joins c cut → Goal c
   front_by Find front stores = unlinked_front s t g.joins Find cut ys h refl
   front_by Crowd front stores = unlinked_front s t g.joins Crowd cut ys h refl
   front_by (Read id) front stores = unlinked_front s t g.joins (Read id) cut ys h refl
   front_by (Write id m) front stores = unlinked_front s t g.joins (Write id m) cut ys h refl
   front_by (Link id miu window) front stores = unlinked_front s t g.joins (Link id miu window) cut ys h refl
-  front_by (Put m) front stores =
-      on_link (Put m) refl front (ap (λ (z : State). z.peers.numbers) front.after ∙ unless_numbers (link_after s g.joins (Put m) cut None) s.link (world_after s g.joins (Put m) cut).fars s.peers)
-      (λ l. CutPut s g.joins l m cut) (LeavesStable s g.joins (Put m) cut) (λ l p. p.came) stores
-  front_by (Get most key) front stores =
-      on_link (Get most key) refl front (ap (λ (z : State). z.peers.numbers) front.after ∙ unless_numbers (link_after s g.joins (Get most key) cut None) s.link (world_after s g.joins (Get most key) cut).fars s.peers)
-      (λ l. CutCall s g.joins l (Get most key) cut) (LeavesStable s g.joins (Get most key) cut) (λ l p. p.came) stores
-  front_by (Lookup name) front stores =
-      on_link (Lookup name) refl front (ap (λ (z : State). z.peers.numbers) front.after ∙ unless_numbers (link_after s g.joins (Lookup name) cut None) s.link (world_after s g.joins (Lookup name) cut).fars s.peers)
-      (λ l. CutCall s g.joins l (Lookup name) cut) (LeavesStable s g.joins (Lookup name) cut) (λ l p. p.came) stores
-  front_by Unlink front stores =
-      on_link Unlink refl front (ap (λ (z : State). z.peers.numbers) front.after ∙ same_numbers s.link s.peers (world_after s g.joins Unlink cut).fars)
-      (λ l. CutCall s g.joins l Unlink cut) (LeavesStable s g.joins Unlink cut) (λ l p. p.came) stores
+  front_by (Put m) front stores = talk_front (Does (Puts (message_of m))) (Put m) refl front stores
+  front_by (Get most key) front stores = talk_front (Does (Gets most key)) (Get most key) refl front stores
+  front_by (Lookup name) front stores = talk_front (Does (Finds name)) (Lookup name) refl front stores
+  front_by Unlink front stores = talk_front Closes Unlink refl front stores
   front_by c front stores = absurd stores
-
-still_on : (s : State) (c : Command) → IsOnLink c → (changed s c).link ≡ s.link
-still_on s (Put m) talks = refl
-still_on s (Get most key) talks = refl
-still_on s (Lookup name) talks = refl
-still_on s Unlink talks = refl
-still_on s c talks = absurd talks
 
 pub cut_arrived : (s t : State) (joins : Joins) (c : Command) (cut : List Event) (ys : List Story) (h : KeptIn s ys) → CutShort joins s c cut t ⊎ PeerHalts joins s c cut t → CutBy s t joins c cut ys h
 cut_arrived s t joins c cut ys h (inl short) =
@@ -280,5 +278,5 @@ cut_arrived s t joins c cut ys h (inl short) =
     subst (λ j. CutBy s t j c cut ys h) f.1 (front_by s t f.0 cut ys h c f.2 f.3)
 cut_arrived s t joins c cut ys h (inr halts) =
     subst (λ j. CutBy s t j c cut ys h) halts.joined
-    (linked_front s t halts.given.joins c cut ys h halts.on (still_on s c halts.on_link ∙ halts.open_) halts.open_
+    (linked_front s t halts.given.joins c cut ys h halts.on (ap (λ (z : State). z.link) (still_on s c halts.on_link) ∙ halts.open_) halts.open_
     (ap (λ (p : Peers). p.numbers) halts.leaves.peers ∙ same_numbers (Some halts.on) s.peers t.world.fars) halts.came)

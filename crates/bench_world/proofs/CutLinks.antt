@@ -13,8 +13,8 @@ use Rattle.bench_world.specs.declared.entry.Answer.TheVariants as answers
 use Rattle.bench_world.specs.declared.entry.Loss.TheVariants as losses
 use Rattle.bench_world.specs.World.{FarEnd, WholeWorld, Stable}
 use Rattle.bench_world.specs.ByPayloads.{IsFrontOfPayloads}
-use Rattle.bench_world.specs.Calls.{OfEnd}
-use Rattle.bench_world.specs.Legal.{State, Given, Joins, CutFront, CutShort, CutStores, EachLegal, FrontOf, HaltLeaves, IsOnLink, PeerHalts, begun, end_of, first_state, state_after, world_after}
+use Rattle.bench_world.specs.Asked.{IsOnLink}
+use Rattle.bench_world.specs.Legal.{State, Given, Joins, CutFront, CutShort, CutStores, EachLegal, FrontOf, HaltLeaves, PeerHalts, begun, end_of, first_state, state_after, world_after}
 use Rattle.bench_world.specs.LinkLaw.{CutArrivalLaw, CutLinkLaw, KeepsLinkLaw, cut_stretch}
 use Rattle.bench_world.specs.Links.{OpenLink, ended}
 use Rattle.bench_world.specs.Peers.{Peers}
@@ -29,6 +29,7 @@ use Rattle.bench_world.proofs.PeersNumbered.{HavePlaces, places_stay}
 use Rattle.bench_world.proofs.SameStories.{KeepsNumbers, ended_in, same_behind, same_from}
 use Rattle.bench_world.proofs.StoriesHere.{Stand, view_of}
 use Rattle.bench_world.proofs.StoriesStep.{as_many_with, base_held, no_link}
+use Rattle.bench_world.proofs.Talks.{ends_stay, of_any, off}
 use Rattle.bench_world.proofs.Tales.{stories_behind}
 use Rattle.bench_world.proofs.Unfinished.{short_front}
 use Rattle.bench_world.proofs.Unlinking.{same_numbers}
@@ -45,11 +46,6 @@ kept_all_stay (l ∷ ls) (m ∷ ms) e =
     let one : kept m ≡ kept l = cc in
     let rest : map kept ms ≡ map kept ls = cc in
     (kept_stays l m one, kept_all_stay ls ms rest)
-
--- what is said of an end without speaking of it
-of_any : {X : Type 0} (o : Option FarEnd) → OfEnd (λ end. X) o → X
-of_any None h = absurd h
-of_any (Some end) h = h
 
 -- A front of a step.
 module _ (w : WholeWorld) (q : List Fate) (p : Peers) (ys : List Story) (g : Given) where
@@ -93,21 +89,21 @@ module _ (w : WholeWorld) (q : List Fate) (p : Peers) (ys : List Story) (g : Giv
   front_by (Some l) (Get most key) es t stand front stores =
       after_front (Some l) (Get most key) es t front
       (called w q p ys l stand g None (Get most key) es None refl refl refl refl
-      (same_held (world_after (from (Some l)) g.joins (Get most key) es) w (ap (λ (z : Stable). z.ends) stores.stays)) refl (λ m e. absurd cc))
+      (same_held (world_after (from (Some l)) g.joins (Get most key) es) w (ends_stay (from (Some l)) l stores.more stores.adds _ _ stores.ends)) refl (λ m e. absurd cc))
   front_by None (Lookup name) es t stand front stores =
       quietly w q p ys None stand g None (Lookup name) es t front (nothing_sent (begun (from None) g.joins (Lookup name)) es front.turns front.each)
       (no_link (from None) (state_after (from None) g.joins (Lookup name) [] None) (cut_stretch (Lookup name) g.joins es) ys refl refl refl stand.places stand.stand)
   front_by (Some l) (Lookup name) es t stand front stores =
       after_front (Some l) (Lookup name) es t front
       (called w q p ys l stand g None (Lookup name) es None refl refl refl refl
-      (same_held (world_after (from (Some l)) g.joins (Lookup name) es) w (ap (λ (z : Stable). z.ends) stores.stays)) refl (λ m e. absurd cc))
+      (same_held (world_after (from (Some l)) g.joins (Lookup name) es) w (ends_stay (from (Some l)) l stores.more stores.adds _ _ stores.ends)) refl (λ m e. absurd cc))
   front_by None Unlink es t stand front stores =
       quietly w q p ys None stand g None Unlink es t front (nothing_sent (begun (from None) g.joins Unlink) es front.turns front.each)
       (no_link (from None) (state_after (from None) g.joins Unlink [] None) (cut_stretch Unlink g.joins es) ys refl refl refl stand.places stand.stand)
   front_by (Some l) Unlink es t stand front stores =
       after_front (Some l) Unlink es t front
       (called w q p ys l stand g None Unlink es None refl refl refl refl
-      (same_held (world_after (from (Some l)) g.joins Unlink es) w (ap (λ (z : Stable). z.ends) stores.stays)) refl (λ m e. absurd cc))
+      (same_held (world_after (from (Some l)) g.joins Unlink es) w (ends_stay (from (Some l)) l stores.more stores.adds _ _ stores.ends)) refl (λ m e. absurd cc))
   front_by o c es t stand front stores = absurd stores
 
 -- The peer's end stopped.
@@ -157,7 +153,7 @@ module _ (w : WholeWorld) (q : List Fate) (p : Peers) (ys : List Story) (g : Giv
   halts_by Unlink talks h =
       left_is Unlink h
       (called_so w q p ys l stand g None Unlink es t.world t.queue None refl refl refl (places_there Unlink h) (nothing_more Unlink h (of_any (end_of on l) h.adds)) (λ m e. absurd cc))
-  halts_by c talks h = absurd talks
+  halts_by c talks h = off talks
 
 module _ (s t : State) (joins : Joins) (c : Command) (cut : List Event) (ys : List Story) (stand : Stand s ys) where
   abbrev pub CutStand : Type 0

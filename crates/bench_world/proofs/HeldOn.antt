@@ -19,13 +19,16 @@ use Rattle.bench_devices.specs.Keeping.{Fixed, fixed, Kept, kept, AllStayDevices
 use Rattle.bench_devices.specs.Placed.{device_with, without, with_changed}
 use Rattle.bench_world.specs.declared.entry.Entry.{Entry}
 use Rattle.bench_world.specs.World.{WholeWorld, bench_air, Stable, stable}
-use Rattle.bench_world.specs.Legal.{State, Given, AnswerLaw, ReadLaw, FindLaw, CrowdLaw, WritingLaw, LinkingLaw, PutLaw, GetLaw, LookupLaw, UnlinkLaw, LegalStep, EachLegal, begun, changed, due, world_after, state_after}
+use Rattle.bench_world.specs.Legal.{State, Given, AnswerLaw, ReadLaw, FindLaw, CrowdLaw, WritingLaw, LinkingLaw, CallLaw, AnswerBy, LegalStep, EachLegal, begun, changed, due, due_by, world_after, state_after}
 use Rattle.bench_world.specs.Behind.{Touches, LeaveAlone}
 use Rattle.snep_core.specs.Talk.{Puts, Gets, Finds}
 use Rattle.bench_script.specs.Messages.{message_of}
-use Rattle.bench_world.specs.Calls.{IfLinked, due_if, due_on, due_closing}
+use Rattle.link_calls.specs.Asking.{LinkAsking, Does, Closes}
+use Rattle.bench_world.specs.Asked.{asked_on_link}
+use Rattle.bench_world.specs.Calls.{IfLinked, due_asked, due_if}
 use Rattle.bench_world.specs.Links.{OpenLink}
 use Rattle.bench_world.proofs.FarStays.{far_stay}
+use Rattle.bench_world.proofs.Talks.{on_link, still_on}
 
 -- Two devices read alike: they are read in the same way, and hold the same.
 pub record ReadAlike (d e : Device) : Type 0 where
@@ -227,6 +230,12 @@ module _ (id : DeviceId) (s t : State) (g : Given) (e : Entry) (d : Device) (ste
   law_of : (c : Command) → e.command ≡ c → AnswerLaw s g c e.events e.answer
   law_of c is = subst (λ k. AnswerLaw s g k e.events e.answer) is step.answered
 
+  -- whatever is asked on it
+  talk_step : (asked : LinkAsking) (c : Command) → e.command ≡ c → asked_on_link c ≡ Some asked → AnswerBy (Some asked) s g c e.events e.answer → IsAlike (bytes_of id) d t.world.field.listeners
+  talk_step asked c is asks law =
+      linked_step c is (still_on s c (on_link c asked asks)) s.link refl (λ none ns. ap (λ o. due_by o s g c ns) asks ∙ ap (λ o. due_if o (λ l. due_asked asked l g.joins.own ns)) none)
+      (if_linked _ _ _ s.link (λ l (law : CallLaw s g.joins l asked c e.events e.answer). law.devices) law)
+
   by_command : (c : Command) → e.command ≡ c → (Touches id c → ⊥) → IsAlike (bytes_of id) d t.world.field.listeners
   by_command Skip is alone = absurd (law_of Skip is)
   by_command (Fates fates) is alone = quiet_step (Fates fates) is (λ ns. refl) (still_found (bytes_of id) s.world.field.listeners d found)
@@ -251,17 +260,10 @@ module _ (id : DeviceId) (s t : State) (g : Given) (e : Entry) (d : Device) (ste
       subst (λ (x : State). IsAlike (bytes_of id) d x.world.field.listeners) (sym after)
       (beside_found (bytes_of id) (bytes_of i) alone s.world.field.listeners (world_after s g.joins (Write i m) e.events).field.listeners d law.stores.others found)
   by_command (Link i miu window) is alone = let law : LinkingLaw s g.joins i miu window e.events e.answer = law_of (Link i miu window) is in asking_step (Link i miu window) is refl (ap (λ (z : Stable). z.devices) law.stays)
-  by_command (Put m) is alone =
-      linked_step (Put m) is refl s.link refl (λ at ns. ap (λ o. due_if o (λ l. due_on l g.joins.own (Puts (message_of m)) ns)) at) (if_linked _ _ _ s.link (λ l (law : PutLaw s g.joins l m e.events e.answer). law.devices) (law_of (Put m) is))
-  by_command (Get most key) is alone =
-      linked_step (Get most key) is refl s.link refl (λ at ns. ap (λ o. due_if o (λ l. due_on l g.joins.own (Gets most key) ns)) at)
-      (if_linked _ _ _ s.link (λ l (law : GetLaw s g.joins l most key e.events e.answer). ap (λ (z : Stable). z.devices) law.stays) (law_of (Get most key) is))
-  by_command (Lookup name) is alone =
-      linked_step (Lookup name) is refl s.link refl (λ at ns. ap (λ o. due_if o (λ l. due_on l g.joins.own (Finds name) ns)) at)
-      (if_linked _ _ _ s.link (λ l (law : LookupLaw s g.joins l name e.events e.answer). ap (λ (z : Stable). z.devices) law.stays) (law_of (Lookup name) is))
-  by_command Unlink is alone =
-      linked_step Unlink is refl s.link refl (λ at ns. ap (λ o. due_if o (λ l. due_closing l g.joins.own ns)) at)
-      (if_linked _ _ _ s.link (λ l (law : UnlinkLaw s g.joins l e.events e.answer). ap (λ (z : Stable). z.devices) law.stays) (law_of Unlink is))
+  by_command (Put m) is alone = talk_step (Does (Puts (message_of m))) (Put m) is refl (law_of (Put m) is)
+  by_command (Get most key) is alone = talk_step (Does (Gets most key)) (Get most key) is refl (law_of (Get most key) is)
+  by_command (Lookup name) is alone = talk_step (Does (Finds name)) (Lookup name) is refl (law_of (Lookup name) is)
+  by_command Unlink is alone = talk_step Closes Unlink is refl (law_of Unlink is)
 
   pub step_alike : (Touches id e.command → ⊥) → IsAlike (bytes_of id) d t.world.field.listeners
   step_alike alone = by_command e.command refl alone

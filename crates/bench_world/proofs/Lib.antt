@@ -55,14 +55,13 @@ pub mod OnCall
 pub mod CallCalm
 pub mod ReleaseCalm
 pub mod CallEnds
-pub mod Putting
+pub mod Talks
+pub mod Talking
 pub mod Chosen
 pub mod LinkOver
-pub mod PutOver
-pub mod Getting
-pub mod GetOver
 pub mod OnClosing
 pub mod CloseOver
+pub mod TalkOver
 pub mod Names
 pub mod CountedOn
 pub mod ServerRuns

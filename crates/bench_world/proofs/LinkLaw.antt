@@ -24,14 +24,16 @@ use Rattle.bench_world.specs.declared.inbox.LinkRange.{LinkRange}
 use Rattle.bench_world.specs.World.{FarEnd, WholeWorld, Stable}
 use Rattle.link_calls.specs.CallDue.{CallStanding}
 use Rattle.bench_world.specs.declared.entry.Loss.{Loss}
+use Rattle.link_calls.specs.Asking.{Does}
 use Rattle.bench_world.specs.Calls.{OfEnd, PutAdds, link_behind, stands_on, told_call}
 use Rattle.bench_world.specs.Inbox.{inbox_at, inbox_of}
-use Rattle.bench_world.specs.Legal.{State, Given, Joins, Accepts, IsPeerPlaced, AnswerLaw, PutLaw, FrontOf, LegalStep, EachLegal, begun, changed, end_of, first_state, inbox_now, world_after, state_after}
+use Rattle.bench_world.specs.Legal.{State, Given, Joins, Accepts, IsPeerPlaced, AnswerLaw, CallLaw, FrontOf, LegalStep, EachLegal, begun, changed, end_of, first_state, inbox_now, world_after, state_after}
 use Rattle.bench_world.specs.Linking.{LinkTells, link_if, own_general}
 use Rattle.bench_world.specs.LinkLaw.{AreCounted, KeepsLinkLaw, LinksAccept, LinkLaw, TellsInbox, told_by_stories, told_link, told_links, peer_under}
 use Rattle.bench_world.specs.Links.{OpenLink, end_numbered, ended, ended_unless, is_with}
 use Rattle.bench_world.specs.Peers.{Peers, new_end, next_number, placed_under}
 use Rattle.bench_world.specs.Stories.{Story, Stretch, begun_in, first_of, story_if, last_goes_on, open_goes_on, puts_in, state_from, stretch_of, stories_of}
+use Rattle.bench_world.proofs.Talks.{ends_stay}
 use Rattle.bench_world.proofs.AtNumbers.{AreHeld, Held, held, held_at, at_number, held_offered, held_under, at_own_place, more_held, same_held, with_held}
 use Rattle.bench_world.proofs.FarStays.{far_stay}
 use Rattle.bench_world.proofs.HeldOn.{nothing_sent}
@@ -209,7 +211,7 @@ module _ (w : WholeWorld) (q : List Fate) (p : Peers) (ys : List Story) (l : Ope
       let z : P (map held now.fars) = subst P (sym accepted) (put_over put_on t l ys stand.stand m g.joins es a more adds (unless_numbers left (Some l) now.fars p) accepted) in
       subst (Stand t) (sym (append-nil zs)) (call_over now queue p l zs z.0 left places (λ k e. let ends = goes k e in (ends.0, z.1 ends.1)))
 
-  put_here : (m : Msg) (es : List Event) → PutLaw put_on g.joins l m es a → Stand (state_after put_on g.joins (Put m) es (Some a)) (stories_behind put_on (put_stretch m es) (state_after put_on g.joins (Put m) es (Some a)) ys)
+  put_here : (m : Msg) (es : List Event) → CallLaw put_on g.joins l (Does (Puts (message_of m))) (Put m) es a → Stand (state_after put_on g.joins (Put m) es (Some a)) (stories_behind put_on (put_stretch m es) (state_after put_on g.joins (Put m) es (Some a)) ys)
   put_here m es law =
       let c : Command = Put m in
       let now : WholeWorld = world_after put_on g.joins c es in
@@ -302,7 +304,7 @@ module _ (w : WholeWorld) (q : List Fate) (p : Peers) (ys : List Story) (g : Giv
       let stands : CallStanding = stands_on l g.joins.own (Gets most key) es in
       after_front (Some l) (Get most key) es t front
       (called w q p ys l stand g (Some a) (Get most key) es (link_behind l.peer stands) refl refl refl refl
-      (same_held (world_after (from (Some l)) g.joins (Get most key) es) w (ap (λ (z : Stable). z.ends) law.stays)) refl (call_peer l stands a law.told.tells))
+      (same_held (world_after (from (Some l)) g.joins (Get most key) es) w (ends_stay (from (Some l)) l law.more law.adds _ _ law.ends)) refl (call_peer l stands a law.told.tells))
   step_by None (Lookup name) es t stand front law =
       quietly w q p ys None stand g (Some a) (Lookup name) es t front (nothing_sent (begun (from None) g.joins (Lookup name)) es front.turns front.each)
       (no_link (from None) (state_after (from None) g.joins (Lookup name) [] (Some a)) (record { command = Lookup name; joins = g.joins; events = es; told = Some a }) ys refl refl refl stand.places stand.stand)
@@ -310,14 +312,14 @@ module _ (w : WholeWorld) (q : List Fate) (p : Peers) (ys : List Story) (g : Giv
       let stands : CallStanding = stands_on l g.joins.own (Finds name) es in
       after_front (Some l) (Lookup name) es t front
       (called w q p ys l stand g (Some a) (Lookup name) es (link_behind l.peer stands) refl refl refl refl
-      (same_held (world_after (from (Some l)) g.joins (Lookup name) es) w (ap (λ (z : Stable). z.ends) law.stays)) refl (call_peer l stands a law.told.tells))
+      (same_held (world_after (from (Some l)) g.joins (Lookup name) es) w (ends_stay (from (Some l)) l law.more law.adds _ _ law.ends)) refl (call_peer l stands a law.told.tells))
   step_by None Unlink es t stand front law =
       quietly w q p ys None stand g (Some a) Unlink es t front (nothing_sent (begun (from None) g.joins Unlink) es front.turns front.each)
       (no_link (from None) (state_after (from None) g.joins Unlink [] (Some a)) (record { command = Unlink; joins = g.joins; events = es; told = Some a }) ys refl refl refl stand.places stand.stand)
   step_by (Some l) Unlink es t stand front law =
       after_front (Some l) Unlink es t front
       (called w q p ys l stand g (Some a) Unlink es None refl refl refl refl
-      (same_held (world_after (from (Some l)) g.joins Unlink es) w (ap (λ (z : Stable). z.ends) law.stays)) refl (λ m e. absurd cc))
+      (same_held (world_after (from (Some l)) g.joins Unlink es) w (ends_stay (from (Some l)) l law.more law.adds _ _ law.ends)) refl (λ m e. absurd cc))
 
 pub step : (s t : State) (g : Given) (e : Entry) (ys : List Story) → Stand s ys → LegalStep s g e t → Stand t (stories_behind s (stretch_of g.joins e) t ys)
 step s t g e ys stand legal = step_by s.world s.queue s.peers ys g e.answer s.link e.command e.events t stand legal.front legal.answered

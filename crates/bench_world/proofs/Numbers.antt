@@ -1,26 +1,32 @@
 -- Which commands have to do with far ends, and so may take numbers of PDUs.
-use Rattle.std.proofs.Common.{◌≡◌, refl}
+use Rattle.std.proofs.Common.{◌≡◌, Option, Some, None, refl}
+use Rattle.link_calls.specs.Asking.{LinkAsking}
 use Rattle.bench_script.specs.declared.command.Command.{Command}
-use Rattle.bench_script.specs.declared.command.Command.TheVariants.{Link, Put, Get, Lookup, Unlink}
-use Rattle.bench_world.specs.Legal.{IsOnLink, Joins, joins_for, no_joins}
+use Rattle.bench_script.specs.declared.command.Command.TheVariants.{Link}
+use Rattle.bench_world.specs.Asked.{asked_on_link}
+use Rattle.bench_world.specs.Legal.{Joins, joins_by, joins_for, no_joins}
 
 -- Where a link is opened and on the open link far ends have a part.
+abbrev pub HasPart : Option LinkAsking → Type 0
+HasPart None = ⊥
+HasPart (Some asked) = Unit {0}
+
 abbrev pub UsesFars : Command → Type 0
 UsesFars (Link id miu window) = Unit {0}
-UsesFars c = IsOnLink c
+UsesFars c = HasPart (asked_on_link c)
 
 -- no numbers are some that any command takes
 pub none_taken : (c : Command) → no_joins ≡ joins_for c no_joins
-none_taken (Put message) = refl
-none_taken (Get most key) = refl
-none_taken (Lookup name) = refl
-none_taken Unlink = refl
-none_taken c = refl
+none_taken c = by (asked_on_link c)
+  where
+    by : (o : Option LinkAsking) → no_joins ≡ joins_by o no_joins
+    by None = refl
+    by (Some asked) = refl
 
 -- where as many PDUs as fit are joined a command takes no numbers
 pub none_for : (c : Command) (joins : Joins) → joins ≡ no_joins → joins_for c joins ≡ no_joins
-none_for (Put message) joins e = e
-none_for (Get most key) joins e = e
-none_for (Lookup name) joins e = e
-none_for Unlink joins e = e
-none_for c joins e = refl
+none_for c joins e = by (asked_on_link c)
+  where
+    by : (o : Option LinkAsking) → joins_by o joins ≡ no_joins
+    by None = refl
+    by (Some asked) = e

@@ -16,8 +16,8 @@ use Rattle.dep_link.specs.Initiator.{InitState}
 use Rattle.dep_link.specs.Releasing.{rls_frame}
 use Rattle.snep_core.specs.Accord.{IsClosed}
 use Rattle.llcp_link.specs.Counting.{StopsCounted}
-use Rattle.snep_core.specs.Server.{ServerState, serving}
-use Rattle.snep_core.specs.Talk.{EndState, Step, Leaves, begins}
+use Rattle.snep_core.specs.Server.{Received, ServerState, serving}
+use Rattle.snep_core.specs.Talk.{EndState, Step, Leaves, begins, client_sap}
 use Rattle.link_calls.specs.Arriving.{Arrives, ArrivesCut}
 use Rattle.link_calls.specs.CallDue.{BrokenBy, call_due}
 use Rattle.link_calls.specs.ClosingDue.{ClosingStanding, Calls, Released, closing_due, closing_due_at, closing_stand}
@@ -47,7 +47,7 @@ use Rattle.bench_world.proofs.CallCalm.{IsCalm, added_calm, calm_then, made_calm
 use Rattle.bench_world.proofs.OnLink.{Ends as FarEnds, accepted_now, going, leaves, own, stands, trace_is}
 use Rattle.bench_world.proofs.Quiet.{no_breaks}
 use Rattle.bench_world.proofs.ReleaseCalm.{release_calm}
-use Rattle.bench_world.proofs.OnCall.{cut_off, end, from_state, given_by, halted, obeyed, place, stays_then, world_then}
+use Rattle.bench_world.proofs.OnCall.{cut_off, devices_then, end, ends_then, from_state, given_by, halted, obeyed, place, world_then}
 
 module _ (air : Air Device) (ends : FarEnds) (peers : Peers) (l : OpenLink) (settled : IsSettled (under ends peers (Some l) air)) (joins : Joins) (b : Air Device) (after : Choosing FarEnd) where
   abbrev pub from : Step
@@ -108,7 +108,11 @@ module _ (air : Air Device) (ends : FarEnds) (peers : Peers) (l : OpenLink) (set
           };
           came = came_at air ends peers l settled next plain b joins.far after t.notes t.going (world_after (from_state air ends peers l settled) joins Unlink events)
               (world_then air ends peers l settled next plain Unlink joins b after t.notes t.going refl tt refl refl same) None arrives tt;
-          stays = stays_then air ends peers l settled next plain Unlink joins b after t.notes t.going refl tt refl refl same set accepted;
+          tells = of_end air ends peers l settled (λ e. Unit {0}) tt;
+          more = [];
+          adds = of_end air ends peers l settled (λ e. ◌≡◌ {A = List Received} [] []) refl;
+          devices = devices_then air ends peers l settled next plain Unlink joins b after t.notes t.going refl tt refl refl same;
+          ends = ends_then air ends peers l settled next plain Unlink joins b after t.notes t.going refl tt refl refl same [] set (accepted ∙ sym (append-nil far.service.accepted));
         }) set refl refl tt
 
     pub closing_cut : setting_of after.end ≡ setting_of far → after.end.service.accepted ≡ far.service.accepted → ArrivesCut l.initiator.core.number (drop (length air.trace) b.trace) counted after → CutFront joins (from_state air ends peers l settled) Unlink b.trace (state_at gone)
@@ -118,7 +122,10 @@ module _ (air : Air Device) (ends : FarEnds) (peers : Peers) (l : OpenLink) (set
         (record {
           came = cut_at air ends peers l settled next plain b joins.far after t.notes t.going (world_after (from_state air ends peers l settled) joins Unlink events)
               (world_then air ends peers l settled next plain Unlink joins b after t.notes t.going refl tt refl refl same) arrives;
-          stays = stays_then air ends peers l settled next plain Unlink joins b after t.notes t.going refl tt refl refl same set accepted;
+          more = [];
+          adds = of_end air ends peers l settled (λ e. ◌≡◌ {A = List Received} [] []) refl;
+          devices = devices_then air ends peers l settled next plain Unlink joins b after t.notes t.going refl tt refl refl same;
+          ends = ends_then air ends peers l settled next plain Unlink joins b after t.notes t.going refl tt refl refl same [] set (accepted ∙ sym (append-nil far.service.accepted));
         })
 
   -- no device hands anything over at RLS_REQ
@@ -137,7 +144,7 @@ module _ (air : Air Device) (ends : FarEnds) (peers : Peers) (l : OpenLink) (set
     sent_calm {heard} s =
         calm_then air s.mid b (made_calm joins.own from s.to air s.mid l.initiator s.rest counted s.half s.made) (release_calm quiet s.mid b spot s.rest (in_step_then s) s.half after heard s.turn)
 
-    pub released : (to : Step) → IsReleased ghosts device_end joins.own from air l.initiator counted b after to → IsClosed far client after.end → ObeyedBy joins (under ends peers (Some l) air) gone Unlink answers.Unlinked
+    pub released : (to : Step) → IsReleased ghosts device_end joins.own from air l.initiator counted b after to → IsClosed client_sap far client after.end → ObeyedBy joins (under ends peers (Some l) air) gone Unlink answers.Unlinked
     released to r c =
         let t = r.turns device_linked devices_link spot (stands air ends peers l settled) ends in
         closed (Released to) t (sent_set r.sent) (ap (λ (s : ServerState). s.accepted) c.aside.service) (r.sent.arrives quiet) answers.Unlinked refl refl
@@ -205,6 +212,6 @@ module _ (air : Air Device) (ends : FarEnds) (peers : Peers) (l : OpenLink) (set
               let t = f.turns in
               halted air ends peers l settled (closing_due joins.own from l.initiator) (closings_plain joins.own from l.initiator) Unlink joins f.mid f.half t.notes t.going refl tt refl refl (λ ns. refl)
               h.sent h.payload h.listeners b (ap closing_due_at t.stands ∙ h.asked) h.passes h.heard h.left
-              after.end [] (s.setting quiet) (accepted ∙ sym (append-nil far.service.accepted)) (of_end air ends peers l settled (λ e. HaltAdds Unlink e []) refl) tt after.numbers (s.arrives quiet))
+              after.end [] (s.setting quiet) (accepted ∙ sym (append-nil far.service.accepted)) (of_end air ends peers l settled (λ e. HaltAdds Unlink e []) refl) refl after.numbers (s.arrives quiet))
           | inr (inr h) ↦ absurd (h.hands quiet)
         ]

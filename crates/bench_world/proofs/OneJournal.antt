@@ -20,10 +20,11 @@ use Rattle.bench_devices.specs.Writing.{AsksWriteOf}
 use Rattle.bench_script.specs.Messages.{message_of}
 use Rattle.nfc_base.specs.TagLinks.{plain_state}
 use Rattle.tag_writer.proofs.OneWrite.{one_write as one_write_list}
-use Rattle.bench_world.specs.Legal.{State, Given, Joins, IsAskedBy, AnswerLaw, PutLaw, GetLaw, LookupLaw, UnlinkLaw, FrontOf, EachLegal, begun, changed, due, state_after, first_state}
+use Rattle.bench_world.specs.Legal.{State, Given, Joins, IsAskedBy, AnswerBy, AnswerLaw, CallLaw, FrontOf, EachLegal, begun, changed, due, state_after, first_state}
 use Rattle.snep_core.specs.Talk.{Puts, Gets, Finds}
 use Rattle.bench_script.specs.declared.command.DeviceId.TheVariants.{A}
-use Rattle.bench_world.specs.Calls.{stands_on, stands_closing, told_call, told_closing}
+use Rattle.link_calls.specs.Asking.{LinkAsking, Does, Closes}
+use Rattle.bench_world.specs.Calls.{told_asked}
 use Rattle.bench_world.specs.Linking.{own_general}
 use Rattle.bench_world.specs.World.{bench_air}
 use Rattle.bench_world.specs.Journal.{NumberedLine, AreEntriesOf, asking_lines, LeadsTo}
@@ -53,6 +54,12 @@ one_dump : (o : Option Device) (a b : Answer) → OfPlaced (λ d. a ≡ Store (m
 one_dump None a b p q = absurd p
 one_dump (Some d) a b p q = p ∙ sym q
 
+-- what was asked on the open link is told by where it stands
+one_called : (asked : LinkAsking) (s : State) (c : Command) (g : Given) (events : List Event) (a b : Answer) → AnswerBy (Some asked) s g c events a → AnswerBy (Some asked) s g c events b → a ≡ b
+one_called asked s c g events a b p q =
+    one_linked s.link (λ l. CallLaw s g.joins l asked c events a) (λ l. CallLaw s g.joins l asked c events b) a b
+    (λ l x y. one_told_so (told_asked asked l g.joins.own events) events a b x.told y.told) p q
+
 -- what happened decides what it answers
 one_answer : (s : State) (c : Command) (g : Given) (events : List Event) (a b : Answer) → AnswerLaw s g c events a → AnswerLaw s g c events b → a ≡ b
 one_answer s Skip g events a b p q = absurd p
@@ -72,14 +79,10 @@ one_answer s Crowd g events a b p q = one_tags s.world.field.listeners events a 
 one_answer s (Read id) g events a b p q = one_read id s.world.field.listeners g.asked events a b p.tells q.tells
 one_answer s (Write id m) g events a b p q = one_write id s.world.field.listeners (message_of m) g.asked events a b p.tells q.tells
 one_answer s (Link id miu window) g events a b p q = one_link (A id) s.world.field.listeners (length s.peers.links + 1) (own_general miu) events a b p.tells q.tells
-one_answer s (Put m) g events a b p q =
-    one_linked s.link (λ l. PutLaw s g.joins l m events a) (λ l. PutLaw s g.joins l m events b) a b (λ l x y. one_told_so (told_call (stands_on l g.joins.own (Puts (message_of m)) events)) events a b x.told y.told) p q
-one_answer s (Get most key) g events a b p q =
-    one_linked s.link (λ l. GetLaw s g.joins l most key events a) (λ l. GetLaw s g.joins l most key events b) a b (λ l x y. one_told_so (told_call (stands_on l g.joins.own (Gets most key) events)) events a b x.told y.told) p q
-one_answer s (Lookup name) g events a b p q =
-    one_linked s.link (λ l. LookupLaw s g.joins l name events a) (λ l. LookupLaw s g.joins l name events b) a b (λ l x y. one_told_so (told_call (stands_on l g.joins.own (Finds name) events)) events a b x.told y.told) p q
-one_answer s Unlink g events a b p q =
-    one_linked s.link (λ l. UnlinkLaw s g.joins l events a) (λ l. UnlinkLaw s g.joins l events b) a b (λ l x y. one_told_so (told_closing (stands_closing l g.joins.own events)) events a b x.told y.told) p q
+one_answer s (Put m) g events a b p q = one_called (Does (Puts (message_of m))) s (Put m) g events a b p q
+one_answer s (Get most key) g events a b p q = one_called (Does (Gets most key)) s (Get most key) g events a b p q
+one_answer s (Lookup name) g events a b p q = one_called (Does (Finds name)) s (Lookup name) g events a b p q
+one_answer s Unlink g events a b p q = one_called Closes s Unlink g events a b p q
 
 -- From a state a command is obeyed in one way by the same numbers.
 module _ (s : State) (c : Command) (g h : Given) (es fs : List Event) (a b : Answer) (t u : State) (p : FrontOf s g c es (Some a) t) (q : FrontOf s h c fs (Some b) u) (done : due s g c (receptions es) ≡ Over) (over : due s h c (receptions fs) ≡ Over)

@@ -13,7 +13,6 @@ use Rattle.link_calls.specs.CallDue.{CallStanding, Carries, Comes, BrokenBy, Str
 use Rattle.bench_script.specs.declared.command.Command.{Command}
 use Rattle.bench_script.specs.declared.command.Command.TheVariants.{Skip, Fates, PlaceT2, PlaceT4, PlaceT5, PlacePeer, Lock, Busy, Offer, Remove, Dump, Inbox, Find, Crowd, Read, Write, Link, Put, Get, Lookup, Unlink}
 use Rattle.bench_script.specs.declared.command.DeviceId.{DeviceId}
-use Rattle.bench_script.specs.declared.message.Msg.{Msg}
 use Rattle.bench_script.specs.DeviceIds.{bytes_of}
 use Rattle.bench_script.specs.Messages.{message_of}
 use Rattle.bench_devices.specs.declared.device.Device.{Device}
@@ -25,8 +24,10 @@ use Rattle.bench_world.specs.declared.entry.Entry.{Entry}
 use Rattle.bench_world.specs.World.{FarEnd, bench_air}
 use Rattle.bench_world.specs.Arriving.{ArrivesAt}
 use Rattle.bench_world.specs.ByPayloads.{IsByPayloads}
-use Rattle.bench_world.specs.Calls.{IfLinked, call_behind, link_behind, stands_on}
-use Rattle.bench_world.specs.Legal.{State, Given, AnswerLaw, EachLegal, GetLaw, LinkingLaw, LookupLaw, PutLaw, UnlinkLaw, begun, changed, due, is_linked_to, link_after, state_after, unlinked, world_after}
+use Rattle.link_calls.specs.Asking.{LinkAsking, Does, Closes}
+use Rattle.bench_world.specs.Asked.{asked_on_link}
+use Rattle.bench_world.specs.Calls.{IfLinked, asked_behind, call_behind, link_behind, stands_on}
+use Rattle.bench_world.specs.Legal.{State, Given, AnswerBy, AnswerLaw, CallLaw, EachLegal, LinkingLaw, begun, changed, due, is_linked_to, link_after, link_left, peers_left, state_after, unlinked, world_after}
 use Rattle.bench_world.specs.Linking.{link_if, own_general}
 use Rattle.bench_world.specs.Links.{OpenLink, begun_if, end_numbered, ended_unless, is_number, is_with}
 use Rattle.bench_world.specs.Peers.{Peers, end_offered, new_end, next_number, placed_under, with_place_changed, without_place}
@@ -245,29 +246,23 @@ module _ (s : State) (g : Given) (ys : List Story) (h : KeptIn s ys) where
       (called_kept s.link refl (call_behind (Some answer) s.link stands) x t numbers (λ at. ap (λ o. call_behind (Some answer) o stands) at) came
       (λ l k at is. behind_peer l.peer (stands l) k (sym (ap (λ o. call_behind (Some answer) o stands) at) ∙ is)))
 
-  put_kept : (m : Msg) (es : List Event) (answer : Answer) → AnswerLaw s g (Put m) es answer → Goal (Put m) es answer
-  put_kept m es answer law =
-      plain (Put m) es answer refl (call_kept (Put m) es answer (λ l. stands_on l g.joins.own (Puts (message_of m)) es)
-      (unless_numbers (link_after s g.joins (Put m) es (Some answer)) s.link (world_after s g.joins (Put m) es).fars s.peers) refl
-      (λ l at. (on_it (λ k. PutLaw s g.joins k m es answer) (answer ≡ answers.NoLink) l at law).came))
+  -- so by whatever is asked
+  asked_kept : (asked : LinkAsking) (c : Command) (es : List Event) (answer : Answer) → (behind c es answer).peers.numbers ≡ ps → (behind c es answer).link ≡ asked_behind asked (Some answer) s.link g.joins.own es
+      → ((l : OpenLink) → s.link ≡ Some l → ArrivesSo l g.joins.far (behind c es answer).world.fars es (behind c es answer).link) → GoesOn s.link c es answer
+  asked_kept (Does task) c es answer numbers link came =
+      call_kept c es answer (λ l. stands_on l g.joins.own task es) numbers link (λ l at. subst (ArrivesSo l g.joins.far (behind c es answer).world.fars es) link (came l at))
+  asked_kept Closes c es answer numbers link came =
+      let t : State = behind c es answer in
+      subst (λ o. Kept o t (open_goes_on s.link (goes_on s (stretch c es answer) t) ys)) (sym link)
+      (called_kept s.link refl None (stretch c es answer) t numbers (λ at. refl) (λ l at. subst (ArrivesSo l g.joins.far t.world.fars es) link (came l at)) (λ l k at is. absurd cc))
 
-  get_kept : (most : ℕ) (key : List ℕ) (es : List Event) (answer : Answer) → AnswerLaw s g (Get most key) es answer → Goal (Get most key) es answer
-  get_kept most key es answer law =
-      plain (Get most key) es answer refl (call_kept (Get most key) es answer (λ l. stands_on l g.joins.own (Gets most key) es)
-      (unless_numbers (link_after s g.joins (Get most key) es (Some answer)) s.link (world_after s g.joins (Get most key) es).fars s.peers) refl
-      (λ l at. (on_it (λ k. GetLaw s g.joins k most key es answer) (answer ≡ answers.NoLink) l at law).came))
-
-  lookup_kept : (name : List ℕ) (es : List Event) (answer : Answer) → AnswerLaw s g (Lookup name) es answer → Goal (Lookup name) es answer
-  lookup_kept name es answer law =
-      plain (Lookup name) es answer refl (call_kept (Lookup name) es answer (λ l. stands_on l g.joins.own (Finds name) es)
-      (unless_numbers (link_after s g.joins (Lookup name) es (Some answer)) s.link (world_after s g.joins (Lookup name) es).fars s.peers) refl
-      (λ l at. (on_it (λ k. LookupLaw s g.joins k name es answer) (answer ≡ answers.NoLink) l at law).came))
-
-  -- the link is closed
-  unlink_kept : (es : List Event) (answer : Answer) → AnswerLaw s g Unlink es answer → Goal Unlink es answer
-  unlink_kept es answer law =
-      plain Unlink es answer refl (called_kept s.link refl None (stretch Unlink es answer) (behind Unlink es answer) (same_numbers s.link s.peers (world_after s g.joins Unlink es).fars) (λ at. refl)
-      (λ l at. (on_it (λ k. UnlinkLaw s g.joins k es answer) (answer ≡ answers.NoLink) l at law).came) (λ l k at is. absurd cc))
+  -- a command that asks this
+  talk_kept : (asked : LinkAsking) (c : Command) (es : List Event) (answer : Answer) → asked_on_link c ≡ Some asked → AnswerBy (Some asked) s g c es answer → GoesOn s.link c es answer
+  talk_kept asked c es answer asks law =
+      let peers : (behind c es answer).peers ≡ ended_unless (link_after s g.joins c es (Some answer)) s.link (world_after s g.joins c es).fars s.peers = ap (λ o. peers_left o s g.joins c es (Some answer)) asks in
+      asked_kept asked c es answer
+      (ap (λ (z : Peers). z.numbers) peers ∙ unless_numbers (link_after s g.joins c es (Some answer)) s.link (world_after s g.joins c es).fars s.peers)
+      (ap (λ o. link_left o s g.joins c es (Some answer)) asks) (λ l at. (on_it (λ k. CallLaw s g.joins k asked c es answer) (answer ≡ answers.NoLink) l at law).came)
 
   -- one is opened, or none
   link_kept : (id : List ℕ) (miu rw : ℕ) (es : List Event) (answer : Answer) → LinkingLaw s g.joins id miu rw es answer → Goal (Link id miu rw) es answer
@@ -308,10 +303,10 @@ module _ (s : State) (g : Given) (ys : List Story) (h : KeptIn s ys) where
   step_kept (Read id) es answer turns each law = none_open (Read id) es answer refl refl refl
   step_kept (Write id m) es answer turns each law = none_open (Write id m) es answer refl refl refl
   step_kept (Link id miu rw) es answer turns each law = link_kept id miu rw es answer law
-  step_kept (Put m) es answer turns each law = put_kept m es answer law
-  step_kept (Get most key) es answer turns each law = get_kept most key es answer law
-  step_kept (Lookup name) es answer turns each law = lookup_kept name es answer law
-  step_kept Unlink es answer turns each law = unlink_kept es answer law
+  step_kept (Put m) es answer turns each law = plain (Put m) es answer refl (talk_kept (Does (Puts (message_of m))) (Put m) es answer refl law)
+  step_kept (Get most key) es answer turns each law = plain (Get most key) es answer refl (talk_kept (Does (Gets most key)) (Get most key) es answer refl law)
+  step_kept (Lookup name) es answer turns each law = plain (Lookup name) es answer refl (talk_kept (Does (Finds name)) (Lookup name) es answer refl law)
+  step_kept Unlink es answer turns each law = plain Unlink es answer refl (talk_kept Closes Unlink es answer refl law)
 
 -- through some entries
 pub kept_along : (s : State) (gs : List Given) (es : List Entry) (t : State) (ys : List Story) → KeptIn s ys → EachLegal s gs es t

@@ -1,5 +1,5 @@
 -- On quiet air no reception is bad but the silences of polling, and a script without noise comes to what it should.
-use Rattle.std.proofs.Common.{◌≡◌, ◌⊎◌, inl, inr, ℕ, List, [], ◌∷◌, ◌++◌, true, false, Option, Some, None, Ok, refl, sym, ◌∙◌, ap, subst}
+use Rattle.std.proofs.Common.{◌≡◌, ◌⊎◌, inl, inr, ℕ, List, [], ◌∷◌, ◌++◌, true, false, Option, Some, None, IsSome, Ok, refl, sym, ◌∙◌, ap, subst}
 use Rattle.std.specs.List.{AllByRecursion}
 use Rattle.nfc_base.specs.Signal.{Signal}
 use Rattle.nfc_base.specs.LinkTurns.{bad_receptions}
@@ -14,7 +14,6 @@ use Rattle.bench_script.specs.declared.message.Msg.{Msg}
 use Rattle.bench_script.specs.DeviceIds.{bytes_of}
 use Rattle.bench_script.specs.Messages.{message_of}
 use Rattle.bench_script.specs.Script.{Spells, SpellsId}
-use Rattle.snep_core.specs.Talk.{Puts, Gets, Finds, Leaves, begins}
 use Rattle.tag_reader.specs.Asked.{ToRead}
 use Rattle.bench_devices.specs.declared.device.Device.{Device}
 use Rattle.bench_devices.specs.Device.{BenchWorld, air, how_of, seen_of, is_tag}
@@ -34,9 +33,11 @@ use Rattle.bench_world.specs.declared.entry.Answer.TheVariants as answers
 use Rattle.bench_world.specs.declared.entry.Entry.{Entry}
 use Rattle.bench_world.specs.Journal.{asking_lines}
 use Rattle.bench_world.proofs.Numbers.{UsesFars}
-use Rattle.bench_world.specs.Calls.{IfLinked, due_if, due_on, due_closing}
+use Rattle.link_calls.specs.Asking.{LinkAsking}
+use Rattle.bench_world.specs.Asked.{IsOnLink, asked_on_link}
+use Rattle.bench_world.specs.Calls.{IfLinked, due_asked, due_if}
 use Rattle.bench_world.specs.Links.{OpenLink}
-use Rattle.bench_world.specs.Legal.{State, Given, LegalStep, AnswerLaw, LinkingLaw, PutLaw, GetLaw, LookupLaw, UnlinkLaw, IsAskedBy, IsOnLink, changed, due, first_state}
+use Rattle.bench_world.specs.Legal.{State, Given, LegalStep, AnswerLaw, LinkingLaw, AnswerBy, CallLaw, IsAskedBy, changed, due, due_by, first_state}
 use Rattle.bench_world.specs.Quiet.{AllPass}
 use Rattle.bench_world.specs.QuietHearing.{AllAlong, selected_by, AnswersAll, IsWellHeard, IsHeardIfQuiet, IsQuietLine, IsQuietEntry, QuietHears, QuietScript}
 use Rattle.bench_world.proofs.Complete.{of_first}
@@ -47,7 +48,7 @@ use Rattle.bench_world.proofs.Quiet.{quiet_stays, quiet_reads, quiet_writes, qui
 use Rattle.bench_world.proofs.QuietLinks.{quiet_talks}
 use Rattle.bench_world.proofs.Written.{told_written}
 use Rattle.bench_world.proofs.WholeNotes.{all_unharmed, nothing_asked, whole_notes}
-use Rattle.bench_world.proofs.CallNotes.{calls_plain, closings_plain}
+use Rattle.bench_world.proofs.Talks.{never_lit, off}
 use Rattle.bench_world.proofs.OneAnswer.{one_end}
 use Rattle.bench_world.proofs.Reached.{IsReadable, IsReady, message_bytes, ready_step, along, asking_all, first_ready}
 
@@ -120,36 +121,18 @@ module _ (s t : State) (g : Given) (line : List ℕ) (e : Entry) (r : IsReady s.
   abbrev asked : Command → Type 0
   asked c = EachDue (due s g c) [] e.events
 
+  talk_heard : (asking : LinkAsking) (c : Command) → asked_on_link c ≡ Some asking → lawful c → asked c → AllByRecursion IsAnswered (receptions e.events)
+  talk_heard asking c asks law each =
+      on_link (λ l ns. due_asked asking l g.joins.own ns) (λ l. CallLaw s g.joins l asking c e.events e.answer) (e.answer ≡ answers.NoLink) s.link
+      (λ l ns. never_lit asking l g.joins.own ns) (λ l h. h.told.calm none) (subst (λ o. AnswerBy o s g c e.events e.answer) asks law)
+      (subst (λ o. EachDue (λ ns. due_by o s g c ns) [] e.events) asks each)
+
   talked : (c : Command) → lawful c → asked c → IsOnLink c → AllByRecursion IsAnswered (receptions e.events)
-  talked (Put m) law each on =
-      on_link (λ l ns. due_on l g.joins.own (Puts (message_of m)) ns) (λ l. PutLaw s g.joins l m e.events e.answer) (e.answer ≡ answers.NoLink) s.link
-      (λ l ns. (calls_plain g.joins.own (begins l.client (Puts (message_of m))) l.initiator ns).lit) (λ l h. h.told.calm none) law each
-  talked (Get most key) law each on =
-      on_link (λ l ns. due_on l g.joins.own (Gets most key) ns) (λ l. GetLaw s g.joins l most key e.events e.answer) (e.answer ≡ answers.NoLink) s.link
-      (λ l ns. (calls_plain g.joins.own (begins l.client (Gets most key)) l.initiator ns).lit) (λ l h. h.told.calm none) law each
-  talked (Lookup name) law each on =
-      on_link (λ l ns. due_on l g.joins.own (Finds name) ns) (λ l. LookupLaw s g.joins l name e.events e.answer) (e.answer ≡ answers.NoLink) s.link
-      (λ l ns. (calls_plain g.joins.own (begins l.client (Finds name)) l.initiator ns).lit) (λ l h. h.told.calm none) law each
-  talked Unlink law each on =
-      on_link (λ l ns. due_closing l g.joins.own ns) (λ l. UnlinkLaw s g.joins l e.events e.answer) (e.answer ≡ answers.NoLink) s.link
-      (λ l ns. (closings_plain g.joins.own (begins l.client Leaves) l.initiator ns).lit) (λ l h. h.told.calm none) law each
-  talked Skip law each on = absurd on
-  talked (Fates fates) law each on = absurd on
-  talked (PlaceT2 i blocks head) law each on = absurd on
-  talked (PlaceT4 i code container head) law each on = absurd on
-  talked (PlaceT5 i blocks size head) law each on = absurd on
-  talked (PlacePeer i lr miu rw limit) law each on = absurd on
-  talked (Lock i block) law each on = absurd on
-  talked (Busy i count times) law each on = absurd on
-  talked (Offer i key value) law each on = absurd on
-  talked (Remove i) law each on = absurd on
-  talked (Dump i) law each on = absurd on
-  talked (Inbox i) law each on = absurd on
-  talked Find law each on = absurd on
-  talked Crowd law each on = absurd on
-  talked (Read i) law each on = absurd on
-  talked (Write i m) law each on = absurd on
-  talked (Link i miu window) law each on = absurd on
+  talked c law each on = by (asked_on_link c) refl on
+    where
+      by : (o : Option LinkAsking) → asked_on_link c ≡ o → IsSome o → AllByRecursion IsAnswered (receptions e.events)
+      by None asks some = off some
+      by (Some asking) asks some = talk_heard asking c asks law each
 
   by_command : (c : Command) → e.command ≡ c → (id : DeviceId) → selected_by c ≡ Some id → AnswersAll id e
   by_command Skip is id of = absurd cc

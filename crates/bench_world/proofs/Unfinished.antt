@@ -16,13 +16,17 @@ use Rattle.bench_devices.specs.Placed.{device_with, IfPlaced}
 use Rattle.bench_devices.proofs.ImagesJoin.{law_start}
 use Rattle.bench_devices.proofs.TagOrPeer.{if_tag}
 use Rattle.bench_world.specs.World.{Stable, WholeWorld}
+use Rattle.snep_core.specs.Talk.{Puts, Gets, Finds}
+use Rattle.link_calls.specs.Asking.{LinkAsking, Does, Closes}
+use Rattle.bench_world.specs.Asked.{IsOnLink}
 use Rattle.bench_world.specs.Calls.{IfLinked}
 use Rattle.bench_world.specs.Links.{OpenLink}
-use Rattle.bench_world.specs.Legal.{State, Given, Joins, CutCall, CutFront, CutOff, CutPut, CutShort, CutStores, FrontOf, IsOnLink, LeavesStable, PeerHalts, StoresLaw, changed, world_after}
+use Rattle.bench_world.specs.Legal.{State, Given, Joins, CutCall, CutFront, CutOff, CutShort, CutStores, FrontOf, LeavesStable, PeerHalts, StoresLaw, changed, world_after}
 use Rattle.bench_world.specs.Unfinished.{Unfinished, WriteUnfinished}
 use Rattle.bench_world.specs.Writing.{KeepsStores}
 use Rattle.bench_world.proofs.Fronts.{field_after}
 use Rattle.bench_world.proofs.OnLink.{kept_stable}
+use Rattle.bench_world.proofs.Talks.{off}
 use Rattle.bench_world.proofs.WriteBehind.{last_image}
 use Rattle.bench_world.proofs.WriteLegality.{found_named}
 
@@ -74,16 +78,10 @@ DevicesStay s t = map stable_of t.world.field.listeners ≡ map stable_of s.worl
 front_stays : (s t : State) (g : Given) (c : Command) (cut : List Event) → FrontOf s g c cut None t → map stable_of (world_after s g.joins c cut).field.listeners ≡ map stable_of s.world.field.listeners → DevicesStay s t
 front_stays s t g c cut front stays = ap (λ (x : State). map stable_of x.world.field.listeners) front.after ∙ stays
 
-put_stays : (s : State) (joins : Joins) (m : Msg) (cut : List Event) (o : Option OpenLink) → IfLinked o (λ l. CutPut s joins l m cut) (LeavesStable s joins (Put m) cut)
-    → map stable_of (world_after s joins (Put m) cut).field.listeners ≡ map stable_of s.world.field.listeners
-put_stays s joins m cut None stays = ap (λ (z : Stable). z.devices) stays
-put_stays s joins m cut (Some l) put = put.devices
-
--- so does any other call
-call_stays : (s : State) (joins : Joins) (c : Command) (cut : List Event) (o : Option OpenLink) → IfLinked o (λ l. CutCall s joins l c cut) (LeavesStable s joins c cut)
-    → map stable_of (world_after s joins c cut).field.listeners ≡ map stable_of (changed s c).world.field.listeners
-call_stays s joins c cut None stays = ap (λ (z : Stable). z.devices) stays
-call_stays s joins c cut (Some l) call = ap (λ (z : Stable). z.devices) call.stays
+call_stays : (s : State) (joins : Joins) (asked : LinkAsking) (c : Command) (cut : List Event) (o : Option OpenLink) → changed s c ≡ s → IfLinked o (λ l. CutCall s joins l asked c cut) (LeavesStable s joins c cut)
+    → map stable_of (world_after s joins c cut).field.listeners ≡ map stable_of s.world.field.listeners
+call_stays s joins asked c cut None still stays = ap (λ (z : Stable). z.devices) stays ∙ ap (λ (x : State). map stable_of x.world.field.listeners) still
+call_stays s joins asked c cut (Some l) still call = call.devices
 
 front_left : (s t : State) (g : Given) (c : Command) (cut : List Event) → FrontOf s g c cut None t → CutStores s g.joins c cut → Unfinished s c cut t
 front_left s t g Find cut front stores = front_stays s t g Find cut front (ap (λ (z : Stable). z.devices) stores)
@@ -91,10 +89,10 @@ front_left s t g Crowd cut front stores = front_stays s t g Crowd cut front (ap 
 front_left s t g (Read id) cut front stores = front_stays s t g (Read id) cut front (ap (λ (z : Stable). z.devices) stores)
 front_left s t g (Write id m) cut front stores = front_written s t g id m cut front stores
 front_left s t g (Link id miu window) cut front stores = front_stays s t g (Link id miu window) cut front (ap (λ (z : Stable). z.devices) stores)
-front_left s t g (Put m) cut front stores = front_stays s t g (Put m) cut front (put_stays s g.joins m cut s.link stores)
-front_left s t g (Get most key) cut front stores = front_stays s t g (Get most key) cut front (call_stays s g.joins (Get most key) cut s.link stores)
-front_left s t g (Lookup name) cut front stores = front_stays s t g (Lookup name) cut front (call_stays s g.joins (Lookup name) cut s.link stores)
-front_left s t g Unlink cut front stores = front_stays s t g Unlink cut front (call_stays s g.joins Unlink cut s.link stores)
+front_left s t g (Put m) cut front stores = front_stays s t g (Put m) cut front (call_stays s g.joins (Does (Puts (message_of m))) (Put m) cut s.link refl stores)
+front_left s t g (Get most key) cut front stores = front_stays s t g (Get most key) cut front (call_stays s g.joins (Does (Gets most key)) (Get most key) cut s.link refl stores)
+front_left s t g (Lookup name) cut front stores = front_stays s t g (Lookup name) cut front (call_stays s g.joins (Does (Finds name)) (Lookup name) cut s.link refl stores)
+front_left s t g Unlink cut front stores = front_stays s t g Unlink cut front (call_stays s g.joins Closes Unlink cut s.link refl stores)
 front_left s t g c cut front stores = absurd stores
 
 -- The peer's end stopped.
@@ -105,11 +103,8 @@ halt_left joins s t c cut h = by_command c h.on_link
     stays = kept_stable s.world.field.listeners t.world.field.listeners h.leaves.talk.2.same
 
     by_command : (x : Command) → IsOnLink x → Unfinished s x cut t
-    by_command (Put m) talks = stays
-    by_command (Get most key) talks = stays
-    by_command (Lookup name) talks = stays
-    by_command Unlink talks = stays
-    by_command x talks = absurd talks
+    by_command (Write id m) talks = off talks
+    by_command x talks = stays
 
 pub unfinished : (joins : Joins) (s t : State) (c : Command) (cut : List Event) → CutOff joins s c cut t → Unfinished s c cut t
 unfinished joins s t c cut (inl (none, same)) = subst (λ es. Unfinished s c es t) (sym none) (subst (Unfinished s c []) (sym same) (nothing_left s c))

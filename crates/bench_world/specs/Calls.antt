@@ -7,7 +7,6 @@ use Rattle.nfc_base.specs.declared.event.Event.{Event}
 use Rattle.nfc_base.specs.declared.carrier.EndCause.{EndCause}
 use Rattle.nfc_base.specs.declared.carrier.EndCause.TheVariants as cause
 use Rattle.air_core.specs.Conversation.{Note, Next, Over, receptions}
-use Rattle.far_air.specs.FarEnds.{first_far, later_fars}
 use Rattle.llcp_link.specs.Names.{found}
 use Rattle.snep_core.specs.declared.fault.SnepFault.TheVariants as faults
 use Rattle.snep_core.specs.declared.job.Refusal.TheVariants as refusals
@@ -18,7 +17,8 @@ use Rattle.snep_core.specs.declared.job.Job.{Job}
 use Rattle.snep_core.specs.declared.job.Job.TheVariants.{Over as Ended}
 use Rattle.snep_core.specs.Server.{Received}
 use Rattle.snep_core.specs.Session.{value_of}
-use Rattle.snep_core.specs.Talk.{Step, Ends, Task, Leaves, begins}
+use Rattle.snep_core.specs.Talk.{Step, Ends, Task, Puts, Gets, Finds, Leaves, begins}
+use Rattle.link_calls.specs.Asking.{LinkAsking, Does, Closes}
 use Rattle.link_calls.specs.CallDue.{CallStanding, Comes, BrokenBy, call_stand, call_due}
 use Rattle.link_calls.specs.ClosingDue.{ClosingStanding, Calls, Released, closing_stand, closing_due}
 use Rattle.bench_world.specs.declared.entry.Answer.{Answer}
@@ -45,6 +45,11 @@ stands_closing l joins events = closing_stand joins (begins l.client Leaves) l.i
 abbrev pub due_if : Option OpenLink → (OpenLink → Next) → Next
 due_if None due = Over
 due_if (Some l) due = due l
+
+-- likewise by what is asked
+abbrev pub due_asked : LinkAsking → OpenLink → List ℕ → List Note → Next
+due_asked (Does task) l joins ns = due_on l joins task ns
+due_asked Closes l joins ns = due_closing l joins ns
 
 -- a link that is open, and what holds of it; and what holds where none is
 abbrev pub IfLinked : Option OpenLink → (OpenLink → Type 0) → Type 0 → Type 0
@@ -88,6 +93,15 @@ told_closing (Released to) = Some answers.Unlinked
 told_closing (Calls (BrokenBy why)) = told_loss why
 told_closing _ = None
 
+abbrev pub told_asked : LinkAsking → OpenLink → List ℕ → List Event → Option Answer
+told_asked (Does task) l joins events = told_call (stands_on l joins task events)
+told_asked Closes l joins events = told_closing (stands_closing l joins events)
+
+-- a wait of it had six bad receptions
+abbrev pub HadSixBad : LinkAsking → OpenLink → List ℕ → List Event → Type 0
+HadSixBad (Does task) l joins events = stands_on l joins task events ≡ BrokenBy cause.SixBad
+HadSixBad Closes l joins events = stands_closing l joins events ≡ Calls (BrokenBy cause.SixBad)
+
 -- the link behind a call: it is open where the call came to its end, and stands so then
 abbrev pub link_behind : ℕ → CallStanding → Option OpenLink
 link_behind peer (Comes (Ends jobs l) i) = Some (record { peer = peer; initiator = i; client = l })
@@ -98,6 +112,11 @@ abbrev pub call_behind : Option Answer → Option OpenLink → (OpenLink → Cal
 call_behind None o stands = None
 call_behind (Some answer) None stands = None
 call_behind (Some answer) (Some l) stands = link_behind l.peer (stands l)
+
+-- behind what was asked on it; a closing leaves none
+abbrev pub asked_behind : LinkAsking → Option Answer → Option OpenLink → List ℕ → List Event → Option OpenLink
+asked_behind (Does task) told o joins events = call_behind told o (λ l. stands_on l joins task events)
+asked_behind Closes told o joins events = None
 
 -- How a command on the link was told: by where it stands. The link ended by a lost field exactly where a Break was
 -- used, and without noise no wait has six bad receptions, nor any bad reception.
@@ -141,6 +160,22 @@ LookupTells name end (answers.Sap n) = n ≡ found end.bound name
 LookupTells name end (answers.LinkEnded loss) = Unit {0}
 LookupTells name end _ = ⊥
 
+-- What is asked adds this to what the peer's server accepted, by its answer; where it was cut off, at most this. Only
+-- a put adds something.
+abbrev pub PeerAdds : LinkAsking → FarEnd → Answer → List Received → Type 0
+PeerAdds (Does (Puts m)) end answer more = PutAdds m end answer more
+PeerAdds asked end answer more = more ≡ []
+
+abbrev pub PeerMayAdd : LinkAsking → FarEnd → List Received → Type 0
+PeerMayAdd (Does (Puts m)) end more = PutAddsAtMost m end more
+PeerMayAdd asked end more = more ≡ []
+
+-- what its answer tells of the peer
+abbrev pub PeerTells : LinkAsking → FarEnd → Answer → Type 0
+PeerTells (Does (Gets most key)) end answer = GetTells most key end answer
+PeerTells (Does (Finds name)) end answer = LookupTells name end answer
+PeerTells asked end answer = Unit {0}
+
 -- the far end whose server accepted these too
 abbrev pub accepting : List Received → FarEnd → FarEnd
 accepting more l = record l { service = record l.service { accepted = l.service.accepted ++ more } }
@@ -152,5 +187,5 @@ accepting_if more (Some l) = Some (accepting more l)
 -- what stays of far ends, where that of the peer with a number accepted these too
 abbrev pub with_accepted : List Received → ℕ → List (Option ℕ) → List (Option FarEnd) → List (Option FarEnd)
 with_accepted more n [] os = os
-with_accepted more n (p ∷ ps) os =
-    if is_number n p then accepting_if more (first_far os) ∷ later_fars os else first_far os ∷ with_accepted more n ps (later_fars os)
+with_accepted more n (p ∷ ps) [] = []
+with_accepted more n (p ∷ ps) (o ∷ os) = if is_number n p then accepting_if more o ∷ os else o ∷ with_accepted more n ps os

@@ -4,7 +4,6 @@
 use Rattle.std.specs.Prelude.{◌≡◌, ◌↔◌, ℕ, ◌+◌, ◌≤◌, nat_lt, List, [], ◌∷◌, length, true, false, Option, Some, None, Ok, if◌then◌else◌}
 use Rattle.nfc_base.specs.Signal.{Signal}
 use Rattle.nfc_base.specs.Trace.{breaks}
-use Rattle.nfc_base.specs.declared.carrier.EndCause.TheVariants.{SixBad}
 use Rattle.nfc_base.specs.declared.event.Event.{Event}
 use Rattle.nfc_base.specs.declared.tag_link.AskFault.TheVariants as asking
 use Rattle.air_core.specs.Conversation.{Note, receptions}
@@ -12,14 +11,11 @@ use Rattle.air_core.specs.Waits.{Broken, stand}
 use Rattle.dep_link.specs.Activating.{atr_frame}
 use Rattle.llcp_link.specs.Names.{found}
 use Rattle.snep_core.specs.Session.{Offer, value_of}
-use Rattle.snep_core.specs.Talk.{Puts, Gets, Finds}
-use Rattle.link_calls.specs.CallDue.{BrokenBy}
-use Rattle.link_calls.specs.ClosingDue.{Calls}
+use Rattle.snep_core.specs.Talk.{Puts, Gets, Finds, Leaves}
+use Rattle.link_calls.specs.Asking.{LinkAsking, Does, Closes}
 use Rattle.bench_script.specs.declared.command.Command.{Command}
-use Rattle.bench_script.specs.declared.command.Command.TheVariants.{Link, Put, Get, Lookup, Unlink}
+use Rattle.bench_script.specs.declared.command.Command.TheVariants.{Link}
 use Rattle.bench_script.specs.declared.command.DeviceId.TheVariants.{A}
-use Rattle.bench_script.specs.declared.message.Msg.{Msg}
-use Rattle.bench_script.specs.Messages.{message_of}
 use Rattle.bench_devices.specs.declared.device.Device.{Device}
 use Rattle.bench_devices.specs.declared.polling.SeenKind.TheVariants.{Peer}
 use Rattle.bench_devices.specs.Answering.{IsNamed}
@@ -29,7 +25,8 @@ use Rattle.bench_devices.specs.Polling.{Told, selecting}
 use Rattle.bench_world.specs.declared.entry.Answer.{Answer}
 use Rattle.bench_world.specs.declared.entry.Answer.TheVariants as answers
 use Rattle.bench_world.specs.declared.entry.Entry.{Entry}
-use Rattle.bench_world.specs.Calls.{OfEnd, stands_on, stands_closing}
+use Rattle.bench_world.specs.Asked.{asked_on_link}
+use Rattle.bench_world.specs.Calls.{HadSixBad, OfEnd}
 use Rattle.bench_world.specs.Completing.{IsQuietOnce}
 use Rattle.bench_world.specs.Journal.{LeadsTo}
 use Rattle.bench_world.specs.Legal.{State, Given, Joins, LegalStep, end_of}
@@ -55,55 +52,78 @@ abbrev pub get_answer : ℕ → List ℕ → FarEnd → Answer
 get_answer most key end = if nat_lt end.service.limit (length key) then answers.Reject else table_answer most key end.service.table
 
 -- A wait of a command on the open link had six bad receptions, by these numbers of PDUs and what happened.
+abbrev pub HadSixBadBy : Option LinkAsking → OpenLink → List ℕ → List Event → Type 0
+HadSixBadBy None l joins es = ⊥
+HadSixBadBy (Some asked) l joins es = HadSixBad asked l joins es
+
 abbrev pub HadSixBadOn : OpenLink → List ℕ → Command → List Event → Type 0
-HadSixBadOn l joins (Put m) es = stands_on l joins (Puts (message_of m)) es ≡ BrokenBy SixBad
-HadSixBadOn l joins (Get most key) es = stands_on l joins (Gets most key) es ≡ BrokenBy SixBad
-HadSixBadOn l joins (Lookup name) es = stands_on l joins (Finds name) es ≡ BrokenBy SixBad
-HadSixBadOn l joins Unlink es = stands_closing l joins es ≡ Calls (BrokenBy SixBad)
-HadSixBadOn l joins c es = ⊥
+HadSixBadOn l joins c es = HadSixBadBy (asked_on_link c) l joins es
 
 -- Nothing kept it from its answer.
 pub record IsUndisturbedOn (l : OpenLink) (joins : List ℕ) (c : Command) (es : List Event) : Type 0 where
   pub lit : breaks es ≡ 0
   pub waits : HadSixBadOn l joins c es → ⊥
 
--- Exactly so each is answered as its peer answers it, and the link is closed.
+-- what a peer answers to what is asked
+abbrev pub peer_answer : LinkAsking → FarEnd → Answer
+peer_answer (Does (Puts m)) end = put_answer m end
+peer_answer (Does (Gets most key)) end = get_answer most key end
+peer_answer (Does (Finds name)) end = answers.Sap (found end.bound name)
+peer_answer (Does Leaves) end = answers.Success
+peer_answer Closes end = answers.Unlinked
+
+-- Exactly so what is asked is answered as the peer answers it, and the link is closed.
+abbrev pub IsComplete : LinkAsking → Type 0
+IsComplete asked =
+    (s t : State) (g : Given) (e : Entry) (l : OpenLink) → LegalStep s g e t → asked_on_link e.command ≡ Some asked → s.link ≡ Some l
+    → OfEnd (λ end. (e.answer ≡ peer_answer asked end) ↔ IsUndisturbedOn l g.joins.own e.command e.events) (end_of s l)
+
+abbrev pub AskedComplete : Type 0
+AskedComplete = (asked : LinkAsking) → IsComplete asked
+
+-- so it is of a put, a get, a lookup and a close
 abbrev pub PutsComplete : Type 0
-PutsComplete =
-    (s t : State) (g : Given) (e : Entry) (l : OpenLink) (m : Msg) → LegalStep s g e t → e.command ≡ Put m → s.link ≡ Some l
-    → OfEnd (λ end. (e.answer ≡ put_answer (message_of m) end) ↔ IsUndisturbedOn l g.joins.own (Put m) e.events) (end_of s l)
+PutsComplete = (m : List ℕ) → IsComplete (Does (Puts m))
 
 abbrev pub GetsComplete : Type 0
-GetsComplete =
-    (s t : State) (g : Given) (e : Entry) (l : OpenLink) (most : ℕ) (key : List ℕ) → LegalStep s g e t → e.command ≡ Get most key → s.link ≡ Some l
-    → OfEnd (λ end. (e.answer ≡ get_answer most key end) ↔ IsUndisturbedOn l g.joins.own (Get most key) e.events) (end_of s l)
+GetsComplete = (most : ℕ) (key : List ℕ) → IsComplete (Does (Gets most key))
 
 abbrev pub LookupsComplete : Type 0
-LookupsComplete =
-    (s t : State) (g : Given) (e : Entry) (l : OpenLink) (name : List ℕ) → LegalStep s g e t → e.command ≡ Lookup name → s.link ≡ Some l
-    → OfEnd (λ end. (e.answer ≡ answers.Sap (found end.bound name)) ↔ IsUndisturbedOn l g.joins.own (Lookup name) e.events) (end_of s l)
+LookupsComplete = (name : List ℕ) → IsComplete (Does (Finds name))
 
 abbrev pub UnlinksComplete : Type 0
-UnlinksComplete =
-    (s t : State) (g : Given) (e : Entry) (l : OpenLink) → LegalStep s g e t → e.command ≡ Unlink → s.link ≡ Some l
-    → (e.answer ≡ answers.Unlinked) ↔ IsUndisturbedOn l g.joins.own Unlink e.events
+UnlinksComplete = IsComplete Closes
 
--- A command on the open link is valid where its peer has no cause to refuse it: the message or the key is within the
--- limit, and the key has a value, which isn't longer than the client takes. A lookup and a close always are.
+-- What is asked is valid where the peer has no cause to refuse it: the message or the key is within the limit, and the
+-- key has a value, which isn't longer than the client takes. A lookup and a close always are.
+abbrev pub IsValidAsking : LinkAsking → FarEnd → Type 0
+IsValidAsking (Does (Puts m)) end = length m ≤ end.service.limit
+IsValidAsking (Does (Gets most key)) end = (length key ≤ end.service.limit) × (value : List ℕ) × (value_of key end.service.table ≡ Some value) × (length value ≤ most)
+IsValidAsking (Does (Finds name)) end = Unit {0}
+IsValidAsking (Does Leaves) end = Unit {0}
+IsValidAsking Closes end = Unit {0}
+
+abbrev pub IsValidBy : Option LinkAsking → FarEnd → Type 0
+IsValidBy None end = ⊥
+IsValidBy (Some asked) end = IsValidAsking asked end
+
 abbrev pub IsValid : FarEnd → Command → Type 0
-IsValid end (Put m) = length (message_of m) ≤ end.service.limit
-IsValid end (Get most key) = (length key ≤ end.service.limit) × (value : List ℕ) × (value_of key end.service.table ≡ Some value) × (length value ≤ most)
-IsValid end (Lookup name) = Unit {0}
-IsValid end Unlink = Unit {0}
-IsValid end c = ⊥
+IsValid end c = IsValidBy (asked_on_link c) end
 
 -- what a valid one is answered
+abbrev pub IsOkAsking : LinkAsking → FarEnd → Answer → Type 0
+IsOkAsking (Does (Puts m)) end answer = answer ≡ answers.Success
+IsOkAsking (Does (Gets most key)) end answer = (value : List ℕ) × (value_of key end.service.table ≡ Some value) × (answer ≡ answers.Value value)
+IsOkAsking (Does (Finds name)) end answer = answer ≡ answers.Sap (found end.bound name)
+IsOkAsking (Does Leaves) end answer = answer ≡ answers.Unlinked
+IsOkAsking Closes end answer = answer ≡ answers.Unlinked
+
+abbrev pub IsOkBy : Option LinkAsking → FarEnd → Answer → Type 0
+IsOkBy None end answer = ⊥
+IsOkBy (Some asked) end answer = IsOkAsking asked end answer
+
 abbrev pub IsOk : FarEnd → Command → Answer → Type 0
-IsOk end (Put m) answer = answer ≡ answers.Success
-IsOk end (Get most key) answer = (value : List ℕ) × (value_of key end.service.table ≡ Some value) × (answer ≡ answers.Value value)
-IsOk end (Lookup name) answer = answer ≡ answers.Sap (found end.bound name)
-IsOk end Unlink answer = answer ≡ answers.Unlinked
-IsOk end c answer = ⊥
+IsOk end c answer = IsOkBy (asked_on_link c) end answer
 
 abbrev pub ValidIsOk : Type 0
 ValidIsOk =

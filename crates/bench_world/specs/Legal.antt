@@ -39,12 +39,13 @@ use Rattle.bench_world.specs.declared.entry.Received.{Received}
 use Rattle.bench_world.specs.Inbox.{inbox_at}
 use Rattle.bench_world.specs.Peers.{Peers, no_peers, with_tag, with_peer, without_place, with_place_changed, placed_under, without_number, new_end, end_offered}
 use Rattle.snep_core.specs.Server.{Received as Accepted}
-use Rattle.snep_core.specs.Talk.{Puts, Gets, Finds}
 use Rattle.bench_script.specs.Script.{SpellsName, longest_message}
 use Rattle.bench_devices.specs.Opening.{linking}
 use Rattle.bench_world.specs.Links.{OpenLink, ended, is_with, end_numbered, begun_if, ended_unless}
 use Rattle.bench_world.specs.Linking.{LinkTells, link_if, own_general}
-use Rattle.bench_world.specs.Calls.{IfLinked, IsTold, OfEnd, PutAdds, PutAddsAtMost, GetTells, LookupTells, due_if, due_on, due_closing, stands_on, stands_closing, told_call, told_closing, call_behind, with_accepted}
+use Rattle.link_calls.specs.Asking.{LinkAsking}
+use Rattle.bench_world.specs.Asked.{IsOnLink, asked_on_link}
+use Rattle.bench_world.specs.Calls.{IfLinked, IsTold, OfEnd, PeerAdds, PeerMayAdd, PeerTells, asked_behind, due_asked, due_if, told_asked, with_accepted}
 use Rattle.bench_world.specs.Arriving.{ArrivesAt, ArrivesCutAt, BeginsAt}
 use Rattle.bench_world.specs.Answering.{TagTells, TellsFound, TagsTell, CutTag}
 use Rattle.bench_world.specs.Reading.{TellsOf, ReadAsks}
@@ -270,19 +271,23 @@ IsAskedBy s (Write id message) asked =
     IfPlaced (λ d. WriteAsks (message_of message) d asked) (asked ≡ []) (device_with (bytes_of id) s.world.field.listeners)
 IsAskedBy s c asked = asked ≡ []
 
--- What is due in a command, by what the reader knows. Nothing is sent but in a read, a write and a search, where a link
--- is opened, and on the link that is open.
+-- What is due in a command that asks nothing on the open link, by what the reader knows. Nothing is sent but in a read,
+-- a write and a search, and where a link is opened.
+abbrev pub due_alone : Given → Command → List Note → Next
+due_alone g Find ns = asks (finding_all ns)
+due_alone g Crowd ns = crowding ns
+due_alone g (Read id) ns = tag_due id g.asked ns
+due_alone g (Write id message) ns = tag_due id g.asked ns
+due_alone g (Link id miu window) ns = linking (DeviceId.A id) (own_general miu) ns
+due_alone g c ns = Over
+
+-- what is due in a command, by what it asks on the open link; where none is open nothing is sent
+abbrev pub due_by : Option LinkAsking → State → Given → Command → List Note → Next
+due_by None s g c ns = due_alone g c ns
+due_by (Some asked) s g c ns = due_if s.link (λ l. due_asked asked l g.joins.own ns)
+
 abbrev pub due : State → Given → Command → List Note → Next
-due s g Find ns = asks (finding_all ns)
-due s g Crowd ns = crowding ns
-due s g (Read id) ns = tag_due id g.asked ns
-due s g (Write id message) ns = tag_due id g.asked ns
-due s g (Link id miu window) ns = linking (DeviceId.A id) (own_general miu) ns
-due s g (Put message) ns = due_if s.link (λ l. due_on l g.joins.own (Puts (message_of message)) ns)
-due s g (Get most key) ns = due_if s.link (λ l. due_on l g.joins.own (Gets most key) ns)
-due s g (Lookup name) ns = due_if s.link (λ l. due_on l g.joins.own (Finds name) ns)
-due s g Unlink ns = due_if s.link (λ l. due_closing l g.joins.own ns)
-due s g c ns = Over
+due s g c ns = due_by (asked_on_link c) s g c ns
 
 -- the world that a command begins in: what it itself changes is changed, and the entry has its numbers
 abbrev pub begun : State → Joins → Command → WholeWorld
@@ -293,27 +298,31 @@ abbrev pub world_after : State → Joins → Command → List Event → WholeWor
 world_after s joins c events = with_numbers (replay bench_air (begun s joins c) events) []
 
 -- The link that is open behind a command, by these numbers, what happened in it, and what it answered, where it was not
--- cut off: one that the command opened; the one that it went on with, where its call came to its end; and else the one
--- before.
-abbrev pub link_after : State → Joins → Command → List Event → Option Answer → Option OpenLink
-link_after s joins (Link id miu window) events (Some (answers.Linked n)) =
+-- cut off: one that the command opened; the one that it asked something on, by how that ended; and else the one before.
+abbrev pub link_alone : State → Command → Option Answer → Option OpenLink
+link_alone s (Link id miu window) (Some (answers.Linked n)) =
     link_if (placed_under id s.world.field.listeners s.peers.numbers) (device_with id s.world.field.listeners) miu window
-link_after s joins (Link id miu window) events told = None
-link_after s joins (Put message) events told = call_behind told s.link (λ l. stands_on l joins.own (Puts (message_of message)) events)
-link_after s joins (Get most key) events told = call_behind told s.link (λ l. stands_on l joins.own (Gets most key) events)
-link_after s joins (Lookup name) events told = call_behind told s.link (λ l. stands_on l joins.own (Finds name) events)
-link_after s joins Unlink events told = None
-link_after s joins c events told = (changed s c).link
+link_alone s (Link id miu window) told = None
+link_alone s c told = (changed s c).link
+
+abbrev pub link_left : Option LinkAsking → State → Joins → Command → List Event → Option Answer → Option OpenLink
+link_left None s joins c events told = link_alone s c told
+link_left (Some asked) s joins c events told = asked_behind asked told s.link joins.own events
+
+abbrev pub link_after : State → Joins → Command → List Event → Option Answer → Option OpenLink
+link_after s joins c events told = link_left (asked_on_link c) s joins c events told
 
 -- the peers behind it, with their links: one more where the command opened one; and the one that ended has its end
+abbrev pub peers_alone : State → Command → Option Answer → Peers
+peers_alone s (Link id miu window) told = begun_if (link_alone s (Link id miu window) told) (unlinked s).world.fars (unlinked s).peers
+peers_alone s c told = (changed s c).peers
+
+abbrev pub peers_left : Option LinkAsking → State → Joins → Command → List Event → Option Answer → Peers
+peers_left None s joins c events told = peers_alone s c told
+peers_left (Some asked) s joins c events told = ended_unless (link_after s joins c events told) s.link (world_after s joins c events).fars s.peers
+
 abbrev pub peers_after : State → Joins → Command → List Event → Option Answer → Peers
-peers_after s joins (Link id miu window) events told =
-    begun_if (link_after s joins (Link id miu window) events told) (unlinked s).world.fars (unlinked s).peers
-peers_after s joins (Put message) events told = ended_unless (link_after s joins (Put message) events told) s.link (world_after s joins (Put message) events).fars s.peers
-peers_after s joins (Get most key) events told = ended_unless (link_after s joins (Get most key) events told) s.link (world_after s joins (Get most key) events).fars s.peers
-peers_after s joins (Lookup name) events told = ended_unless (link_after s joins (Lookup name) events told) s.link (world_after s joins (Lookup name) events).fars s.peers
-peers_after s joins Unlink events told = ended s.link (world_after s joins Unlink events).fars s.peers
-peers_after s joins c events told = (changed s c).peers
+peers_after s joins c events told = peers_left (asked_on_link c) s joins c events told
 
 -- the state behind it
 abbrev pub state_after : State → Joins → Command → List Event → Option Answer → State
@@ -380,72 +389,52 @@ end_of s l = end_numbered l.peer s.peers.numbers s.world.fars
 abbrev pub Came : State → Joins → OpenLink → Command → List Event → Answer → Type 0
 Came s joins l c events answer = ArrivesAt l s.peers.numbers joins.far s.world.fars (world_after s joins c events).fars events (link_after s joins c events (Some answer))
 
--- A message is put on the open link: the peer's server accepted it, or nothing, and nothing else that stays changes.
-pub record PutLaw (s : State) (joins : Joins) (l : OpenLink) (message : Msg) (events : List Event) (answer : Answer) : Type 0 where
-  pub told : IsTold (told_call (stands_on l joins.own (Puts (message_of message)) events)) events answer
-  pub came : Came s joins l (Put message) events answer
+-- Something is asked on the open link. It is told by where it stands, and the answer is right of the peer; the peer's server
+-- accepted what that adds, and nothing else that stays changes.
+pub record CallLaw (s : State) (joins : Joins) (l : OpenLink) (asked : LinkAsking) (c : Command) (events : List Event) (answer : Answer) : Type 0 where
+  pub told : IsTold (told_asked asked l joins.own events) events answer
+  pub came : Came s joins l c events answer
+  pub tells : OfEnd (λ end. PeerTells asked end answer) (end_of s l)
   pub more : List Accepted
-  pub adds : OfEnd (λ end. PutAdds (message_of message) end answer more) (end_of s l)
-  pub devices : (stable (world_after s joins (Put message) events)).devices ≡ (stable s.world).devices
-  pub ends : (stable (world_after s joins (Put message) events)).ends ≡ with_accepted more l.peer s.peers.numbers (stable s.world).ends
+  pub adds : OfEnd (λ end. PeerAdds asked end answer more) (end_of s l)
+  pub devices : (stable (world_after s joins c events)).devices ≡ (stable s.world).devices
+  pub ends : (stable (world_after s joins c events)).ends ≡ with_accepted more l.peer s.peers.numbers (stable s.world).ends
 
--- A value is got from its server, a name looked up, and the link closed: nothing that stays changes.
-pub record GetLaw (s : State) (joins : Joins) (l : OpenLink) (most : ℕ) (key : List ℕ) (events : List Event) (answer : Answer) : Type 0 where
-  pub told : IsTold (told_call (stands_on l joins.own (Gets most key) events)) events answer
-  pub came : Came s joins l (Get most key) events answer
-  pub tells : OfEnd (λ end. GetTells most key end answer) (end_of s l)
-  pub stays : LeavesStable s joins (Get most key) events
+-- the law of the answers of commands that ask nothing on the open link; a line that asks for nothing has none
+abbrev pub AnswerAlone : State → Given → Command → List Event → Answer → Type 0
+AnswerAlone s g (Fates fates) events answer = answer ≡ answers.Done
+AnswerAlone s g (PlaceT2 id blocks head) events answer = answer ≡ answers.Done
+AnswerAlone s g (PlaceT4 id code container head) events answer = answer ≡ answers.Done
+AnswerAlone s g (PlaceT5 id blocks size head) events answer = answer ≡ answers.Done
+AnswerAlone s g (PlacePeer id lr miu rw limit) events answer = answer ≡ answers.Done
+AnswerAlone s g (Lock id block) events answer = answer ≡ answers.Done
+AnswerAlone s g (Busy id count times) events answer = answer ≡ answers.Done
+AnswerAlone s g (Offer id key value) events answer = answer ≡ answers.Done
+AnswerAlone s g (Remove id) events answer = answer ≡ answers.Done
+AnswerAlone s g (Dump id) events answer = DumpLaw s id answer
+AnswerAlone s g (Inbox id) events answer = answer ≡ answers.Inbox (inbox_now s id)
+AnswerAlone s g Find events answer = FindLaw s g.joins events answer
+AnswerAlone s g Crowd events answer = CrowdLaw s g.joins events answer
+AnswerAlone s g (Read id) events answer = ReadLaw s g.joins id g.asked events answer
+AnswerAlone s g (Write id message) events answer = WritingLaw s g.joins id message g.asked events answer
+AnswerAlone s g (Link id miu window) events answer = LinkingLaw s g.joins id miu window events answer
+AnswerAlone s g c events answer = ⊥
 
-pub record LookupLaw (s : State) (joins : Joins) (l : OpenLink) (name : List ℕ) (events : List Event) (answer : Answer) : Type 0 where
-  pub told : IsTold (told_call (stands_on l joins.own (Finds name) events)) events answer
-  pub came : Came s joins l (Lookup name) events answer
-  pub tells : OfEnd (λ end. LookupTells name end answer) (end_of s l)
-  pub stays : LeavesStable s joins (Lookup name) events
+-- the law of the answers, by what a command asks on the open link; where none is open nothing is asked
+abbrev pub AnswerBy : Option LinkAsking → State → Given → Command → List Event → Answer → Type 0
+AnswerBy None s g c events answer = AnswerAlone s g c events answer
+AnswerBy (Some asked) s g c events answer = IfLinked s.link (λ l. CallLaw s g.joins l asked c events answer) (answer ≡ answers.NoLink)
 
-pub record UnlinkLaw (s : State) (joins : Joins) (l : OpenLink) (events : List Event) (answer : Answer) : Type 0 where
-  pub told : IsTold (told_closing (stands_closing l joins.own events)) events answer
-  pub came : Came s joins l Unlink events answer
-  pub stays : LeavesStable s joins Unlink events
-
--- the law of the answers; a line that asks for nothing has none
 abbrev pub AnswerLaw : State → Given → Command → List Event → Answer → Type 0
-AnswerLaw s g Skip events answer = ⊥
-AnswerLaw s g (Fates fates) events answer = answer ≡ answers.Done
-AnswerLaw s g (PlaceT2 id blocks head) events answer = answer ≡ answers.Done
-AnswerLaw s g (PlaceT4 id code container head) events answer = answer ≡ answers.Done
-AnswerLaw s g (PlaceT5 id blocks size head) events answer = answer ≡ answers.Done
-AnswerLaw s g (PlacePeer id lr miu rw limit) events answer = answer ≡ answers.Done
-AnswerLaw s g (Lock id block) events answer = answer ≡ answers.Done
-AnswerLaw s g (Busy id count times) events answer = answer ≡ answers.Done
-AnswerLaw s g (Offer id key value) events answer = answer ≡ answers.Done
-AnswerLaw s g (Remove id) events answer = answer ≡ answers.Done
-AnswerLaw s g (Dump id) events answer = DumpLaw s id answer
-AnswerLaw s g (Inbox id) events answer = answer ≡ answers.Inbox (inbox_now s id)
-AnswerLaw s g Find events answer = FindLaw s g.joins events answer
-AnswerLaw s g Crowd events answer = CrowdLaw s g.joins events answer
-AnswerLaw s g (Read id) events answer = ReadLaw s g.joins id g.asked events answer
-AnswerLaw s g (Write id message) events answer = WritingLaw s g.joins id message g.asked events answer
-AnswerLaw s g (Link id miu window) events answer = LinkingLaw s g.joins id miu window events answer
-AnswerLaw s g (Put message) events answer = IfLinked s.link (λ l. PutLaw s g.joins l message events answer) (answer ≡ answers.NoLink)
-AnswerLaw s g (Get most key) events answer = IfLinked s.link (λ l. GetLaw s g.joins l most key events answer) (answer ≡ answers.NoLink)
-AnswerLaw s g (Lookup name) events answer = IfLinked s.link (λ l. LookupLaw s g.joins l name events answer) (answer ≡ answers.NoLink)
-AnswerLaw s g Unlink events answer = IfLinked s.link (λ l. UnlinkLaw s g.joins l events answer) (answer ≡ answers.NoLink)
-
--- a command that talks on the link that is open, if one is
-abbrev pub IsOnLink : Command → Type 0
-IsOnLink (Put m) = Unit {0}
-IsOnLink (Get most key) = Unit {0}
-IsOnLink (Lookup name) = Unit {0}
-IsOnLink Unlink = Unit {0}
-IsOnLink c = ⊥
+AnswerLaw s g c events answer = AnswerBy (asked_on_link c) s g c events answer
 
 -- The numbers that a command takes of these: any on the open link, since payloads are handed over there, and none else.
+abbrev pub joins_by : Option LinkAsking → Joins → Joins
+joins_by None joins = no_joins
+joins_by (Some asked) joins = joins
+
 abbrev pub joins_for : Command → Joins → Joins
-joins_for (Put message) joins = joins
-joins_for (Get most key) joins = joins
-joins_for (Lookup name) joins = joins
-joins_for Unlink joins = joins
-joins_for c joins = no_joins
+joins_for c joins = joins_by (asked_on_link c) joins
 
 -- A front of a step: from this state the command is accepted, it has the numbers that it takes, and turns were made, each
 -- due, by the first fates; they lead to that state, where this was told, or nothing yet. An entry is a front that is over
@@ -469,33 +458,32 @@ pub record LegalStep (s : State) (g : Given) (e : Entry) (t : State) : Type 0 wh
 abbrev pub CutCame : State → Joins → OpenLink → Command → List Event → Type 0
 CutCame s joins l c cut = ArrivesCutAt l s.peers.numbers joins.far s.world.fars (world_after s joins c cut).fars cut
 
--- of a put that was cut off the peer's server accepted at most the message, and nothing else that stays changed
-pub record CutPut (s : State) (joins : Joins) (l : OpenLink) (message : Msg) (cut : List Event) : Type 0 where
-  pub came : CutCame s joins l (Put message) cut
-  pub more : List Accepted
-  pub adds : OfEnd (λ end. PutAddsAtMost (message_of message) end more) (end_of s l)
-  pub devices : (stable (world_after s joins (Put message) cut)).devices ≡ (stable s.world).devices
-  pub ends : (stable (world_after s joins (Put message) cut)).ends ≡ with_accepted more l.peer s.peers.numbers (stable s.world).ends
-
--- of any other command on the link nothing that stays changed
-pub record CutCall (s : State) (joins : Joins) (l : OpenLink) (c : Command) (cut : List Event) : Type 0 where
+-- of what was asked on the link and cut off the peer's server accepted at most what it may add, and nothing else that stays
+-- changed
+pub record CutCall (s : State) (joins : Joins) (l : OpenLink) (asked : LinkAsking) (c : Command) (cut : List Event) : Type 0 where
   pub came : CutCame s joins l c cut
-  pub stays : LeavesStable s joins c cut
+  pub more : List Accepted
+  pub adds : OfEnd (λ end. PeerMayAdd asked end more) (end_of s l)
+  pub devices : (stable (world_after s joins c cut)).devices ≡ (stable s.world).devices
+  pub ends : (stable (world_after s joins c cut)).ends ≡ with_accepted more l.peer s.peers.numbers (stable s.world).ends
 
--- What a command that was cut off leaves of what stays: the stores of a write keep its law, a put adds its message at
--- most, and no other command in which something is sent changed anything. A command that sends nothing is never left
--- half done: where memory is wanting nothing of it was done.
+-- What a command that was cut off leaves of what stays: the stores of a write keep its law, what was asked on the open
+-- link adds what it may at most, and no other command in which something is sent changed anything. A command that sends
+-- nothing is never left half done: where memory is wanting nothing of it was done.
+abbrev pub CutAlone : State → Joins → Command → List Event → Type 0
+CutAlone s joins Find cut = LeavesStable s joins Find cut
+CutAlone s joins Crowd cut = LeavesStable s joins Crowd cut
+CutAlone s joins (Read id) cut = LeavesStable s joins (Read id) cut
+CutAlone s joins (Write id message) cut = StoresLaw s joins id message Stopped cut
+CutAlone s joins (Link id miu window) cut = LeavesStable s joins (Link id miu window) cut
+CutAlone s joins c cut = ⊥
+
+abbrev pub CutLeft : Option LinkAsking → State → Joins → Command → List Event → Type 0
+CutLeft None s joins c cut = CutAlone s joins c cut
+CutLeft (Some asked) s joins c cut = IfLinked s.link (λ l. CutCall s joins l asked c cut) (LeavesStable s joins c cut)
+
 abbrev pub CutStores : State → Joins → Command → List Event → Type 0
-CutStores s joins Find cut = LeavesStable s joins Find cut
-CutStores s joins Crowd cut = LeavesStable s joins Crowd cut
-CutStores s joins (Read id) cut = LeavesStable s joins (Read id) cut
-CutStores s joins (Write id message) cut = StoresLaw s joins id message Stopped cut
-CutStores s joins (Link id miu window) cut = LeavesStable s joins (Link id miu window) cut
-CutStores s joins (Put message) cut = IfLinked s.link (λ l. CutPut s joins l message cut) (LeavesStable s joins (Put message) cut)
-CutStores s joins (Get most key) cut = IfLinked s.link (λ l. CutCall s joins l (Get most key) cut) (LeavesStable s joins (Get most key) cut)
-CutStores s joins (Lookup name) cut = IfLinked s.link (λ l. CutCall s joins l (Lookup name) cut) (LeavesStable s joins (Lookup name) cut)
-CutStores s joins Unlink cut = IfLinked s.link (λ l. CutCall s joins l Unlink cut) (LeavesStable s joins Unlink cut)
-CutStores s joins c cut = ⊥
+CutStores s joins c cut = CutLeft (asked_on_link c) s joins c cut
 
 -- a front of a step that was cut off, where so many PDUs stand in each payload of the ends of a link
 abbrev pub CutFront : Joins → State → Command → List Event → State → Type 0
@@ -510,11 +498,13 @@ CutShort joins s (Read id) cut t = CutFrontBy (λ asked. CutTag id asked cut) jo
 CutShort joins s (Write id message) cut t = CutFrontBy (λ asked. CutTag id asked cut) joins s (Write id message) cut t
 CutShort joins s c cut t = CutFront joins s c cut t
 
--- What a call may add at most to what the peer's server accepted, at which its end stopped: a put its message, once, and
--- any other nothing.
+-- What a command may add at most to what the peer's server accepted, at which its end stopped.
+abbrev pub HaltAdded : Option LinkAsking → FarEnd → List Accepted → Type 0
+HaltAdded None end more = more ≡ []
+HaltAdded (Some asked) end more = PeerMayAdd asked end more
+
 abbrev pub HaltAdds : Command → FarEnd → List Accepted → Type 0
-HaltAdds (Put message) end more = PutAddsAtMost (message_of message) end more
-HaltAdds c end more = more ≡ []
+HaltAdds c end more = HaltAdded (asked_on_link c) end more
 
 -- What stays where the peer's end stopped. All that stays of a device does, each beside the peer is aside still, and has
 -- a link at most while it is active; the server accepted at most what the call adds, and nothing else of a far end that

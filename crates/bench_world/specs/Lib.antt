@@ -6,6 +6,7 @@ pub mod World
 pub mod Peers
 pub mod Links
 pub mod Linking
+pub mod Asked
 pub mod Calls
 pub mod Opened
 pub mod Inbox

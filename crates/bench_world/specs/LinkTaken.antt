@@ -1,5 +1,13 @@
 -- The open link, taken out of the machines of a bench for a command, with its peer's end, and put back behind it.
-use Rattle.std.specs.Prelude.{◌≡◌, ◌<◌, ℕ, List, length, get_or, slice_set, Option, Some, None}
+use Rattle.std.specs.Prelude.{◌≡◌, ◌<◌, ℕ, List, length, get_or, slice_set, Option, Some, None, Result, Ok, Err}
+use Rattle.nfc_base.specs.declared.carrier.EndCause.TheVariants as cause
+use Rattle.snep_core.specs.declared.fault.SnepFault.{SnepFault}
+use Rattle.snep_core.specs.declared.fault.SnepFault.TheVariants.{LinkEnded}
+use Rattle.bench_world.specs.declared.bench.ObeyFault.{ObeyFault}
+use Rattle.bench_world.specs.declared.bench.ObeyFault.TheVariants.{Memory}
+use Rattle.bench_world.specs.declared.entry.Answer.{Answer}
+use Rattle.bench_world.specs.declared.entry.Answer.TheVariants as answers
+use Rattle.bench_world.specs.declared.entry.Loss.TheVariants as losses
 use Rattle.bench_world.specs.World.{FarEnd}
 use Rattle.bench_world.specs.Links.{OpenLink, accepted_by, end_numbered, with_last_ended}
 use Rattle.bench_world.specs.Obeying.{Machines, under}
@@ -19,3 +27,9 @@ put_back m place end l = under (slice_set m.ends place (Some end)) m.peers (Some
 -- the end is at its place again, and the link is over
 abbrev pub put_down : Machines → ℕ → FarEnd → Machines
 put_down m place end = under (slice_set m.ends place (Some end)) (with_last_ended (accepted_by (Some end)) m.peers) m.link m.air
+
+-- what is told of a call that has no ending: by what its link ended, or that memory was wanting
+abbrev pub fault_told : SnepFault → Result Answer ObeyFault
+fault_told (LinkEnded cause.FieldLost) = Ok (answers.LinkEnded losses.FieldLost)
+fault_told (LinkEnded cause.SixBad) = Ok (answers.LinkEnded losses.SixBad)
+fault_told fault = Err Memory

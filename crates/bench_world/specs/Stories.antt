@@ -7,14 +7,15 @@ use Rattle.dep_link.specs.DepLinks.{brought}
 use Rattle.snep_core.specs.Links.{Told, Success, Rejected, Unanswered, Put}
 use Rattle.snep_core.specs.Server.{Received as Accepted}
 use Rattle.snep_core.specs.Session.{Offer}
-use Rattle.snep_core.specs.Talk.{client_sap}
+use Rattle.snep_core.specs.Talk.{Puts, client_sap}
+use Rattle.link_calls.specs.Asking.{LinkAsking, Does}
 use Rattle.bench_script.specs.declared.command.Command.{Command}
 use Rattle.bench_script.specs.declared.command.Command.TheVariants as commands
-use Rattle.bench_script.specs.Messages.{message_of}
 use Rattle.bench_world.specs.declared.entry.Answer.{Answer}
 use Rattle.bench_world.specs.declared.entry.Answer.TheVariants as answers
 use Rattle.bench_world.specs.declared.entry.Entry.{Entry}
 use Rattle.bench_world.specs.declared.inbox.LinkRange.{LinkRange}
+use Rattle.bench_world.specs.Asked.{asked_on_link}
 use Rattle.bench_world.specs.Arrivals.{Arrival, arrivals_of}
 use Rattle.bench_world.specs.World.{FarEnd}
 use Rattle.bench_world.specs.Inbox.{gained_in}
@@ -64,9 +65,12 @@ told_put (Some answers.Reject) = Rejected
 told_put told = Unanswered
 
 -- what a stretch puts
+abbrev pub puts_of : Option LinkAsking → Option Answer → List LinkPut
+puts_of (Some (Does (Puts m))) told = record { source = client_sap; put = record { message = m; told = told_put told } } ∷ []
+puts_of asked told = []
+
 abbrev pub puts_in : Command → Option Answer → List LinkPut
-puts_in (commands.Put message) told = record { source = client_sap; put = record { message = message_of message; told = told_put told } } ∷ []
-puts_in c told = []
+puts_in c told = puts_of (asked_on_link c) told
 
 -- What the server of a peer accepted so far: it stands, or else this stayed of it.
 abbrev pub accepted_of : Option FarEnd → Option FarEnd → List Accepted

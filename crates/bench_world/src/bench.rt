@@ -1,6 +1,6 @@
 //! The bench: the field, and the journal of what was obeyed.
 
-ghost use Rattle.std.specs.Prelude.{◌≡◌, ◌≢◌, ◌↔◌, ◌≤◌, ◌<◌, ◌++◌, [], ◌∷◌, true, is_some, Some, None, IsTrue, IsSome, get_or, option_map, option_copied, false, IfOk, OnOk, OnErr, IsErrOf, vec_len, vec_capacity, length};
+ghost use Rattle.std.specs.Prelude.{◌≡◌, ◌≢◌, ◌↔◌, ◌≤◌, ◌<◌, ◌++◌, [], ◌∷◌, true, is_some, Some, None, IsTrue, option_map, option_copied, false, IfOk, OnOk, OnErr, IsErrOf, vec_len, vec_capacity, length};
 ghost use Rattle.bench_world.specs.Legal.{Accepts, joins_for, memory_of};
 ghost use Rattle.bench_devices.specs.Device.{most_devices};
 ghost use Rattle.bench_devices.specs.Placed.{device_with};
@@ -470,16 +470,11 @@ impl Bench {
         &self.machines.field
     }
 
-    /// The far end above the peer at a place.
-    pub fn far(&self, place: usize) -> &Llc<Server>
-        requires place { place < length self.now.state.world.field.listeners }
-        requires peer { IsSome (get_or self.now.state.world.fars place None) }
-        ensures { FarAt self.now.state place (Some result.now) }
+    /// The far end above the device at a place: a tag has none.
+    pub fn far(&self, place: usize) -> Option<&Llc<Server>>
+        ensures { place < length self.now.state.world.field.listeners → FarAt self.now.state place (option_copied result) }
     {
-        match self.machines.far(place) {
-            Some(end) => end,
-            None => unreachable!(),
-        }
+        self.machines.far(place)
     }
 
     /// The initiator of the open link; none where no link is open.

@@ -1,18 +1,17 @@
 //! The commands on the open link: its client puts a message to the server of the link's peer, gets a value of it, or
 //! asks where a service is; and the link is closed. Each takes how many PDUs stand in the payloads of both ends.
 
-ghost use Rattle.std.specs.Prelude.{false, ◌≡◌, ◌↔◌, ◌≤◌, IsTrue, ◌<◌, ◌⊎◌, length, None, IfOk, IfSome, OnErr, IsErrOf, MatchOption};
+ghost use Rattle.std.specs.Prelude.{false, ◌≡◌, ◌↔◌, ◌≤◌, IsTrue, ◌<◌, length, None, Some, IfOk, IfSome, IsErr, IsErrOf, MatchOption, OnErr};
 ghost use Rattle.std.specs.Char.{is_ascii_graphic};
 ghost use Rattle.std.specs.List.{list_all};
-ghost use Rattle.nfc_base.specs.declared.carrier.EndCause.TheVariants as causes;
-ghost use Rattle.bench_script.specs.declared.message.Msg.{Msg};
+ghost use Rattle.link_calls.specs.Asking.{IsShort, asking_of};
 ghost use Rattle.bench_script.specs.Messages.{message_of};
 ghost use Rattle.bench_script.specs.Script.{SpellsName, longest_message};
-ghost use Rattle.bench_world.specs.Calls.{told_loss};
-ghost use Rattle.bench_world.specs.Legal.{MayGet};
-ghost use Rattle.bench_world.specs.LinkTaken.{TakesLink, put_back, put_down};
-ghost use Rattle.bench_world.specs.Obeying.{IsSettled, ObeyedBy, IsCutOffBy, RefusedOnly};
-ghost use Rattle.std.specs.Prelude.{Some};
+ghost use Rattle.bench_world.specs.Asked.{asked_on_link};
+ghost use Rattle.bench_world.specs.Calls.{told_ending};
+ghost use Rattle.bench_world.specs.Legal.{Accepts};
+ghost use Rattle.bench_world.specs.LinkTaken.{TakesLink, fault_told, put_back, put_down};
+ghost use Rattle.bench_world.specs.Obeying.{IsSettled, ObeyedBy, IsCutOffBy, RefusedOnly, state_at};
 
 use crate::bench::ObeyFault;
 use crate::entry::{Answer, Loss};
@@ -20,29 +19,17 @@ use crate::joins::Joins;
 use crate::machines::{Link, Machines, accepted_above, end_last, place_numbered};
 use bench_script::{Command, Msg};
 use dep_link::Initiator;
-use link_calls::{close_and_release, get_on, lookup_on, put_on};
+use link_calls::{LinkRequest, call_on};
 use llcp_link::{Counted, Counts};
-use nfc_base::{EndCause, Items};
-use snep_core::{Client, Server, SnepFault};
-use std::alloc::{AllocError, Global};
+use nfc_base::EndCause;
+use snep_core::{Client, Ending, Refusal, Server, SnepFault};
+use std::alloc::Global;
 
 /// The longest message (NFC Forum SNEP 1.0 has no limit; this one is this project's own).
 const LONGEST_MESSAGE: usize = 65536;
 
 /// The longest name of a service (this project's limit).
 const LONGEST_NAME: usize = 64;
-
-/// The answer that tells of a link that ended by this cause.
-fn lost(cause: EndCause) -> Answer
-    requires { (cause ≡ causes.FieldLost) ⊎ (cause ≡ causes.SixBad) }
-    ensures { told_loss cause ≡ Some result }
-{
-    match cause {
-        EndCause::FieldLost => Answer::LinkEnded(Loss::FieldLost),
-        EndCause::SixBad => Answer::LinkEnded(Loss::SixBad),
-        EndCause::Protocol | EndCause::Memory => unreachable!(),
-    }
-}
 
 /// The open link and its peer's end, which stands at that place, taken out of the machines for a command.
 #[derive(Drop)]
@@ -117,46 +104,69 @@ fn put_down(machines: &mut Machines, on: OnLink)
     end_last(&mut machines.links, end);
 }
 
-/// Puts these bytes to the server of the link's peer, where a link is open.
-fn put_bytes(machines: &mut Machines, joins: Joins, bytes: &[u8]) -> Result<Answer, AllocError>
+/// The answer that tells how a call ended.
+fn answer_of(ending: Ending) -> Answer
+    ensures { result ≡ told_ending ending }
+{
+    match ending {
+        Ending::Done => Answer::Success,
+        Ending::Value(value) => Answer::Value(value),
+        Ending::Sap(sap) => Answer::Sap(sap),
+        Ending::Refused(Refusal::Reject) => Answer::Reject,
+        Ending::Refused(Refusal::NotFound) => Answer::NoValue,
+        Ending::Refused(Refusal::Excess) => Answer::Excess,
+        Ending::Refused(Refusal::NotImplemented) => Answer::NotImplemented,
+    }
+}
+
+/// What is told of a call that has no ending.
+fn fault_told(fault: SnepFault) -> Result<Answer, ObeyFault>
+    ensures { result ≡ fault_told fault }
+{
+    match fault {
+        SnepFault::LinkEnded(EndCause::FieldLost) => Ok(Answer::LinkEnded(Loss::FieldLost)),
+        SnepFault::LinkEnded(EndCause::SixBad) => Ok(Answer::LinkEnded(Loss::SixBad)),
+        _ => Err(ObeyFault::Memory),
+    }
+}
+
+/// Asks something on the open link, where there is one: the link stays open behind a call that came to its end.
+fn talk(
+    machines: &mut Machines,
+    joins: Joins,
+    request: &LinkRequest<'_>,
+) -> Result<Answer, ObeyFault>
     requires settled { IsSettled machines.old }
-    requires size { length bytes.now ≤ 65536 }
-    ensures ok { IfOk result (λ a. (m : Msg) → message_of m ≡ bytes.now
-        → ObeyedBy joins machines.old machines.new (Command.Put m) a) }
-    ensures cut { OnErr result ((m : Msg) → message_of m ≡ bytes.now
-        → IsCutOffBy joins machines.old machines.new (Command.Put m)) }
+    requires short { IsShort (asking_of request.now) }
+    ensures ok { IfOk result (λ a. (c : Command) → asked_on_link c ≡ Some (asking_of request.now)
+        → Accepts (state_at machines.old) c → ObeyedBy joins machines.old machines.new c a) }
+    ensures cut { IsErr result → (c : Command) → asked_on_link c ≡ Some (asking_of request.now)
+        → Accepts (state_at machines.old) c → IsCutOffBy joins machines.old machines.new c }
+    ensures never { IsErrOf result ObeyFault.Refused → ⊥ }
 {
     let Some(mut on) = take_link(machines, joins.far) else {
         return Ok(Answer::NoLink);
     };
-    match put_on(
+    match call_on(
         &mut machines.field,
         &mut on.initiator,
         &mut on.client,
         &mut on.far,
         joins.own,
-        bytes,
+        request,
     ) {
-        Ok(()) => {
-            put_back(machines, on);
-            Ok(Answer::Success)
-        }
-        Err(SnepFault::Reject) => {
-            put_back(machines, on);
-            Ok(Answer::Reject)
-        }
-        Err(SnepFault::LinkEnded(cause)) => {
+        Err(fault) => {
             put_down(machines, on);
-            Ok(lost(cause))
+            fault_told(fault)
         }
-        Err(SnepFault::Memory) => {
-            put_down(machines, on);
-            Err(AllocError)
+        Ok(ending) => {
+            if request.closes() {
+                put_down(machines, on);
+                return Ok(Answer::Unlinked);
+            }
+            put_back(machines, on);
+            Ok(answer_of(ending))
         }
-        Err(SnepFault::NotFound) => unreachable!(),
-        Err(SnepFault::Excess) => unreachable!(),
-        Err(SnepFault::NotImplemented) => unreachable!(),
-        Err(SnepFault::BadPeer) => unreachable!(),
     }
 }
 
@@ -189,66 +199,7 @@ pub fn put(
     let Ok(bytes) = message.bytes(alloc) else {
         return Err(ObeyFault::Memory);
     };
-    match put_bytes(machines, joins, &bytes) {
-        Ok(answer) => Ok(answer),
-        Err(_) => Err(ObeyFault::Memory),
-    }
-}
-
-/// Gets the value of a key of the server of the link's peer, where a link is open.
-fn get_value(
-    machines: &mut Machines,
-    joins: Joins,
-    acceptable: u32,
-    key: &[u8],
-) -> Result<Answer, AllocError>
-    requires settled { IsSettled machines.old }
-    requires may { MayGet acceptable key.now }
-    ensures ok { IfOk result (λ a. ObeyedBy joins machines.old machines.new (Command.Get acceptable key.now) a) }
-    ensures cut { OnErr result (IsCutOffBy joins machines.old machines.new (Command.Get acceptable key.now)) }
-{
-    let Some(mut on) = take_link(machines, joins.far) else {
-        return Ok(Answer::NoLink);
-    };
-    match get_on(
-        &mut machines.field,
-        &mut on.initiator,
-        &mut on.client,
-        &mut on.far,
-        joins.own,
-        acceptable,
-        key,
-    ) {
-        Ok(value) => {
-            put_back(machines, on);
-            Ok(Answer::Value(Items::new(value)))
-        }
-        Err(SnepFault::Reject) => {
-            put_back(machines, on);
-            Ok(Answer::Reject)
-        }
-        Err(SnepFault::NotFound) => {
-            put_back(machines, on);
-            Ok(Answer::NoValue)
-        }
-        Err(SnepFault::Excess) => {
-            put_back(machines, on);
-            Ok(Answer::Excess)
-        }
-        Err(SnepFault::NotImplemented) => {
-            put_back(machines, on);
-            Ok(Answer::NotImplemented)
-        }
-        Err(SnepFault::LinkEnded(cause)) => {
-            put_down(machines, on);
-            Ok(lost(cause))
-        }
-        Err(SnepFault::Memory) => {
-            put_down(machines, on);
-            Err(AllocError)
-        }
-        Err(SnepFault::BadPeer) => unreachable!(),
-    }
+    talk(machines, joins, &LinkRequest::Put(&bytes))
 }
 
 /// Gets a value of at most so many bytes from the server of the link's peer.
@@ -267,10 +218,11 @@ pub fn get(
     if acceptable as usize > LONGEST_MESSAGE || key.len() > LONGEST_MESSAGE {
         return Err(ObeyFault::Refused);
     }
-    match get_value(machines, joins, acceptable, key) {
-        Ok(answer) => Ok(answer),
-        Err(_) => Err(ObeyFault::Memory),
-    }
+    let request = LinkRequest::Get {
+        most: acceptable,
+        key,
+    };
+    talk(machines, joins, &request)
 }
 
 /// Whether these are characters from 21h to 7Eh alone.
@@ -295,44 +247,6 @@ fn service_name(bytes: &[u8]) -> Option<&str>
     }
 }
 
-/// Looks up a name at the link's peer, where a link is open.
-fn lookup_name(machines: &mut Machines, joins: Joins, name: &str) -> Result<Answer, AllocError>
-    requires settled { IsSettled machines.old }
-    requires may { SpellsName name.now name.now }
-    ensures ok { IfOk result (λ a. ObeyedBy joins machines.old machines.new (Command.Lookup name.now) a) }
-    ensures cut { OnErr result (IsCutOffBy joins machines.old machines.new (Command.Lookup name.now)) }
-{
-    let Some(mut on) = take_link(machines, joins.far) else {
-        return Ok(Answer::NoLink);
-    };
-    match lookup_on(
-        &mut machines.field,
-        &mut on.initiator,
-        &mut on.client,
-        &mut on.far,
-        joins.own,
-        name,
-    ) {
-        Ok(sap) => {
-            put_back(machines, on);
-            Ok(Answer::Sap(sap))
-        }
-        Err(SnepFault::LinkEnded(cause)) => {
-            put_down(machines, on);
-            Ok(lost(cause))
-        }
-        Err(SnepFault::Memory) => {
-            put_down(machines, on);
-            Err(AllocError)
-        }
-        Err(SnepFault::Reject) => unreachable!(),
-        Err(SnepFault::NotFound) => unreachable!(),
-        Err(SnepFault::Excess) => unreachable!(),
-        Err(SnepFault::NotImplemented) => unreachable!(),
-        Err(SnepFault::BadPeer) => unreachable!(),
-    }
-}
-
 /// Looks up at which SAP the link's peer has the service of this name.
 pub fn lookup(machines: &mut Machines, joins: Joins, name: &[u8]) -> Result<Answer, ObeyFault>
     requires { IsSettled machines.old }
@@ -344,46 +258,7 @@ pub fn lookup(machines: &mut Machines, joins: Joins, name: &[u8]) -> Result<Answ
     let Some(service) = service_name(name) else {
         return Err(ObeyFault::Refused);
     };
-    match lookup_name(machines, joins, service) {
-        Ok(answer) => Ok(answer),
-        Err(_) => Err(ObeyFault::Memory),
-    }
-}
-
-/// Ends the client's connection and releases the link, where a link is open.
-fn close(machines: &mut Machines, joins: Joins) -> Result<Answer, AllocError>
-    requires { IsSettled machines.old }
-    ensures ok { IfOk result (λ a. ObeyedBy joins machines.old machines.new Command.Unlink a) }
-    ensures cut { OnErr result (IsCutOffBy joins machines.old machines.new Command.Unlink) }
-{
-    let Some(mut on) = take_link(machines, joins.far) else {
-        return Ok(Answer::NoLink);
-    };
-    match close_and_release(
-        &mut machines.field,
-        &mut on.initiator,
-        &mut on.client,
-        &mut on.far,
-        joins.own,
-    ) {
-        Ok(()) => {
-            put_down(machines, on);
-            Ok(Answer::Unlinked)
-        }
-        Err(SnepFault::LinkEnded(cause)) => {
-            put_down(machines, on);
-            Ok(lost(cause))
-        }
-        Err(SnepFault::Memory) => {
-            put_down(machines, on);
-            Err(AllocError)
-        }
-        Err(SnepFault::Reject) => unreachable!(),
-        Err(SnepFault::NotFound) => unreachable!(),
-        Err(SnepFault::Excess) => unreachable!(),
-        Err(SnepFault::NotImplemented) => unreachable!(),
-        Err(SnepFault::BadPeer) => unreachable!(),
-    }
+    talk(machines, joins, &LinkRequest::Lookup(service))
 }
 
 /// Closes the open link.
@@ -393,8 +268,5 @@ pub fn unlink(machines: &mut Machines, joins: Joins) -> Result<Answer, ObeyFault
     ensures cut { OnErr result (IsCutOffBy joins machines.old machines.new Command.Unlink) }
     ensures never { IsErrOf result ObeyFault.Refused → ⊥ }
 {
-    match close(machines, joins) {
-        Ok(answer) => Ok(answer),
-        Err(_) => Err(ObeyFault::Memory),
-    }
+    talk(machines, joins, &LinkRequest::Close)
 }

@@ -3,7 +3,7 @@
 
 ghost use Rattle.bench_world.specs.Behind.{WrittenIsRead, OneOfThreeIsRead, BrokenIsRead, FirstBrokenIsRead};
 ghost use Rattle.bench_world.specs.Completing.{ReadsComplete, WritesComplete, ShownIsWritten, ValidIsWritten, FindsComplete, TagsComplete};
-ghost use Rattle.bench_world.specs.CompletingLinks.{PutsComplete, GetsComplete, LookupsComplete, UnlinksComplete, ValidIsOk, LinkingsComplete, KindsTold};
+ghost use Rattle.bench_world.specs.CompletingLinks.{AskedComplete, PutsComplete, GetsComplete, LookupsComplete, UnlinksComplete, ValidIsOk, LinkingsComplete, KindsTold};
 ghost use Rattle.bench_world.specs.LinkLaw.{CutArrivalLaw, CutLinkLaw, LinkLaw};
 ghost use Rattle.bench_world.specs.Quiet.{QuietStays, QuietReads, QuietWrites, QuietIsWritten, QuietFinds, QuietTags};
 ghost use Rattle.bench_world.specs.QuietHearing.{QuietHears, QuietScript};
@@ -36,6 +36,7 @@ pub fn finds_complete()
 /// was used and no wait had six bad receptions: so a valid one gives what it's asked for. Where little noise is, a
 /// placed peer is linked, and a tag tells that it has no link as peers do.
 pub fn links_complete()
+    ensures asked { AskedComplete }
     ensures puts { PutsComplete }
     ensures gets { GetsComplete }
     ensures lookups { LookupsComplete }

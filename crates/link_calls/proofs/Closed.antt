@@ -7,12 +7,10 @@ use Rattle.nfc_base.specs.Far.{Untouched}
 use Rattle.nfc_base.specs.declared.carrier.EndCause.{EndCause}
 use Rattle.nfc_base.specs.declared.carrier.EndCause.TheVariants as cause
 use Rattle.nfc_base.specs.declared.event.Heard.{Heard}
-use Rattle.nfc_base.specs.declared.event.Event.TheVariants.{Request}
-use Rattle.nfc_base.specs.declared.event.Fate.TheVariants.{Pass}
-use Rattle.air_core.specs.Conversation.{Next, Asks, first_fate, later_fates}
+use Rattle.air_core.specs.Conversation.{Next, Asks}
 use Rattle.air_core.specs.Quiet.{EachQuiet}
 use Rattle.air_core.specs.World.{Machine, hears}
-use Rattle.air_core.specs.Turn.{Air, HearSome, TurnIs, after_event}
+use Rattle.air_core.specs.Turn.{Air, HearSome, TurnIs}
 use Rattle.air_core.proofs.Quiet.{quiet_goes_on}
 use Rattle.air_core.specs.declared.listener.Listener.{Ghosts}
 use Rattle.air_core.proofs.PlainAside.{Laws}

@@ -5,3 +5,5 @@ pub mod CallTurns
 pub mod Calls
 pub mod ClosingDue
 pub mod Closing
+pub mod Asking
+pub mod Called

@@ -1,18 +1,23 @@
 //! A client's calls on the open link of a field. `counts` say how many PDUs each payload of the client's end has, and
 //! `far` is the peer's end, with those of its own payloads.
 
-ghost use Rattle.std.specs.Prelude.{◌≡◌, ◌≤◌, length, false, IfOk, IfErr, OnOk};
+ghost use Rattle.std.specs.Prelude.{◌≡◌, ◌≤◌, length, false, Err, IfOk, IfErr, OnOk};
 ghost use Rattle.snep_core.specs.Accord.{Accords, AsideFails, GetFails, IsFound, IsGot, IsTaken, PutFails};
 ghost use Rattle.snep_core.specs.Calling.{is_memory};
 ghost use Rattle.snep_core.specs.declared.job.Ending.TheVariants.{Done, Sap, Value};
 ghost use Rattle.snep_core.specs.declared.job.Job.TheVariants.{Over};
-ghost use Rattle.snep_core.specs.Talk.{Ends, Finds, Gets, Puts, alone, begins};
+ghost use Rattle.snep_core.specs.Talk.{Ends, Finds, Gets, Puts, alone, begins, client_sap};
+ghost use Rattle.link_calls.specs.Asking.{IsShort, asking_of};
+ghost use Rattle.link_calls.specs.Called.{Called, came_to};
 ghost use Rattle.link_calls.specs.Calls.{CallFails, IsMade, IsOpen, RequestFails};
 
+use crate::closing::close_and_release;
+use crate::request::LinkRequest;
 use air_core::Field;
 use dep_link::{DepPair, Initiator, PeerListener};
 use llcp_link::{Counted, Counts};
-use snep_core::{Client, Server, SnepFault};
+use nfc_base::Items;
+use snep_core::{Client, Ending, Refusal, Server, SnepFault};
 
 /// Puts a message of at most 65,536 bytes.
 pub fn put_on<L: PeerListener>(
@@ -33,9 +38,9 @@ pub fn put_on<L: PeerListener>(
         field.old initiator.old far.old field.new initiator.new far.new client.new.llc e) }
     ensures spent { IfErr result (λ e. client.new.spent ≡ is_memory e) }
     ensures taken { Accords client.old.llc far.old.end
-        → OnOk result (IsTaken message.now far.old.end client.new.llc far.new.end) }
+        → OnOk result (IsTaken client_sap message.now far.old.end client.new.llc far.new.end) }
     ensures fails { Accords client.old.llc far.old.end
-        → IfErr result (λ e. PutFails message.now far.old.end e client.new.llc far.new.end) }
+        → IfErr result (λ e. PutFails client_sap message.now far.old.end e client.new.llc far.new.end) }
 {
     let mut pair = DepPair::on(field, initiator);
     client.put(&mut pair, far, counts, message)
@@ -93,4 +98,65 @@ pub fn lookup_on<L: PeerListener>(
 {
     let mut pair = DepPair::on(field, initiator);
     client.lookup(&mut pair, far, counts, name)
+}
+
+/// The ending of a call that got this value.
+fn got(value: Vec<u8>) -> Ending
+    ensures { result ≡ Value value.items }
+{
+    Ending::Value(Items::new(value))
+}
+
+/// What a request came to that failed: that it was refused, or that it has no end.
+fn refused_or_failed(fault: SnepFault) -> Result<Ending, SnepFault>
+    ensures { result ≡ came_to (λ ending. ending) (Err fault) }
+{
+    match fault {
+        SnepFault::Reject => Ok(Ending::Refused(Refusal::Reject)),
+        SnepFault::NotFound => Ok(Ending::Refused(Refusal::NotFound)),
+        SnepFault::Excess => Ok(Ending::Refused(Refusal::Excess)),
+        SnepFault::NotImplemented => Ok(Ending::Refused(Refusal::NotImplemented)),
+        SnepFault::LinkEnded(_) | SnepFault::Memory | SnepFault::BadPeer => Err(fault),
+    }
+}
+
+/// Asks for what a request says. Behind a closing the link is over; a refusal is an ending, and no fault.
+pub fn call_on<L: PeerListener>(
+    field: &mut Field<L>,
+    initiator: &mut Initiator,
+    client: &mut Client,
+    far: &mut Counted<Server>,
+    counts: Counts,
+    request: &LinkRequest<'_>,
+) -> Result<Ending, SnepFault>
+    requires open_ { IsOpen L.Listener L.target field.old initiator.old }
+    requires going { client.old.spent ≡ false }
+    requires short { IsShort (asking_of request.now) }
+    ensures called { Called L.Listener L.target counts (asking_of request.now) client.old.llc
+        (record { air = field.old; initiator = initiator.old; far = far.old }) result
+        client.new.llc (record { air = field.new; initiator = initiator.new; far = far.new }) }
+    ensures going { OnOk result (client.new.spent ≡ false) }
+{
+    match *request {
+        LinkRequest::Put(message) => match put_on(field, initiator, client, far, counts, message) {
+            Ok(()) => Ok(Ending::Done),
+            Err(fault) => refused_or_failed(fault),
+        },
+        LinkRequest::Get { most, key } => {
+            match get_on(field, initiator, client, far, counts, most, key) {
+                Ok(value) => Ok(got(value)),
+                Err(fault) => refused_or_failed(fault),
+            }
+        }
+        LinkRequest::Lookup(name) => {
+            match lookup_on(field, initiator, client, far, counts, name) {
+                Ok(sap) => Ok(Ending::Sap(sap)),
+                Err(fault) => Err(fault),
+            }
+        }
+        LinkRequest::Close => match close_and_release(field, initiator, client, far, counts) {
+            Ok(()) => Ok(Ending::Done),
+            Err(fault) => Err(fault),
+        },
+    }
 }

@@ -7,7 +7,7 @@ ghost use Rattle.snep_core.specs.Accord.{Accords, AsideFails, IsClosed};
 ghost use Rattle.snep_core.specs.Calling.{fault_of};
 ghost use Rattle.snep_core.specs.declared.job.Ending.TheVariants.{Done};
 ghost use Rattle.snep_core.specs.declared.job.Job.TheVariants.{Over};
-ghost use Rattle.snep_core.specs.Talk.{Ends, Leaves, alone, begins};
+ghost use Rattle.snep_core.specs.Talk.{Ends, Leaves, alone, begins, client_sap};
 ghost use Rattle.link_calls.specs.Calls.{IsOpen};
 ghost use Rattle.link_calls.specs.Closing.{ClosingFails, IsReleased};
 
@@ -42,9 +42,10 @@ pub fn close_and_release<L: PeerListener>(
         field.old initiator.old far.old field.new far.new (Ends (alone (Over Done)) client.new.llc)) }
     ensures err { IfErr result (λ e. ClosingFails L.Listener L.target counts (begins client.old.llc Leaves)
         field.old initiator.old far.old field.new far.new client.new.llc initiator.new e) }
+    ensures going { OnOk result (client.new.spent ≡ false) }
     // Where no listener hands anything over at RLS_REQ:
     ensures closed { Accords client.old.llc far.old.end → ((l : L) → L.machine.handed l rls_frame ≡ Untouched)
-        → OnOk result (IsClosed far.old.end client.new.llc far.new.end) }
+        → OnOk result (IsClosed client_sap far.old.end client.new.llc far.new.end) }
     ensures fails { Accords client.old.llc far.old.end → ((l : L) → L.machine.handed l rls_frame ≡ Untouched)
         → IfErr result (λ e. AsideFails far.old.end e far.new.end) }
 {

@@ -2,13 +2,15 @@
 //!
 //! `specs/CallDue.antt`: what is due in a call, and where it stands, are functions of what was heard. `specs/CallTurns.antt`: what a
 //! call did over a link is turns of the world whose requests were due so, which `law` has of any link. `calls` are the calls on a
-//! field, and `closing` is the last of them, behind which the link is released.
+//! field, of one contract (`specs/Called.antt`), and `closing` is the last of them, behind which the link is released.
 #![tactic(auto)]
 
 mod calls;
 mod closing;
 mod law;
+mod request;
 
-pub use calls::{get_on, lookup_on, put_on};
+pub use calls::{call_on, get_on, lookup_on, put_on};
 pub use closing::close_and_release;
 pub use law::calls_due;
+pub use request::LinkRequest;

@@ -1,18 +1,23 @@
-use Rattle.bench_world.proofs.CompleteLinks.{puts_complete, gets_complete, lookups_complete, unlinks_complete, valid_is_ok}
+use Rattle.snep_core.specs.Talk.{Puts, Gets, Finds}
+use Rattle.link_calls.specs.Asking.{Does, Closes}
+use Rattle.bench_world.proofs.CompleteLinks.{asked_complete, valid_is_ok}
 use Rattle.bench_world.proofs.CompleteLinkings.{kinds_told, linkings_complete}
 use Rattle.bench_world.proofs.law.links_complete.Goals as goal
 
+pub returns-clause-asked : goal.returns-clause-asked
+returns-clause-asked c = asked_complete
+
 pub returns-clause-puts : goal.returns-clause-puts
-returns-clause-puts c = puts_complete
+returns-clause-puts c = λ m. asked_complete (Does (Puts m))
 
 pub returns-clause-gets : goal.returns-clause-gets
-returns-clause-gets c = gets_complete
+returns-clause-gets c = λ most key. asked_complete (Does (Gets most key))
 
 pub returns-clause-lookups : goal.returns-clause-lookups
-returns-clause-lookups c = lookups_complete
+returns-clause-lookups c = λ name. asked_complete (Does (Finds name))
 
 pub returns-clause-unlinks : goal.returns-clause-unlinks
-returns-clause-unlinks c = unlinks_complete
+returns-clause-unlinks c = asked_complete Closes
 
 pub returns-clause-valid : goal.returns-clause-valid
 returns-clause-valid c = valid_is_ok

@@ -5,7 +5,7 @@ use Rattle.dep_link.specs.DepLinks.{seen_pair}
 use Rattle.snep_core.specs.declared.job.Ending.TheVariants.{Done}
 use Rattle.snep_core.specs.declared.job.Job.TheVariants.{Over}
 use Rattle.snep_core.specs.Accord.{AsideFails, IsClosed, PeerState}
-use Rattle.snep_core.specs.Talk.{Ends, Leaves, alone, begins}
+use Rattle.snep_core.specs.Talk.{Ends, Leaves, alone, begins, client_sap}
 use Rattle.snep_core.proofs.Peers.{counted_is_peer}
 use Rattle.link_calls.specs.Closing.{ClosingFails, IsReleased}
 use Rattle.link_calls.proofs.Made.{given_back, made}
@@ -64,7 +64,7 @@ pub returns-in-Ok-release-clause-closed : goal.returns-in-Ok-release-clause-clos
 returns-in-Ok-release-clause-closed g c = λ accords quiet.
     let open_ = (made g.L.Listener g.L.PeerListener.target (seen_pair {L = g.row.L.Denot}) (laws g) c.on-pair.result c.close.new.carrier c.args.far.now c.close.new.far c.args.field.now c.args.initiator.now
     c.on-pair.ensures.fresh c.requires.open_ c.close.ensures.ready c.args.counts (begins c.args.client.now.llc Leaves) (Ends (alone (Over Done)) c.close.new.self.llc) c.in-Ok.ensures.ok (λ left. refl)).open_ in
-    subst (λ p. IsClosed c.args.far.now.end c.close.new.self.llc p.end)
+    subst (λ p. IsClosed client_sap c.args.far.now.end c.close.new.self.llc p.end)
     (sym (c.in-Ok-release.ensures.stays (takes_rls g.L.Listener g.L.PeerListener.target c.close.new.carrier.field.now c.close.new.carrier.initiator.now open_.in_step quiet)))
     (c.in-Ok.ensures.closed (λ p. p.end) counted_is_peer accords)
 

@@ -1,0 +1,106 @@
+-- What a call is said to be, by what its client says of it.
+use Rattle.std.proofs.Common.{◌≡◌, ℕ, List, Ok, Err, refl, subst, inl, inr}
+use Rattle.nfc_base.specs.declared.carrier.EndCause.{EndCause}
+use Rattle.air_core.specs.declared.listener.Listener.{Ghosts}
+use Rattle.dep_link.specs.Target.{TargetState}
+use Rattle.snep_core.specs.declared.fault.SnepFault.{SnepFault}
+use Rattle.snep_core.specs.declared.fault.SnepFault.TheVariants as faults
+use Rattle.snep_core.specs.declared.job.Ending.{Ending}
+use Rattle.snep_core.specs.declared.job.Ending.TheVariants.{Refused}
+use Rattle.snep_core.specs.declared.job.Job.TheVariants.{Over}
+use Rattle.snep_core.specs.declared.job.Refusal.{Refusal}
+use Rattle.snep_core.specs.declared.job.Refusal.TheVariants as refusals
+use Rattle.snep_core.specs.Accord.{Accords, GetFails, PutFails}
+use Rattle.snep_core.specs.Calling.{refused_by}
+use Rattle.snep_core.specs.Talk.{EndState, Ends, Task, Puts, Gets, alone, begins, client_sap}
+use Rattle.link_calls.specs.Called.{OpenAir, Served, TaskCalled, came_to}
+use Rattle.link_calls.specs.Calls.{CallFails, IsMade, RequestFails}
+
+same_refusal : (v w : Refusal) → refused_by v ≡ refused_by w → w ≡ v
+same_refusal refusals.Reject refusals.Reject e = refl
+same_refusal refusals.Reject refusals.NotFound e = absurd cc
+same_refusal refusals.Reject refusals.Excess e = absurd cc
+same_refusal refusals.Reject refusals.NotImplemented e = absurd cc
+same_refusal refusals.NotFound refusals.Reject e = absurd cc
+same_refusal refusals.NotFound refusals.NotFound e = refl
+same_refusal refusals.NotFound refusals.Excess e = absurd cc
+same_refusal refusals.NotFound refusals.NotImplemented e = absurd cc
+same_refusal refusals.Excess refusals.Reject e = absurd cc
+same_refusal refusals.Excess refusals.NotFound e = absurd cc
+same_refusal refusals.Excess refusals.Excess e = refl
+same_refusal refusals.Excess refusals.NotImplemented e = absurd cc
+same_refusal refusals.NotImplemented refusals.Reject e = absurd cc
+same_refusal refusals.NotImplemented refusals.NotFound e = absurd cc
+same_refusal refusals.NotImplemented refusals.Excess e = absurd cc
+same_refusal refusals.NotImplemented refusals.NotImplemented e = refl
+
+-- no refusal is the far end's fault
+never_bad : (w : Refusal) → refused_by w ≡ faults.BadPeer → ⊥
+never_bad refusals.Reject e = cc
+never_bad refusals.NotFound e = cc
+never_bad refusals.Excess e = cc
+never_bad refusals.NotImplemented e = cc
+
+-- a fault that is no refusal
+abbrev IsNone : SnepFault → Type 0
+IsNone x = (w : Refusal) → x ≡ refused_by w → ⊥
+
+none_link : (c : EndCause) → IsNone (faults.LinkEnded c)
+none_link c refusals.Reject e = cc
+none_link c refusals.NotFound e = cc
+none_link c refusals.Excess e = cc
+none_link c refusals.NotImplemented e = cc
+
+none_memory : IsNone faults.Memory
+none_memory refusals.Reject e = cc
+none_memory refusals.NotFound e = cc
+none_memory refusals.Excess e = cc
+none_memory refusals.NotImplemented e = cc
+
+none_bad : IsNone faults.BadPeer
+none_bad refusals.Reject e = cc
+none_bad refusals.NotFound e = cc
+none_bad refusals.Excess e = cc
+none_bad refusals.NotImplemented e = cc
+
+module _ {L : Type 0} (k : Ghosts L) (target : L → TargetState) (ns : List ℕ) (client left : EndState) (old new : OpenAir L) where
+  abbrev Made : Task → Ending → Type 0
+  Made task ending = IsMade k target ns (begins client task) old.air old.initiator old.far new.air new.initiator new.far (Ends (alone (Over ending)) left)
+
+  abbrev Fell : Task → SnepFault → Type 0
+  Fell task x = RequestFails k target ns (begins client task) old.air old.initiator old.far new.air new.initiator new.far left x
+
+  abbrev Failed : Task → SnepFault → Type 0
+  Failed task x = CallFails k target ns (begins client task) old.air old.initiator old.far new.air new.initiator new.far left x
+
+  -- it was refused so
+  made_refused : (task : Task) (w : Refusal) → Fell task (refused_by w) → Made task (Refused w)
+  made_refused task w (inl (v, e, m)) = subst (λ x. Made task (Refused x)) (same_refusal w v e) m
+  made_refused task w (inr (inl (bad, came, m))) = absurd (never_bad w bad)
+  made_refused task refusals.Reject (inr (inr never)) = absurd never
+  made_refused task refusals.NotFound (inr (inr never)) = absurd never
+  made_refused task refusals.Excess (inr (inr never)) = absurd never
+  made_refused task refusals.NotImplemented (inr (inr never)) = absurd never
+
+  not_refused : (task : Task) (x : SnepFault) → IsNone x → Fell task x → Failed task x
+  not_refused task x none (inl (w, e, m)) = absurd (none w e)
+  not_refused task x none (inr f) = f
+
+  -- a request that failed, of which this holds by its fault
+  module _ (task : Task) (Left : SnepFault → Type 0) (refused : (w : Refusal) → Left (refused_by w) → Served task old.far.end (Ok (Refused w)) left new.far.end)
+      (failed : (x : SnepFault) → Left x → Served task old.far.end (Err x) left new.far.end) where
+    by_fault : (x : SnepFault) → Fell task x → (Accords client old.far.end → Left x) → TaskCalled k target ns task client old (came_to (λ (e : Ending). e) (Err x)) left new
+    by_fault faults.Reject f s = record { goes = made_refused task refusals.Reject f; serves = λ a. refused refusals.Reject (s a) }
+    by_fault faults.NotFound f s = record { goes = made_refused task refusals.NotFound f; serves = λ a. refused refusals.NotFound (s a) }
+    by_fault faults.Excess f s = record { goes = made_refused task refusals.Excess f; serves = λ a. refused refusals.Excess (s a) }
+    by_fault faults.NotImplemented f s = record { goes = made_refused task refusals.NotImplemented f; serves = λ a. refused refusals.NotImplemented (s a) }
+    by_fault (faults.LinkEnded c) f s = record { goes = not_refused task (faults.LinkEnded c) (none_link c) f; serves = λ a. failed (faults.LinkEnded c) (s a) }
+    by_fault faults.Memory f s = record { goes = not_refused task faults.Memory none_memory f; serves = λ a. failed faults.Memory (s a) }
+    by_fault faults.BadPeer f s = record { goes = not_refused task faults.BadPeer none_bad f; serves = λ a. failed faults.BadPeer (s a) }
+
+  pub put_failed : (m : List ℕ) (x : SnepFault) → Fell (Puts m) x → (Accords client old.far.end → PutFails client_sap m old.far.end x left new.far.end) → TaskCalled k target ns (Puts m) client old (came_to (λ (e : Ending). e) (Err x)) left new
+  put_failed m = by_fault (Puts m) (λ e. PutFails client_sap m old.far.end e left new.far.end) (λ w s. s) (λ e s. s)
+
+  pub get_failed : (most : ℕ) (key : List ℕ) (x : SnepFault) → Fell (Gets most key) x → (Accords client old.far.end → GetFails most key old.far.end x left new.far.end)
+      → TaskCalled k target ns (Gets most key) client old (came_to (λ (e : Ending). e) (Err x)) left new
+  get_failed most key = by_fault (Gets most key) (λ e. GetFails most key old.far.end e left new.far.end) (λ w s. s) (λ e s. s)

@@ -1,0 +1,29 @@
+//! What a client asks on an open link.
+
+ghost use Rattle.std.specs.Prelude.{◌≡◌};
+ghost use Rattle.link_calls.specs.Asking.{asking_of, is_closing};
+
+/// What a client asks on an open link.
+#[derive(Clone, Copy, Debug, Drop)]
+pub enum LinkRequest<'a> {
+    /// A message is put.
+    Put(&'a [u8]),
+    /// A value is got, of at most so many bytes.
+    Get { most: u32, key: &'a [u8] },
+    /// A service is looked up by its name.
+    Lookup(&'a str),
+    /// The link is closed.
+    Close,
+}
+
+impl LinkRequest<'_> {
+    /// Behind it the link is over.
+    pub fn closes(&self) -> bool
+        ensures { result ≡ is_closing (asking_of self.now) }
+    {
+        match self {
+            LinkRequest::Put(_) | LinkRequest::Get { .. } | LinkRequest::Lookup(_) => false,
+            LinkRequest::Close => true,
+        }
+    }
+}
