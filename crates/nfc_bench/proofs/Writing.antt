@@ -1,68 +1,79 @@
--- An entry's text is written in pieces.
-use Rattle.std.proofs.Common.{◌≡◌, ℕ, suc, ◌+◌, ◌<◌, List, [], ◌∷◌, ◌++◌, length, get_or, take, drop, Option, sym, ◌∙◌, ap, subst, append_assoc, append-nil}
-use Rattle.std.specs.Prelude.{Result, Ok, Err, OnErr}
+-- An entry's text is gathered in pieces, and written.
+use Rattle.std.proofs.Common.{◌≡◌, ℕ, suc, ◌+◌, ◌<◌, List, [], ◌∷◌, ◌++◌, length, get_or, drop, Option, sym, ◌∙◌, ap, subst, arith, append_assoc, append-nil}
+use Rattle.std.specs.Prelude.{Result, Ok, Err, OnErr, OnOk}
 use Rattle.std.specs.List.{flat_map}
 use Rattle.std.proofs.Math.Seq.{drop-cons}
-use Rattle.std.proofs.lemmas.List.{take-append-drop, take_more}
-use Rattle.std.proofs.lemmas.Grind.{flat_map-append}
 use Rattle.nfc_io.specs.Moves.{with_end, GainsFront}
 use Rattle.nfc_io.proofs.Moves.{with_end-nil, write_on, GainsFront-more, GainsFront-after}
 use Rattle.nfc_base.specs.declared.event.Event.{Event}
 use Rattle.bench_world.specs.Report.{event_text, events_text, line_text}
+use Rattle.nfc_bench.specs.Gathering.{IsWritten}
 
--- the lines up to an event, its line, and those behind it
-event_at : (n i : ℕ) (es : List Event) (d : Event) → i < length es
-    → events_text n es ≡ (events_text n (take i es) ++ line_text n (event_text (get_or es i d))) ++ events_text n (drop (suc i) es)
-event_at n i es d within =
-    let f : Event → List ℕ = λ e. line_text n (event_text e) in
-    ap (flat_map f) (sym (take-append-drop i es) ∙ ap (λ x. take i es ++ x) (drop-cons es i d within))
-    ∙ flat_map-append f (take i es) (get_or es i d ∷ drop (suc i) es)
-    ∙ sym (append_assoc (events_text n (take i es)) (f (get_or es i d)) (events_text n (drop (suc i) es)))
-
--- one line more
-pub event_written : (n i : ℕ) (es : List Event) (d : Event) (t t1 t2 : Option (List ℕ)) → i < length es → t1 ≡ with_end t (events_text n (take i es)) → t2 ≡ with_end t1 (line_text n (event_text (get_or es i d)))
-    → t2 ≡ with_end t (events_text n (take (i + 1) es))
-event_written n i es d t t1 t2 within first then =
-    let f : Event → List ℕ = λ e. line_text n (event_text e) in
-    let is : events_text n (take (i + 1) es) ≡ events_text n (take i es) ++ f (get_or es i d) =
-    ap (flat_map f) (take_more es i d within) ∙ flat_map-append f (take i es) (get_or es i d ∷ []) ∙ ap (λ x. events_text n (take i es) ++ x) (append-nil (f (get_or es i d))) in
-    write_on t t1 t2 (events_text n (take i es)) (f (get_or es i d)) first then ∙ ap (with_end t) (sym is)
-
--- a front of one line more
-pub event_cut : (n i : ℕ) (es : List Event) (d : Event) (t t1 t2 : Option (List ℕ)) → i < length es → t1 ≡ with_end t (events_text n (take i es)) → GainsFront t1 t2 (line_text n (event_text (get_or es i d)))
-    → GainsFront t t2 (events_text n es)
-event_cut n i es d t t1 t2 within first front =
-    let f : Event → List ℕ = λ e. line_text n (event_text e) in
-    let G : List ℕ → Type 0 = λ x. GainsFront t t2 x in
-    subst G (sym (event_at n i es d within))
-    (GainsFront-more t t2 (events_text n (take i es) ++ f (get_or es i d)) (events_text n (drop (suc i) es)) (GainsFront-after t t1 t2 (events_text n (take i es)) (f (get_or es i d)) first front))
-
--- Of a text some pieces are written, and this is left of it.
-pub record IsWritten (text left : List ℕ) (t t' : Option (List ℕ)) : Type 0 where
-  pub given : List ℕ
-  pub parts : text ≡ given ++ left
-  pub taken : t' ≡ with_end t given
-
+-- Nothing of a text is written, or all of it.
 pub nothing_written : (text left : List ℕ) (t : Option (List ℕ)) → left ≡ text → IsWritten text left t t
 nothing_written text left t same = record { given = []; parts = sym same; taken = sym (with_end-nil t) }
-
-pub piece_written : (text left piece left' : List ℕ) (t t1 t2 : Option (List ℕ)) → IsWritten text left t t1 → left ≡ piece ++ left' → t2 ≡ with_end t1 piece → IsWritten text left' t t2
-piece_written text left piece left' t t1 t2 w parts then = record {
-  given = w.given ++ piece;
-  parts = w.parts ∙ ap (λ x. w.given ++ x) parts ∙ sym (append_assoc w.given piece left');
-  taken = write_on t t1 t2 w.given piece w.taken then;
-}
 
 pub all_written : (text left : List ℕ) (t t1 : Option (List ℕ)) → IsWritten text left t t1 → left ≡ [] → t1 ≡ with_end t text
 all_written text left t t1 w none = w.taken ∙ ap (with_end t) (sym (w.parts ∙ ap (λ x. w.given ++ x) none ∙ append-nil w.given))
 
-pub piece_cut : (text left piece left' : List ℕ) (t t1 t2 : Option (List ℕ)) → IsWritten text left t t1 → left ≡ piece ++ left' → GainsFront t1 t2 piece → GainsFront t t2 text
-piece_cut text left piece left' t t1 t2 w parts front =
-    let G : List ℕ → Type 0 = λ x. GainsFront t t2 x in
-    subst G (sym (w.parts ∙ ap (λ x. w.given ++ x) parts ∙ sym (append_assoc w.given piece left')))
-    (GainsFront-more t t2 (w.given ++ piece) left' (GainsFront-after t t1 t2 w.given piece w.taken front))
+-- what is left is gathered, then a piece, then the rest
+split_so : (given held piece rest : List ℕ) → given ++ (held ++ (piece ++ rest)) ≡ (given ++ (held ++ piece)) ++ rest
+split_so given held piece rest = ap (λ x. given ++ x) (sym (append_assoc held piece rest)) ∙ sym (append_assoc given (held ++ piece) rest)
 
--- what a fault leaves is said of faults alone
+-- one piece more
+pub piece_written : (text held piece rest held' : List ℕ) (t t1 t2 : Option (List ℕ)) → IsWritten text (held ++ (piece ++ rest)) t t1 → IsWritten (held ++ piece) held' t1 t2 → IsWritten text (held' ++ rest) t t2
+piece_written text held piece rest held' t t1 t2 w p = record {
+  given = w.given ++ p.given;
+  parts = w.parts ∙ split_so w.given held piece rest ∙ ap (λ x. (w.given ++ x) ++ rest) p.parts
+      ∙ ap (λ x. x ++ rest) (sym (append_assoc w.given p.given held')) ∙ append_assoc (w.given ++ p.given) held' rest;
+  taken = write_on t t1 t2 w.given p.given w.taken p.taken;
+}
+
+-- a front of one piece more
+pub piece_cut : (text held piece rest : List ℕ) (t t1 t2 : Option (List ℕ)) → IsWritten text (held ++ (piece ++ rest)) t t1 → GainsFront t1 t2 (held ++ piece) → GainsFront t t2 text
+piece_cut text held piece rest t t1 t2 w front =
+    let G : List ℕ → Type 0 = λ x. GainsFront t t2 x in
+    subst G (sym (w.parts ∙ split_so w.given held piece rest))
+    (GainsFront-more t t2 (w.given ++ (held ++ piece)) rest (GainsFront-after t t1 t2 w.given (held ++ piece) w.taken front))
+
+-- One text behind another.
+pub both_written : (first then held held' : List ℕ) (t t1 t2 : Option (List ℕ)) → IsWritten first held t t1 → IsWritten (held ++ then) held' t1 t2 → IsWritten (first ++ then) held' t t2
+both_written first then held held' t t1 t2 w p = record {
+  given = w.given ++ p.given;
+  parts = ap (λ x. x ++ then) w.parts ∙ append_assoc w.given held then ∙ ap (λ x. w.given ++ x) p.parts ∙ sym (append_assoc w.given p.given held');
+  taken = write_on t t1 t2 w.given p.given w.taken p.taken;
+}
+
+pub then_cut : (first then held : List ℕ) (t t1 t2 : Option (List ℕ)) → IsWritten first held t t1 → GainsFront t1 t2 (held ++ then) → GainsFront t t2 (first ++ then)
+then_cut first then held t t1 t2 w front =
+    let G : List ℕ → Type 0 = λ x. GainsFront t t2 x in
+    subst G (sym (ap (λ x. x ++ then) w.parts ∙ append_assoc w.given held then)) (GainsFront-after t t1 t2 w.given (held ++ then) w.taken front)
+
+-- a front of what was left
+pub rest_cut : (text held : List ℕ) (t t1 t2 : Option (List ℕ)) → IsWritten text held t t1 → GainsFront t1 t2 held → GainsFront t t2 text
+rest_cut text held t t1 t2 w front =
+    let G : List ℕ → Type 0 = λ x. GainsFront t t2 x in
+    subst G (sym w.parts) (GainsFront-after t t1 t2 w.given held w.taken front)
+
+-- the lines from an event on
+pub event_next : (n i : ℕ) (es : List Event) (d : Event) → i < length es → events_text n (drop i es) ≡ line_text n (event_text (get_or es i d)) ++ events_text n (drop (i + 1) es)
+event_next n i es d within =
+    let one : suc i ≡ i + 1 = omega arith in
+    ap (flat_map (λ e. line_text n (event_text e))) (drop-cons es i d within ∙ ap (λ k. get_or es i d ∷ drop k es) one)
+
+-- a text of which the first part is written as a whole
+pub behind_written : (held piece held' : List ℕ) (t t1 t2 : Option (List ℕ)) → t1 ≡ with_end t held → IsWritten piece held' t1 t2 → IsWritten (held ++ piece) held' t t2
+behind_written held piece held' t t1 t2 first w = record {
+  given = held ++ w.given;
+  parts = ap (λ x. held ++ x) w.parts ∙ sym (append_assoc held w.given held');
+  taken = write_on t t1 t2 held w.given first w.taken;
+}
+
+-- what a fault leaves is said of faults alone, and what comes of none of the others
+pub on_ok_too : {T E : Type 0} (r : Result T E) (P Q : Type 0) → (P → Q) → OnOk r P → OnOk r Q
+on_ok_too (Ok x) P Q f p = f p
+on_ok_too (Err e) P Q f p = p
+
 pub on_err : {T E : Type 0} (r : Result T E) (P : Type 0) → P → OnErr r P
 on_err (Ok x) P p = tt
 on_err (Err e) P p = p

@@ -6,3 +6,4 @@ pub mod Stops
 pub mod Sweep
 pub mod SweepStops
 pub mod SweptReads
+pub mod Gathering

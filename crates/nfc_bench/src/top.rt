@@ -13,6 +13,7 @@ mod counting;
 #[cfg(test)]
 mod crowd_tests;
 mod found;
+mod gathering;
 #[cfg(test)]
 mod inbox_tests;
 pub mod law;
