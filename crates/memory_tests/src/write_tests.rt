@@ -1,7 +1,7 @@
 //! What tags hold where want of memory stops a write.
 
-use bench_script::{LineFault, parse_line};
-use bench_world::{Bench, ObeyFault};
+use crate::lines::obeys_all;
+use bench_world::Bench;
 use std::alloc::Global;
 use std::process::Abort;
 use std::test::Fail;
@@ -44,20 +44,6 @@ const ROWS: [Row; 3] = [
 /// A tag that stands beside each of them.
 const BESIDE: &str = "place t2 05060708 16 000000000000000000000000E11006000302AABBFE";
 
-/// Obeys a line: whether there was memory for all of it.
-fn obeys(alloc: Global, bench: &mut Bench, line: &str) -> Result<bool, Fail> {
-    let command = match parse_line(alloc, line.as_bytes()) {
-        Ok(command) => command,
-        Err(LineFault::Memory) => return Ok(false),
-        Err(LineFault::Refused) => return Err(Fail::new("no command")),
-    };
-    match bench.obey(1, &command) {
-        Ok(()) => Ok(true),
-        Err(ObeyFault::Memory) => Ok(false),
-        Err(ObeyFault::Refused) => Err(Fail::new("the bench refuses a command")),
-    }
-}
-
 /// What the tag at a place of the field holds: nothing where none stands there.
 fn memory_at(bench: &Bench, place: usize) -> &[u8] {
     let devices = bench.field().listeners();
@@ -98,13 +84,13 @@ fn is_left(row: &Row, memory: &[u8], done: bool) -> bool {
 /// Whether the write was done.
 fn leaves_a_message(rt: &impl Abort, alloc: Global, row: &Row) -> Result<bool, Fail> {
     let mut bench = Bench::new(alloc);
-    if !obeys(alloc, &mut bench, row.place)? || !obeys(alloc, &mut bench, BESIDE)? {
+    if !obeys_all(alloc, &mut bench, &[row.place, BESIDE])? {
         return Ok(false);
     }
     let Ok(beside) = memory_at(&bench, 1).to_vec(alloc) else {
         return Ok(false);
     };
-    let done = obeys(alloc, &mut bench, row.write)?;
+    let done = obeys_all(alloc, &mut bench, &[row.write])?;
     let left = memory_at(&bench, 0);
     assert!(rt; is_left(row, left, done), "at {}: {left:?}", row.write);
     assert_eq!(rt; memory_at(&bench, 1), beside.as_slice(), "at {}", row.write);
