@@ -1,6 +1,7 @@
--- Inventories among NFC-V listeners that answer the same however often they are asked.
-use Rattle.std.proofs.Common.{◌≡◌, ◌⊎◌, ℕ, zero, suc, ◌+◌, ◌≤◌, List, [], ◌∷◌, ◌++◌, length, drop, map, filter_map, Bool, true, false, if◌then◌else◌, inl, inr, refl, sym, ◌∙◌, ap, subst, append_assoc, arith, Option, Some, None}
+-- Questions among listeners that answer the same however often they are asked.
+use Rattle.std.proofs.Common.{◌≡◌, ◌⊎◌, ℕ, zero, suc, ◌+◌, ◌≤◌, List, [], ◌∷◌, ◌++◌, length, drop, map, filter_map, Bool, true, false, ◌&&◌, ◌==◌, nat_eq, if◌then◌else◌, inl, inr, refl, sym, ◌∙◌, ap, subst, append_assoc, arith, Option, Some, None}
 use Rattle.std.specs.List.{cons_option}
+use Rattle.std.specs.Cmp.Lexicographic.{pointwise}
 use Rattle.nfc_base.specs.declared.frame.Tech.{Tech}
 use Rattle.nfc_base.specs.declared.frame.Tech.TheVariants.{A, V, F}
 use Rattle.nfc_base.specs.declared.event.Event.{Event}
@@ -10,17 +11,17 @@ use Rattle.nfc_base.specs.Far.{Untouched}
 use Rattle.nfc_base.specs.Signal.{Signal}
 use Rattle.nfc_base.specs.Bits.{bits, of_bits}
 use Rattle.nfc_base.specs.Trace.{noise}
-use Rattle.air_core.specs.Joint.{Single, Clashing, joint, all_same, common_all, same_tech}
+use Rattle.air_core.specs.Joint.{Single, Clashing, joint, all_same, common_all, same_tech, same_signal}
 use Rattle.air_core.specs.World.{Machine, World, hears, hands_over, stepped_by, answered_by}
 use Rattle.air_core.specs.Turn.{Air, moment}
 use Rattle.air_core.specs.Conversation.{Moment, TurnsTo}
 use Rattle.nfca_poll.specs.Muted.{mute_reply, muted, mute_air}
 use Rattle.nfca_poll.specs.Enquiry.{Enquiry}
-use Rattle.nfca_poll.specs.Inventory.{heard_again, is_present, IsSteady, NoneAnswers, AnswersWell}
+use Rattle.nfca_poll.specs.Inventory.{heard_again, IsSteady, NoneAnswers, AnswersBy}
 use Rattle.nfca_poll.specs.Crowd.{Each}
-use Rattle.nfca_poll.proofs.Clashes.{Has}
-use Rattle.nfca_poll.proofs.Eaches.{none_in}
-use Rattle.nfca_poll.proofs.HeardBits.{heard_of}
+use Rattle.nfca_poll.proofs.Clashes.{Has, and_both}
+use Rattle.nfca_poll.proofs.Eaches.{none_in, each_map, IfSaid, each_said}
+use Rattle.nfca_poll.proofs.HeardBits.{heard_of, pointwise_path}
 use Rattle.nfca_poll.proofs.Enquiring.{Reached}
 use Rattle.nfca_poll.proofs.Crowding.{noise-append, drop-front, events_of, turn_trace}
 use Rattle.nfca_poll.proofs.NoisyTurns.{WorldWas, passed, unheard, damaged, lost, world_was}
@@ -40,7 +41,7 @@ abbrev pub Vain : List Signal → ℕ → Bool → ℕ → Type 0
 Vain [] n d k = d ≡ false
 Vain (g ∷ gs) n d k = n ≤ k
 
-module _ {L : Type 0} (m : Machine L) (f : Signal) (request : f.tech ≡ V) where
+module _ {L : Type 0} (m : Machine L) (f : Signal) where
   abbrev step : L → L
   step l = stepped_by (muted m) l f None
 
@@ -70,14 +71,20 @@ module _ {L : Type 0} (m : Machine L) (f : Signal) (request : f.tech ≡ V) wher
   deaf l h zero = refl
   deaf l h (suc n) = ap (λ x. stepped_by m x f None) (deaf l h n) ∙ ap (λ v. if v then m.after l f None else l) h
 
-  only_v : (t : Tech) → same_tech t V ≡ true → t ≡ V
-  only_v A e = absurd cc
-  only_v V e = refl
-  only_v F e = absurd cc
+  one_tech : (t u : Tech) → same_tech t u ≡ true → t ≡ u
+  one_tech A A e = refl
+  one_tech A V e = absurd cc
+  one_tech A F e = absurd cc
+  one_tech V A e = absurd cc
+  one_tech V V e = refl
+  one_tech V F e = absurd cc
+  one_tech F A e = absurd cc
+  one_tech F V e = absurd cc
+  one_tech F F e = refl
 
   -- whether it hears it or not, a steady listener hands nothing over and answers the same
   holds_still : (l : L) → IsSteady m f l → (n : ℕ) (v : Bool) → hears m l f ≡ v → (hands_over m (again n l) f ≡ Untouched) × (answer_of (again n l) ≡ answer_of l)
-  holds_still l s n true h = s (only_v (m.tech l) (ap (same_tech (m.tech l)) (sym request) ∙ h)) n
+  holds_still l s n true h = s (one_tech (m.tech l) f.tech h) n
   holds_still l s n false h = (ap (λ x. hands_over m x f) (deaf l h n) ∙ ap (λ v. if v then m.handed l f else Untouched) h, ap answer_of (deaf l h n))
 
   steady_one : (l : L) → IsSteady m f l → (n : ℕ) → (step (again n l) ≡ again (suc n) l) × (says (again n l) ≡ answer_of l)
@@ -146,21 +153,55 @@ module _ {L : Type 0} (m : Machine L) (f : Signal) (request : f.tech ≡ V) wher
           whole_same a b z = cc
       by_same false q = absurd cc
 
-  well_in : (g : Signal) (ls : List L) → Each (AnswersWell m f) ls → Has g (filter_map answer_of ls) → is_present g ≡ true
-  well_in g [] w h = absurd h
-  well_in g (l ∷ ls) w h = by_one (λ k. well_in g ls w.1 k) (answer_of l) refl h
-    where
-      by_one : (Has g (filter_map answer_of ls) → is_present g ≡ true) → (o : Option Signal) → answer_of l ≡ o → Has g (cons_option o (filter_map answer_of ls)) → is_present g ≡ true
-      by_one rest None q k = rest k
-      by_one rest (Some x) q (inl k) = w.0 g (q ∙ ap Some (sym k))
-      by_one rest (Some x) q (inr k) = rest k
+  -- it's the answer of each
+  single_each : (g : Signal) (gs : List Signal) → all_same g gs ≡ true → Each (λ x. x.bytes ≡ g.bytes) gs
+  single_each g [] e = tt
+  single_each g (x ∷ gs) e =
+      let p : _ × _ = and_both (same_signal g x) (all_same g gs) e in
+      (sym (pointwise_path g.bytes x.bytes (and_both (same_tech g.tech x.tech && (g.tail == x.tail)) (pointwise nat_eq g.bytes x.bytes) p.0).1), single_each g gs p.1)
 
-  well_was : (g : Signal) (ls : List L) (w v : World L) (h : Heard) (t : ℕ) → Each (IsSteady m f) ls → Again ls w.listeners → Each (AnswersWell m f) ls → WorldWas m w f v h t → h ≡ Whole g → is_present g ≡ true
-  well_was g ls w _ h _ s j well passed e =
-      let all = heard_all ls w.listeners s j in well_in g ls well (joint_in g (filter_map answer_of ls) (sym e ∙ ap (λ x. heard_of (joint x)) all.1))
-  well_was g ls w _ _ _ s j well unheard e = absurd cc
-  well_was g ls w _ _ _ s j well (damaged x h) e = absurd cc
-  well_was g ls w _ _ _ s j well (lost x h) e = absurd cc
+  joint_each : (g : Signal) (gs : List Signal) → Whole g ≡ heard_of (joint gs) → Each (λ x. x.bytes ≡ g.bytes) gs
+  joint_each g [] e = tt
+  joint_each g (x ∷ gs) e = by_same (all_same x gs) refl e
+    where
+      by_same : (v : Bool) → all_same x gs ≡ v → Whole g ≡ heard_of (if v then Single x else Clashing (of_bits x.tech (common_all (bits x) (map bits gs)))) → Each (λ y. y.bytes ≡ g.bytes) (x ∷ gs)
+      by_same true o q = let same : x.bytes ≡ g.bytes = whole_bytes g x q in (same, each_map (λ y. y.bytes ≡ x.bytes) (λ y. y.bytes ≡ g.bytes) (λ y k. k ∙ same) gs (single_each x gs o))
+        where
+          whole_bytes : (a b : Signal) → Whole a ≡ Whole b → b.bytes ≡ a.bytes
+          whole_bytes a b z = cc
+      by_same false o q = absurd cc
+
+  abbrev pub AnswersThat : Signal → L → Type 0
+  AnswersThat g l = (x : Signal) → answer_of l ≡ Some x → x.bytes ≡ g.bytes
+
+  that_each : (g : Signal) (ls : List L) → Each (λ x. x.bytes ≡ g.bytes) (filter_map answer_of ls) → Each (AnswersThat g) ls
+  that_each g ls e =
+      let P : Signal → Type 0 = λ x. x.bytes ≡ g.bytes in
+      each_map (λ l. IfSaid P (answer_of l)) (AnswersThat g) (λ l k x z. subst (IfSaid P) z k) ls (each_said P answer_of ls e)
+
+  that_was : (g : Signal) (ls : List L) (w v : World L) (h : Heard) (t : ℕ) → Each (IsSteady m f) ls → Again ls w.listeners → WorldWas m w f v h t → h ≡ Whole g → Each (AnswersThat g) ls
+  that_was g ls w _ h _ s j passed e =
+      let all = heard_all ls w.listeners s j in that_each g ls (joint_each g (filter_map answer_of ls) (sym e ∙ ap (λ x. heard_of (joint x)) all.1))
+  that_was g ls w _ _ _ s j unheard e = absurd cc
+  that_was g ls w _ _ _ s j (damaged x h) e = absurd cc
+  that_was g ls w _ _ _ s j (lost x h) e = absurd cc
+
+  module _ (shows : Signal → Bool) where
+    well_in : (g : Signal) (ls : List L) → Each (AnswersBy shows m f) ls → Has g (filter_map answer_of ls) → shows g ≡ true
+    well_in g [] w h = absurd h
+    well_in g (l ∷ ls) w h = by_one (λ k. well_in g ls w.1 k) (answer_of l) refl h
+      where
+        by_one : (Has g (filter_map answer_of ls) → shows g ≡ true) → (o : Option Signal) → answer_of l ≡ o → Has g (cons_option o (filter_map answer_of ls)) → shows g ≡ true
+        by_one rest None q k = rest k
+        by_one rest (Some x) q (inl k) = w.0 g (q ∙ ap Some (sym k))
+        by_one rest (Some x) q (inr k) = rest k
+
+    well_was : (g : Signal) (ls : List L) (w v : World L) (h : Heard) (t : ℕ) → Each (IsSteady m f) ls → Again ls w.listeners → Each (AnswersBy shows m f) ls → WorldWas m w f v h t → h ≡ Whole g → shows g ≡ true
+    well_was g ls w _ h _ s j well passed e =
+        let all = heard_all ls w.listeners s j in well_in g ls well (joint_in g (filter_map answer_of ls) (sym e ∙ ap (λ x. heard_of (joint x)) all.1))
+    well_was g ls w _ _ _ s j well unheard e = absurd cc
+    well_was g ls w _ _ _ s j well (damaged x h) e = absurd cc
+    well_was g ls w _ _ _ s j well (lost x h) e = absurd cc
 
   -- so many tries were in vain, and the listeners have heard each that passed
   abbrev pub InVain : Air L → Air L → ℕ → Bool → Type 0
@@ -197,10 +238,16 @@ module _ {L : Type 0} (m : Machine L) (f : Signal) (request : f.tech ≡ V) wher
         (one.0, subst N (noise_so_far old now new st h r t) one.1)
 
     -- where each answers well, so does what is heard whole
-    pub well_heard : (old now new : Air L) (n : ℕ) (d : Bool) (h : Heard) (g : Signal) → InVain old now n d → TurnsTo (mute_air m) (moment now) (moment new) f (Some h) → h ≡ Whole g
-        → Each (IsSteady m f) old.listeners → Each (AnswersWell m f) old.listeners → is_present g ≡ true
-    well_heard old now new n d h g vain t whole s well =
-        well_was g old.listeners (moment now).world (moment new).world h (noise (events_of m now f)) s (vain s).0 well (world_was m now new f h t) whole
+    pub well_heard : (shows : Signal → Bool) (old now new : Air L) (n : ℕ) (d : Bool) (h : Heard) (g : Signal) → InVain old now n d → TurnsTo (mute_air m) (moment now) (moment new) f (Some h) → h ≡ Whole g
+        → Each (IsSteady m f) old.listeners → Each (AnswersBy shows m f) old.listeners → shows g ≡ true
+    well_heard shows old now new n d h g vain t whole s well =
+        well_was shows g old.listeners (moment now).world (moment new).world h (noise (events_of m now f)) s (vain s).0 well (world_was m now new f h t) whole
+
+    -- what is heard whole is the answer of each that answers
+    pub alone_heard : (old now new : Air L) (n : ℕ) (d : Bool) (h : Heard) (g : Signal) → InVain old now n d → TurnsTo (mute_air m) (moment now) (moment new) f (Some h) → h ≡ Whole g
+        → Each (IsSteady m f) old.listeners → Each (AnswersThat g) old.listeners
+    alone_heard old now new n d h g vain t whole s =
+        that_was g old.listeners (moment now).world (moment new).world h (noise (events_of m now f)) s (vain s).0 (world_was m now new f h t) whole
 
   missed : (gs : List Signal) (ls : List L) (n k : ℕ) (d : Bool) → filter_map answer_of ls ≡ gs → Vain gs n d k → NoneAnswers m f ls ⊎ (n ≤ k)
   missed [] ls n k d e v = inl (none_in answer_of ls e)

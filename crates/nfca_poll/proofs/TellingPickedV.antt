@@ -3,7 +3,7 @@ use Rattle.std.proofs.Common.{◌≡◌, ◌<◌, ◌≤◌, ℕ, ◌+◌, List,
 use Rattle.nfc_base.specs.Trace.{Turn, heard, is_silence}
 use Rattle.nfc_base.specs.declared.event.Heard.{Heard}
 use Rattle.nfc_base.specs.declared.event.Heard.TheVariants.{Whole, Collided, Damaged, Silent}
-use Rattle.air_core.specs.Conversation.{Over, LightUp, Asks, note}
+use Rattle.air_core.specs.Conversation.{LightUp, Asks, note}
 use Rattle.air_core.specs.World.{Machine}
 use Rattle.air_core.specs.Turn.{Air}
 use Rattle.nfca_poll.specs.declared.fault.PollFault.{PollFault}
@@ -13,14 +13,7 @@ use Rattle.nfca_poll.specs.Inventory.{Inventory, Tries, Told, tries, picking_v, 
 use Rattle.nfca_poll.specs.ByHeard.{is_no_present, is_shown, silences, has_shown, has_no_present, TellsPickedV, turns_since}
 use Rattle.nfca_poll.proofs.EnquiryWalks.{after}
 use Rattle.nfca_poll.proofs.TurnWalks.{turns_hold}
-use Rattle.nfca_poll.proofs.TellingInventory.{count_more, any_none, any_one}
-
-abbrev one_if : Bool → ℕ
-one_if v = if v then 1 else 0
-
-not_both : (v : Bool) → v ≡ false → v ≡ true → ⊥
-not_both true e f = cc
-not_both false e f = cc
+use Rattle.nfca_poll.proofs.TellingInventory.{one_if, not_both, less_of, far_of, few_left, count_more, any_none, any_one}
 
 -- a selection so far: nothing was heard
 record Vain (n : ℕ) (ts : List Turn) : Type 0 where
@@ -32,16 +25,6 @@ abbrev At : Progress (Inventory (Unit {0})) → List Turn → Type 0
 At (Reaches (Tries n d)) ts = Vain n ts × (n ≤ 4)
 At (Reaches (Told r)) ts = TellsPickedV ts r
 At Loses ts = (n : ℕ) × Vain n ts × (n < 4)
-
-less_of : (a b : ℕ) → nat_lt a b ≡ true → a < b
-less_of a b h = grind arith
-
-far_of : (a b : ℕ) → nat_lt a b ≡ false → b ≤ a
-far_of a b h = grind arith
-
-few_left : (n : ℕ) (f g : _) (v : Bool) → nat_lt n tries ≡ v → (if v then Asks f else Over) ≡ Asks g → n < 4
-few_left n f g true h e = less_of n 4 h
-few_left n f g false h e = absurd cc
 
 -- what a turn adds
 record Adds (ts us : List Turn) (o : Option Heard) : Type 0 where

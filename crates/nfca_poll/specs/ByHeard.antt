@@ -3,6 +3,7 @@
 use Rattle.std.specs.Prelude.{◌≡◌, ◌↔◌, ◌⊎◌, ◌≤◌, ◌<◌, ℕ, ◌+◌, List, ◌++◌, length, drop, filter, slice_index, Bool, true, false, not, ◌&&◌, ◌||◌, nat_lt, nat_le, Option, Result, Ok, Err}
 use Rattle.std.specs.List.{list_any}
 use Rattle.nfc_base.specs.Bits.{bits}
+use Rattle.nfc_base.specs.Signal.{Signal}
 use Rattle.nfc_base.specs.Trace.{Turn, turns, heard, by_heard, is_clash, is_damage, is_silence}
 use Rattle.nfc_base.specs.declared.event.Heard.{Heard}
 use Rattle.air_core.specs.Joint.{same_bit}
@@ -12,21 +13,23 @@ use Rattle.nfca_poll.specs.declared.fault.Picked.{Picked}
 use Rattle.nfca_poll.specs.declared.fault.PollFault.{PollFault}
 use Rattle.nfca_poll.specs.declared.fault.PollFault.TheVariants as faults
 use Rattle.nfca_poll.specs.declared.inventory.Vcrowd.{Vcrowd}
-use Rattle.nfca_poll.specs.declared.inventory.Vcrowd.TheVariants.{Nobody, Crowd}
 use Rattle.nfca_poll.specs.Levels.{cascades}
 use Rattle.nfca_poll.specs.Calls.{Reading, Calls, Other, Sens, All, Slp, Sdd, Sel, call_of, is_slp}
 use Rattle.nfca_poll.specs.Poll.{is_level, collision_bits, has_bit, is_one_byte}
 use Rattle.nfca_poll.specs.Counting.{is_sens_req}
 use Rattle.nfca_poll.specs.Rounds.{most_found}
-use Rattle.nfca_poll.specs.Inventory.{is_present, tries}
+use Rattle.nfca_poll.specs.Inventory.{Presence, all_present, is_present, tries}
 
 -- the turns of a call, from one field to the next
 abbrev pub turns_since : {L : Type 0} → Air L → Air L → List Turn
 turns_since old new = turns (drop (length old.trace) new.trace)
 
--- a whole frame was heard that is no answer to an inventory, which has ten bytes
+-- a whole frame was heard that is no answer to what was asked; to an inventory one has ten bytes
+abbrev pub is_strange : (Signal → Bool) → Option Heard → Bool
+is_strange shows o = by_heard o (λ g. not (shows g)) (λ g. false) false false false
+
 abbrev pub is_no_present : Option Heard → Bool
-is_no_present o = by_heard o (λ g. not (is_present g)) (λ g. false) false false false
+is_no_present o = is_strange is_present o
 
 -- how many turns were silent, and how many damaged; whether there was a clash, or a frame that is no answer
 abbrev pub silences : List Turn → ℕ
@@ -38,8 +41,11 @@ damages ts = length (filter (λ t. is_damage (heard t)) ts)
 abbrev pub has_clash : List Turn → Bool
 has_clash ts = list_any (λ t. is_clash (heard t)) ts
 
+abbrev pub has_strange : (Signal → Bool) → List Turn → Bool
+has_strange shows ts = list_any (λ t. is_strange shows (heard t)) ts
+
 abbrev pub has_no_present : List Turn → Bool
-has_no_present ts = list_any (λ t. is_no_present (heard t)) ts
+has_no_present ts = has_strange is_present ts
 
 -- the turns that ask by SENS_REQ
 abbrev pub presence_turns : List Turn → List Turn
@@ -87,15 +93,19 @@ pub record TellsResolution (ts : List Turn) (r : Result Picked PollFault) : Type
   -- a bad answer exactly where one was heard that no device gives
   pub bad : r ≡ Err faults.BadAnswer ↔ has_wrong ts ≡ true
 
--- What an inventory answers, by its turns.
-pub record TellsInventory (ts : List Turn) (r : Result Vcrowd PollFault) : Type 0 where
+-- What a question which devices are there answers, by its turns.
+pub record TellsPresence {X : Type 0} (p : Presence X) (ts : List Turn) (r : Result X PollFault) : Type 0 where
   -- nobody exactly where four turns were silent, and several devices exactly where a clash was heard
-  pub nobody : r ≡ Ok Nobody ↔ silences ts ≡ tries
-  pub crowd : r ≡ Ok Crowd ↔ has_clash ts ≡ true
+  pub nobody : r ≡ Ok p.nobody ↔ silences ts ≡ tries
+  pub crowd : r ≡ Ok p.crowd ↔ has_clash ts ≡ true
   -- that it is disturbed exactly where four turns were silent or damaged, and not all of them silent
   pub disturbed : r ≡ Err faults.Disturbed ↔ (silences ts + damages ts ≡ tries) × (0 < damages ts)
-  -- a bad answer exactly where a whole answer hadn't ten bytes
-  pub bad : r ≡ Err faults.BadAnswer ↔ has_no_present ts ≡ true
+  -- a bad answer exactly where a whole answer was none to this question
+  pub bad : r ≡ Err faults.BadAnswer ↔ has_strange p.shows ts ≡ true
+
+-- What an inventory answers, by its turns.
+abbrev pub TellsInventory : List Turn → Result Vcrowd PollFault → Type 0
+TellsInventory ts r = TellsPresence all_present ts r
 
 -- something was heard that shows a device: an answer to an inventory, damage, or a clash
 abbrev pub is_shown : Option Heard → Bool

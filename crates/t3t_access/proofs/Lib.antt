@@ -9,3 +9,6 @@ pub mod Doing
 pub mod Laying
 pub mod OwnWritten
 pub mod OwnPuts
+pub mod TellingSensed
+pub mod TellingPickedF
+pub mod Sought

@@ -5,3 +5,4 @@ pub mod Reading
 pub mod Own
 pub mod Writing
 pub mod OwnWriting
+pub mod Polling

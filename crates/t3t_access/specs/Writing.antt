@@ -16,10 +16,11 @@ use Rattle.t3t_access.specs.Talk.{Answered, Says}
 use Rattle.t3t_access.specs.Answers.{update_of, TellsFault, IsHeard, StopsNext}
 use Rattle.t3t_access.specs.Reading.{first_checks, Reads, StartTold}
 
--- the attribute block with another write flag and another length, and its sum made anew
+-- the bytes of a length, high byte first
 abbrev pub length_bytes : ℕ → List ℕ
 length_bytes n = n / 65536 ∷ n / 256 % 256 ∷ n % 256 ∷ []
 
+-- the attribute block with another write flag and another length, without its sum, and with its sum made anew
 abbrev pub unsummed : List ℕ → ℕ → ℕ → List ℕ
 unsummed block flag n = take 9 block ++ (flag ∷ access_flag block ∷ length_bytes n)
 
@@ -137,7 +138,7 @@ pub record Breaks (id : List ℕ) (a b : LinkView) (message : List ℕ) (e : T3F
   pub told : StopsUpdate id a b (first_asked id block message number) (command_at id block message number) e
 
 -- Block 0 has no fault, but no message may be written.
-pub record IsClosed (id : List ℕ) (a b : LinkView) : Type 0 where
+pub record IsReadOnly (id : List ℕ) (a b : LinkView) : Type 0 where
   pub block : List ℕ
   pub reads : Reads id a b block 1 block
   pub sized : IsSized block
@@ -154,7 +155,7 @@ pub record IsTooLong (id : List ℕ) (a b : LinkView) (message : List ℕ) (most
 
 -- why a write ends without the message: in the answer to the Check, or in that to an Update
 abbrev pub WriteFaultTold : List ℕ → LinkView → LinkView → List ℕ → T3Fault → Type 0
-WriteFaultTold id a b message fault.ReadOnly = IsClosed id a b
+WriteFaultTold id a b message fault.ReadOnly = IsReadOnly id a b
 WriteFaultTold id a b message (fault.TooLong most) = IsTooLong id a b message most
 WriteFaultTold id a b message e = StartTold id a b e ⊎ Breaks id a b message e
 

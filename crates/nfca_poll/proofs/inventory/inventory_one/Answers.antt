@@ -3,9 +3,9 @@ use Rattle.std.proofs.lemmas.Grind.{common_steps}
 use Rattle.nfca_poll.specs.declared.fault.PollFault.{PollFault}
 use Rattle.nfca_poll.specs.declared.fault.PollFault.TheVariants as faults
 use Rattle.nfca_poll.specs.declared.inventory.Vcrowd.{Vcrowd}
-use Rattle.nfca_poll.specs.declared.inventory.Vcrowd.TheVariants.{Nobody, Crowd}
+use Rattle.nfca_poll.specs.declared.inventory.Vcrowd.TheVariants.{Nobody, One, Crowd}
 use Rattle.nfca_poll.specs.Enquiry.{Enquires, LosesByBreak}
-use Rattle.nfca_poll.specs.Inventory.{Inventory, inventory, inventory_all, Tries, is_present, one_step, one_ended}
+use Rattle.nfca_poll.specs.Inventory.{Inventory, all_present, inventory, inventory_all, Tries, is_present, one_step, one_ended}
 use Rattle.nfc_base.specs.Signal.{Signal}
 use Rattle.nfc_base.specs.Trace.{noise}
 use Rattle.air_core.specs.Turn.{moment}
@@ -28,7 +28,7 @@ returns-in_err-answer-clause-turns g c lit =
     let same : c.from_residual.result ≡ Err c.in_err-answer.field-0.0 = grind (arith, common_steps) in
     subst E (sym same)
     (enquires_err inventory g.L.Listener.machine c.args.field.now c.loop.field c.ask.new.field (Tries n c.loop.damaged) c.inventory_req-request.result c.in_err-answer.field-0.0 c.loop.invariant.so_far
-    (asks_again Vcrowd inventory_all c.inventory_req-request.result n c.loop.damaged h c.inventory_req-request.ensures) (one_again n c.loop.damaged h) c.in_err-answer.ensures)
+    (asks_again Vcrowd inventory_all c.inventory_req-request.result n c.loop.damaged h c.inventory_req-request.ensures) (one_again all_present n c.loop.damaged h) c.in_err-answer.ensures)
 
 pub returns-in-Some-clause-turns : goal.returns-in-Some-clause-turns
 returns-in-Some-clause-turns g c lit =
@@ -39,7 +39,7 @@ returns-in-Some-clause-turns g c lit =
     enquires_end inventory g.L.Listener.machine c.args.field.now c.ask.new.field s (Ok _)
     (reached_turn inventory g.L.Listener.machine c.args.field.now c.loop.field c.ask.new.field (Tries n c.loop.damaged) c.inventory_req-request.result c.in_ok-answer.field-0 c.loop.invariant.so_far
     (asks_again Vcrowd inventory_all c.inventory_req-request.result n c.loop.damaged h c.inventory_req-request.ensures) c.in_ok-answer.ensures)
-    (ap (λ x. one_ended (one_step (Tries n c.loop.damaged) x)) c.in-Whole.is ∙ one_present n c.loop.damaged c.in-Whole.answer c.in-Some.id there c.in-Some.ensures.some)
+    (ap (λ x. one_ended (one_step (Tries n c.loop.damaged) x)) c.in-Whole.is ∙ one_present all_present n c.loop.damaged c.in-Whole.answer (One c.in-Some.id) there (ap One c.in-Some.ensures.some))
 
 pub returns-in-None-clause-turns : goal.returns-in-None-clause-turns
 returns-in-None-clause-turns g c lit =
@@ -50,7 +50,7 @@ returns-in-None-clause-turns g c lit =
     enquires_end inventory g.L.Listener.machine c.args.field.now c.ask.new.field s (Err _)
     (reached_turn inventory g.L.Listener.machine c.args.field.now c.loop.field c.ask.new.field (Tries n c.loop.damaged) c.inventory_req-request.result c.in_ok-answer.field-0 c.loop.invariant.so_far
     (asks_again Vcrowd inventory_all c.inventory_req-request.result n c.loop.damaged h c.inventory_req-request.ensures) c.in_ok-answer.ensures)
-    (ap (λ x. one_ended (one_step (Tries n c.loop.damaged) x)) c.in-Whole.is ∙ one_strange n c.loop.damaged c.in-Whole.answer strange)
+    (ap (λ x. one_ended (one_step (Tries n c.loop.damaged) x)) c.in-Whole.is ∙ one_strange all_present n c.loop.damaged c.in-Whole.answer strange)
 
 pub returns-in-Collided-clause-turns : goal.returns-in-Collided-clause-turns
 returns-in-Collided-clause-turns g c lit =
@@ -78,7 +78,7 @@ loop-preserved g c =
     record {
       lit = c.in_ok-answer.ensures.1;
       so_far = subst R goes turn;
-      vain = vain_turn g.L.Listener.machine inventory_all refl inventory c.args.field.now c.loop.field c.ask.new.field (Tries n c.loop.damaged) n c.loop.damaged c.match-branch-2.damaged c.in_ok-answer.field-0 c.loop.invariant.vain c.loop.invariant.so_far
+      vain = vain_turn g.L.Listener.machine inventory_all inventory c.args.field.now c.loop.field c.ask.new.field (Tries n c.loop.damaged) n c.loop.damaged c.match-branch-2.damaged c.in_ok-answer.field-0 c.loop.invariant.vain c.loop.invariant.so_far
           (subst T c.inventory_req-request.ensures c.in_ok-answer.ensures.0) which;
     }
 
@@ -93,7 +93,7 @@ pub loop-init : goal.loop-init
 loop-init g c = record {
   lit = grind (arith, common_steps);
   so_far = reached_start inventory g.L.Listener.machine c.args.field.now;
-  vain = vain_start g.L.Listener.machine inventory_all refl c.args.field.now;
+  vain = vain_start g.L.Listener.machine inventory_all c.args.field.now;
 }
 
 pub returns-then-damaged-clause-cause : goal.returns-then-damaged-clause-cause
@@ -102,8 +102,8 @@ returns-then-damaged-clause-cause g c lit s =
     let n : ℕ = c.loop.counter in
     let all : 4 ≤ n = omega arith in
     let yes : c.loop.damaged ≡ true = grind (arith, common_steps) in
-    let D : Bool → Type 0 = λ v. InVain m inventory_all refl c.args.field.now c.loop.field n v in
-    let k : n ≤ noise (drop (length c.args.field.now.trace) c.loop.field.trace) = vain_noisy m inventory_all refl c.args.field.now c.loop.field n (subst D yes c.loop.invariant.vain) s in
+    let D : Bool → Type 0 = λ v. InVain m inventory_all c.args.field.now c.loop.field n v in
+    let k : n ≤ noise (drop (length c.args.field.now.trace) c.loop.field.trace) = vain_noisy m inventory_all c.args.field.now c.loop.field n (subst D yes c.loop.invariant.vain) s in
     record { disturbed = λ e. omega (arith, all, k); nobody = λ e. absurd cc; bad = λ e. absurd cc }
 
 pub returns-clause-cause : goal.returns-clause-cause
@@ -111,7 +111,7 @@ returns-clause-cause g c lit s =
     let m = g.L.Listener.machine in
     let n : ℕ = c.loop.counter in
     let all : 4 ≤ n = omega arith in
-    record { disturbed = λ e. absurd cc; nobody = λ e. far_missed m inventory_all refl c.args.field.now c.loop.field n c.loop.damaged all c.loop.invariant.vain s; bad = λ e. absurd cc }
+    record { disturbed = λ e. absurd cc; nobody = λ e. far_missed m inventory_all c.args.field.now c.loop.field n c.loop.damaged all c.loop.invariant.vain s; bad = λ e. absurd cc }
 
 pub returns-in-None-clause-cause : goal.returns-in-None-clause-cause
 returns-in-None-clause-cause g c lit s =
@@ -123,7 +123,7 @@ returns-in-None-clause-cause g c lit s =
       nobody = λ e. absurd cc;
       bad = λ e well.
           let yes : is_present c.in-Whole.answer ≡ true =
-          well_heard m inventory_all refl inventory c.args.field.now c.loop.field c.ask.new.field c.loop.counter c.loop.damaged c.in_ok-answer.field-0 c.in-Whole.answer c.loop.invariant.vain
+          well_heard m inventory_all inventory is_present c.args.field.now c.loop.field c.ask.new.field c.loop.counter c.loop.damaged c.in_ok-answer.field-0 c.in-Whole.answer c.loop.invariant.vain
           (subst T c.inventory_req-request.ensures c.in_ok-answer.ensures.0) c.in-Whole.is s well in
           cc;
     }
@@ -144,7 +144,7 @@ pub returns-then-damaged-clause-turns : goal.returns-then-damaged-clause-turns
 returns-then-damaged-clause-turns g c lit =
     let yes : c.loop.damaged ≡ true = grind (arith, common_steps) in
     enquires_end inventory g.L.Listener.machine c.args.field.now c.loop.field (Tries c.loop.counter c.loop.damaged) (Err faults.Disturbed) c.loop.invariant.so_far
-    (one_over c.loop.counter c.loop.damaged (omega arith) ∙ ap (λ v. Some (if v then Err faults.Disturbed else Ok Nobody)) yes)
+    (one_over all_present c.loop.counter c.loop.damaged (omega arith) ∙ ap (λ v. Some (if v then Err faults.Disturbed else Ok Nobody)) yes)
 
 pub returns-then-damaged-clause-told : goal.returns-then-damaged-clause-told
 returns-then-damaged-clause-told g c lit = tells_inventory g.L.Listener.machine c.args.field.now c.loop.field _ (returns-then-damaged-clause-turns g c lit)
@@ -153,7 +153,7 @@ pub returns-clause-turns : goal.returns-clause-turns
 returns-clause-turns g c lit =
     let no : c.loop.damaged ≡ false = grind (arith, common_steps) in
     enquires_end inventory g.L.Listener.machine c.args.field.now c.loop.field (Tries c.loop.counter c.loop.damaged) (Ok Nobody) c.loop.invariant.so_far
-    (one_over c.loop.counter c.loop.damaged (omega arith) ∙ ap (λ v. Some (if v then Err faults.Disturbed else Ok Nobody)) no)
+    (one_over all_present c.loop.counter c.loop.damaged (omega arith) ∙ ap (λ v. Some (if v then Err faults.Disturbed else Ok Nobody)) no)
 
 pub returns-clause-told : goal.returns-clause-told
 returns-clause-told g c lit = tells_inventory g.L.Listener.machine c.args.field.now c.loop.field _ (returns-clause-turns g c lit)

@@ -1,4 +1,4 @@
-use Rattle.std.proofs.Common.{◌≡◌, true, refl}
+use Rattle.std.proofs.Common.{◌≡◌, true}
 use Rattle.nfca_poll.specs.Inventory.{inventory, inventory_all, Tries}
 use Rattle.nfca_poll.proofs.Enquiring.{Reached}
 use Rattle.nfca_poll.proofs.Steady.{InVain}
@@ -8,5 +8,5 @@ abbrev pub invariant-loop : goal.invariant-loop
 invariant-loop g l = record {
   lit : l.field.lit ≡ true;
   so_far : Reached inventory g.L.Listener.machine l.fn.field l.field (Tries l.counter l.damaged);
-  vain : InVain g.L.Listener.machine inventory_all refl l.fn.field l.field l.counter l.damaged;
+  vain : InVain g.L.Listener.machine inventory_all l.fn.field l.field l.counter l.damaged;
 }

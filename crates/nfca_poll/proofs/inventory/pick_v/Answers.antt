@@ -71,7 +71,7 @@ loop-preserved g c =
     record {
       lit = c.in_ok-answer.ensures.1;
       so_far = subst R goes turn;
-      vain = vain_turn g.L.Listener.machine (inventory_of c.args.id) refl (picking_v c.args.id) c.args.field.now c.loop.field c.ask.new.field (Tries n false) n false false c.in_ok-answer.field-0 c.loop.invariant.vain c.loop.invariant.so_far
+      vain = vain_turn g.L.Listener.machine (inventory_of c.args.id) (picking_v c.args.id) c.args.field.now c.loop.field c.ask.new.field (Tries n false) n false false c.in_ok-answer.field-0 c.loop.invariant.vain c.loop.invariant.so_far
           (subst T c.inventory_req_of-request.ensures c.in_ok-answer.ensures.0) (inl (c.in-Silent.is, refl));
     }
 
@@ -86,7 +86,7 @@ pub loop-init : goal.loop-init
 loop-init g c = record {
   lit = grind (arith, common_steps);
   so_far = reached_start (picking_v c.args.id) g.L.Listener.machine c.args.field.now;
-  vain = vain_start g.L.Listener.machine (inventory_of c.args.id) refl c.args.field.now;
+  vain = vain_start g.L.Listener.machine (inventory_of c.args.id) c.args.field.now;
 }
 
 pub returns-clause-cause : goal.returns-clause-cause
@@ -94,7 +94,7 @@ returns-clause-cause g c lit s =
     let m = g.L.Listener.machine in
     let n : ℕ = c.loop.counter in
     let all : 4 ≤ n = omega arith in
-    record { not_found = λ e. far_missed m (inventory_of c.args.id) refl c.args.field.now c.loop.field n false all c.loop.invariant.vain s; bad = λ e. absurd cc }
+    record { not_found = λ e. far_missed m (inventory_of c.args.id) c.args.field.now c.loop.field n false all c.loop.invariant.vain s; bad = λ e. absurd cc }
 
 pub returns-in-None-clause-cause : goal.returns-in-None-clause-cause
 returns-in-None-clause-cause g c lit s =
@@ -105,7 +105,7 @@ returns-in-None-clause-cause g c lit s =
       not_found = λ e. absurd cc;
       bad = λ e well.
           let yes : is_present c.in-Whole.answer ≡ true =
-          well_heard m (inventory_of c.args.id) refl (picking_v c.args.id) c.args.field.now c.loop.field c.ask.new.field c.loop.counter false c.in_ok-answer.field-0 c.in-Whole.answer c.loop.invariant.vain
+          well_heard m (inventory_of c.args.id) (picking_v c.args.id) is_present c.args.field.now c.loop.field c.ask.new.field c.loop.counter false c.in_ok-answer.field-0 c.in-Whole.answer c.loop.invariant.vain
           (subst T c.inventory_req_of-request.ensures c.in_ok-answer.ensures.0) c.in-Whole.is s well in
           cc;
     }

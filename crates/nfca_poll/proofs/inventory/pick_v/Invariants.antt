@@ -1,4 +1,4 @@
-use Rattle.std.proofs.Common.{◌≡◌, true, refl, false}
+use Rattle.std.proofs.Common.{◌≡◌, true, false}
 use Rattle.nfca_poll.specs.Inventory.{picking_v, inventory_of, Tries}
 use Rattle.nfca_poll.proofs.Enquiring.{Reached}
 use Rattle.nfca_poll.proofs.Steady.{InVain}
@@ -8,5 +8,5 @@ abbrev pub invariant-loop : goal.invariant-loop
 invariant-loop g l = record {
   lit : l.field.lit ≡ true;
   so_far : Reached (picking_v l.fn.id) g.L.Listener.machine l.fn.field l.field (Tries l.counter false);
-  vain : InVain g.L.Listener.machine (inventory_of l.fn.id) refl l.fn.field l.field l.counter false;
+  vain : InVain g.L.Listener.machine (inventory_of l.fn.id) l.fn.field l.field l.counter false;
 }
