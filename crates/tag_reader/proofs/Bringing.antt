@@ -1,5 +1,5 @@
 -- The pieces that a tag brings, whatever it does, and how a reading of it ends.
-use Rattle.std.proofs.Common.{◌≡◌, ℕ, ◌<◌, inl, inr, List, [], ◌∷◌, ◌++◌, length, drop, true, None, Some, Err, refl, sym, ◌∙◌, ap, subst, append_assoc, append-nil, arith}
+use Rattle.std.proofs.Common.{◌≡◌, ◌⊎◌, ℕ, ◌<◌, inl, inr, List, [], ◌∷◌, ◌++◌, length, drop, true, None, Some, Err, refl, sym, ◌∙◌, ap, subst, append_assoc, append-nil, arith}
 use Rattle.std.proofs.lemmas.List.{append_cancel_right, length-append}
 use Rattle.std.proofs.Math.Seq.{drop-append_seam}
 use Rattle.nfc_base.specs.Signal.{Signal}
@@ -116,21 +116,28 @@ by_link_on how a b c ps e u by = elim u.link [
   )
 ]
 
-link_ends : (how : How) (a b : LinkView) (ps : List (List ℕ)) (e : AskFault) → IsBrought how a b ps → ByLink a b e → IsFaultBy how a b (of_link e)
-link_ends how a b ps ask.FieldLost is by = record { ps = ps; brought = is; ends' = by }
-link_ends how a b ps ask.SixBad is by = record { ps = ps; brought = is; ends' = by }
-link_ends how a b ps ask.Memory is by = record { ps = ps; brought = is; ends' = inr by }
-link_ends how a b ps ask.Protocol is by = inr (record { ps = ps; brought = is; ends' = by })
+-- the command that follows the pieces was asked last
+asked_last : (how : How) (a b c : LinkView) (ps : List (List ℕ)) (f : Signal) → Under how a b ps → f ≡ next_command how ps → (b.over ≡ None → c.last ≡ Some f)
+    → a.over ≡ None → (c.over ≡ None) ⊎ (c.last ≡ Some (next_command how ps))
+asked_last how a b c ps f u e last begun =
+    inr (last (elim u.link [ inl same ↦ ap (λ v. v.over) same.1 ∙ begun | inr went ↦ went.over ]) ∙ ap Some e)
 
-pub under_fault : (how : How) (a b c : LinkView) (ps : List (List ℕ)) (f : Signal) (e : AskFault) → Under how a b ps → IsFault b c f e → (b.over ≡ None → AskCause b c e) →
-    ((g : AskFault) → b.over ≡ Some g → IsEnded b c g (Err e)) → IsFaultBy how a c (of_link e)
-under_fault how a b c ps f e u fails cause ended =
+link_ends : (how : How) (a b : LinkView) (ps : List (List ℕ)) (e : AskFault) → IsBrought how a b ps → ByLink a b e
+    → (a.over ≡ None → (b.over ≡ None) ⊎ (b.last ≡ Some (next_command how ps))) → IsFaultBy how a b (of_link e)
+link_ends how a b ps ask.FieldLost is by asked = record { ps = ps; brought = is; ends' = by; asked = asked }
+link_ends how a b ps ask.SixBad is by asked = record { ps = ps; brought = is; ends' = by; asked = asked }
+link_ends how a b ps ask.Memory is by asked = record { ps = ps; brought = is; ends' = inr by; asked = asked }
+link_ends how a b ps ask.Protocol is by asked = inr (record { ps = ps; brought = is; ends' = by; asked = asked })
+
+pub under_fault : (how : How) (a b c : LinkView) (ps : List (List ℕ)) (f : Signal) (e : AskFault) → Under how a b ps → f ≡ next_command how ps → IsFault b c f e → (b.over ≡ None → AskCause b c e)
+    → ((g : AskFault) → b.over ≡ Some g → IsEnded b c g (Err e)) → (b.over ≡ None → c.last ≡ Some f) → IsFaultBy how a c (of_link e)
+under_fault how a b c ps f e u due fails cause ended last =
     link_ends how a c ps e (record { pieces = u.brought.pieces; answered = fails.answered ∙ u.brought.answered })
-    (by_link_on how a b c ps e u (began_by b c e fails.over cause (began b c e (Err e) refl ended)))
+    (by_link_on how a b c ps e u (began_by b c e fails.over cause (began b c e (Err e) refl ended))) (asked_last how a b c ps f u due last)
 
 -- own want of memory
 pub memory_ends : (how : How) (a b : LinkView) (ps : List (List ℕ)) → IsBrought how a b ps → b.over ≡ None → IsFaultBy how a b fault.Memory
-memory_ends how a b ps is over = record { ps = ps; brought = is; ends' = inl over }
+memory_ends how a b ps is over = record { ps = ps; brought = is; ends' = inl over; asked = λ begun. inl over }
 
 pub went_of : (how : How) (a b : LinkView) (ps : List (List ℕ)) → Under how a b ps → 0 < length ps → Went a b
 went_of how a b ps u some = elim u.link [

@@ -268,11 +268,13 @@ pub record IsOddly (how : How) (a b : LinkView) : Type 0 where
   pub stopped : IsStopped how a b ps r
   pub odd : IsOdd how ps r
 
--- The link ended it, or the reader's own want of memory: all that was answered brought pieces.
+-- The link ended it, or the reader's own want of memory: all that was answered brought pieces. Where the link is over and wasn't
+-- before, the command that follows them was asked, and it was the last.
 pub record IsEndedBy (how : How) (a b : LinkView) (ends : Type 0) : Type 0 where
   pub ps : List (List ℕ)
   pub brought : IsBrought how a b ps
   pub ends' : ends
+  pub asked : a.over ≡ None → (b.over ≡ None) ⊎ (b.last ≡ Some (next_command how ps))
 
 -- Each fault, whatever the tag: of the tag's last answer, of what its pieces say, or of the link.
 abbrev pub IsFaultBy : How → LinkView → LinkView → ReadFault → Type 0

@@ -80,10 +80,12 @@ by_behind how a b c cs e x rises by = elim x.link [
   )
 ]
 
-unanswered_behind : (how : How) (a b c : LinkView) (cs front : List Signal) (e : AskFault) → AreAcknowledged how a b cs → Rises a b → IsUnanswered b c front e → IsUnanswered a c (cs ++ front) e
-unanswered_behind how a b c cs front e x rises u = record {
+unanswered_behind : (how : How) (a b c : LinkView) (cs front : List Signal) (next : Signal) (e : AskFault) → AreAcknowledged how a b cs → Rises a b → IsUnanswered b c front next e
+    → IsUnanswered a c (cs ++ front) next e
+unanswered_behind how a b c cs front next e x rises u = record {
   answered = u.answered ∙ ap (λ xs. xs ++ front) x.answered ∙ append_assoc a.answered cs front;
   by = by_behind how a b c cs e x rises u.by;
+  asked = λ begun. u.asked (elim x.link [ inl same ↦ ap (λ v. v.over) same.1 ∙ begun | inr went ↦ went.0 ]);
 }
 
 answered_behind : (how : How) (a b c : LinkView) (cs front : List Signal) (next r : Signal) → AreAcknowledged how a b cs → IsAnsweredBy b c front next r → IsAnsweredBy a c (cs ++ front) next r
@@ -97,10 +99,10 @@ answered_behind how a b c cs front next r x y = record {
 why_behind : (how : How) (a b c : LinkView) (cs front : List Signal) (next : Signal) (e : WriteFault) → AreAcknowledged how a b cs → Rises a b → IsWhy how b c front next e → IsWhy how a c (cs ++ front) next e
 why_behind how a b c cs front next (fault.Refused code) x rises why = (why.0, answered_behind how a b c cs front next why.0 x why.1, why.2)
 why_behind how a b c cs front next fault.Protocol x rises (inl odd) = inl (odd.0, answered_behind how a b c cs front next odd.0 x odd.1, odd.2)
-why_behind how a b c cs front next fault.Protocol x rises (inr lost) = inr (unanswered_behind how a b c cs front ask.Protocol x rises lost)
-why_behind how a b c cs front next fault.FieldLost x rises why = unanswered_behind how a b c cs front ask.FieldLost x rises why
-why_behind how a b c cs front next fault.SixBad x rises why = unanswered_behind how a b c cs front ask.SixBad x rises why
-why_behind how a b c cs front next fault.Memory x rises why = unanswered_behind how a b c cs front ask.Memory x rises why
+why_behind how a b c cs front next fault.Protocol x rises (inr lost) = inr (unanswered_behind how a b c cs front next ask.Protocol x rises lost)
+why_behind how a b c cs front next fault.FieldLost x rises why = unanswered_behind how a b c cs front next ask.FieldLost x rises why
+why_behind how a b c cs front next fault.SixBad x rises why = unanswered_behind how a b c cs front next ask.SixBad x rises why
+why_behind how a b c cs front next fault.Memory x rises why = unanswered_behind how a b c cs front next ask.Memory x rises why
 why_behind how a b c cs front next fault.NotNdef x rises why = why
 why_behind how a b c cs front next fault.Version x rises why = why
 why_behind how a b c cs front next fault.NoRead x rises why = why
@@ -224,10 +226,12 @@ module _ (how : How) (a b : LinkView) (c r : Signal) (obeys : Obeys a b c) (rise
   put_told (Err fault.ShortMlc) tells = absurd tells
 
 -- no answer
-pub put_lost : (how : How) (a b : LinkView) (c : Signal) (f : AskFault) → IsFault a b c f → (a.over ≡ None → AskCause a b f) → ((e : AskFault) → a.over ≡ Some e → IsEnded a b e (Err f)) → IsWhy how a b [] c (of_link f)
-put_lost how a b c f fails cause ended = by_fault f (record { answered = fails.answered ∙ sym (append-nil a.answered); by = began_by a b f fails.over cause (began a b f (Err f) refl ended) })
+pub put_lost : (how : How) (a b : LinkView) (c : Signal) (f : AskFault) → IsFault a b c f → (a.over ≡ None → AskCause a b f) → ((e : AskFault) → a.over ≡ Some e → IsEnded a b e (Err f)) → (a.over ≡ None → b.last ≡ Some c)
+    → IsWhy how a b [] c (of_link f)
+put_lost how a b c f fails cause ended last =
+    by_fault f (record { answered = fails.answered ∙ sym (append-nil a.answered); by = began_by a b f fails.over cause (began a b f (Err f) refl ended); asked = last })
   where
-    by_fault : (e : AskFault) → IsUnanswered a b [] e → IsWhy how a b [] c (of_link e)
+    by_fault : (e : AskFault) → IsUnanswered a b [] c e → IsWhy how a b [] c (of_link e)
     by_fault ask.FieldLost u = u
     by_fault ask.SixBad u = u
     by_fault ask.Memory u = u

@@ -43,23 +43,25 @@ pub record AreAcknowledged (how : How) (a b : LinkView) (commands : List Signal)
   pub left : IsLeftBy a b commands
   pub link : ((commands ≡ []) × (b ≡ a)) ⊎ ((b.over ≡ None) × (b.dark ≡ false))
 
--- The write behind these was answered so; the link isn't over. Or it wasn't answered, and the link is over by this fault.
+-- The write behind these was answered so; the link isn't over. Or it wasn't answered, and the link is over by this fault: where it
+-- wasn't before, this write was asked, and was the last.
 pub record IsAnsweredBy (a b : LinkView) (front : List Signal) (next r : Signal) : Type 0 where
   pub answer : (a.step (after_all a.step a.state front) next).answer ≡ Some r
   pub answered : b.answered ≡ a.answered ++ (front ++ next ∷ [])
   pub over : b.over ≡ None
 
-pub record IsUnanswered (a b : LinkView) (front : List Signal) (e : AskFault) : Type 0 where
+pub record IsUnanswered (a b : LinkView) (front : List Signal) (next : Signal) (e : AskFault) : Type 0 where
   pub answered : b.answered ≡ a.answered ++ front
   pub by : ByLink a b e
+  pub asked : a.over ≡ None → b.last ≡ Some next
 
 -- Why the write behind these isn't acknowledged.
 abbrev pub IsWhy : How → LinkView → LinkView → List Signal → Signal → WriteFault → Type 0
 IsWhy how a b front next (fault.Refused code) = (r : Signal) × IsAnsweredBy a b front next r × Refuses how r code
-IsWhy how a b front next fault.Protocol = ((r : Signal) × IsAnsweredBy a b front next r × IsOddAnswer how r) ⊎ IsUnanswered a b front ask.Protocol
-IsWhy how a b front next fault.FieldLost = IsUnanswered a b front ask.FieldLost
-IsWhy how a b front next fault.SixBad = IsUnanswered a b front ask.SixBad
-IsWhy how a b front next fault.Memory = IsUnanswered a b front ask.Memory
+IsWhy how a b front next fault.Protocol = ((r : Signal) × IsAnsweredBy a b front next r × IsOddAnswer how r) ⊎ IsUnanswered a b front next ask.Protocol
+IsWhy how a b front next fault.FieldLost = IsUnanswered a b front next ask.FieldLost
+IsWhy how a b front next fault.SixBad = IsUnanswered a b front next ask.SixBad
+IsWhy how a b front next fault.Memory = IsUnanswered a b front next ask.Memory
 IsWhy how a b front next e = ⊥
 
 -- Of these writes some were acknowledged, and the next one wasn't.

@@ -67,8 +67,9 @@ returns-in-Ok-extend_from_slice-clause-next g c size is low =
 pub returns-in-Err-clause-gains : goal.returns-in-Err-clause-gains
 returns-in-Err-clause-gains g c a ps u count =
     let b : LinkView = g.T.TagLink.seen c.ask.new.self in
+    let due : c.to_frame-read.result ≡ next_command T2 ps = c.to_frame-read.ensures.frame ∙ ap (λ n. command T2 16 [] n) (sym count) in
     subst (λ e. IsFaultBy T2 a b e) (sym c.of_link.ensures)
-    (under_fault T2 a (g.T.TagLink.seen c.args.link.now) b ps c.to_frame-read.result c.in-Err.fault u c.in-Err.ensures.err c.in-Err.ensures.cause c.in-Err.ensures.ended)
+    (under_fault T2 a (g.T.TagLink.seen c.args.link.now) b ps c.to_frame-read.result c.in-Err.fault u due c.in-Err.ensures.err c.in-Err.ensures.cause c.in-Err.ensures.ended c.in-Err.ensures.last)
 
 pub returns-in-Err-tell_t2-clause-gains : goal.returns-in-Err-tell_t2-clause-gains
 returns-in-Err-tell_t2-clause-gains g c a ps u count =

@@ -111,8 +111,11 @@ pub returns-in-Err-clause-brings : goal.returns-in-Err-clause-brings
 returns-in-Err-clause-brings g c a ps u same =
     let old : LinkView = g.T.TagLink.seen c.args.link.now in
     let new : LinkView = g.T.TagLink.seen c.ask.new.self in
+    let frame : c.unwrap-frame.result ≡ whole_a (command_bytes c.args.command.now) =
+    (rw c.unwrap-frame.ensures at c.whole.ensures.ok) ∙ ap (λ xs. whole_a xs) (c.as_slice.ensures.value ∙ c.to_bytes-bytes.ensures) in
+    let due : c.unwrap-frame.result ≡ next_command T4 ps = frame ∙ ap file_frame same in
     subst (λ e. IsFaultBy T4 a new e) (sym c.of_link.ensures)
-    (under_fault T4 a old new ps c.unwrap-frame.result c.in-Err.fault u c.in-Err.ensures.err c.in-Err.ensures.cause c.in-Err.ensures.ended)
+    (under_fault T4 a old new ps c.unwrap-frame.result c.in-Err.fault u due c.in-Err.ensures.err c.in-Err.ensures.cause c.in-Err.ensures.ended c.in-Err.ensures.last)
 
 pub returns-in-Err-tell_t4-clause-brings : goal.returns-in-Err-tell_t4-clause-brings
 returns-in-Err-tell_t4-clause-brings g c a ps u same =

@@ -21,7 +21,7 @@ returns-in-Err-clause-told g c =
     let a : LinkView = g.T.TagLink.seen c.args.link.now in
     let b : LinkView = g.T.TagLink.seen c.ask.new.self in
     subst (λ e. IsWhy c.args.how a b [] c.args.command.now e) (sym c.from.ensures)
-    (put_lost c.args.how a b c.args.command.now c.in-Err.fault c.in-Err.ensures.err c.in-Err.ensures.cause c.in-Err.ensures.ended)
+    (put_lost c.args.how a b c.args.command.now c.in-Err.fault c.in-Err.ensures.err c.in-Err.ensures.cause c.in-Err.ensures.ended c.in-Err.ensures.last)
 
 pub returns-in-Ok-clause-puts : goal.returns-in-Ok-clause-puts
 returns-in-Ok-clause-puts g c is =

@@ -1,0 +1,4 @@
+pub mod Logs
+pub mod Replays
+pub mod Nexts
+pub mod Losing

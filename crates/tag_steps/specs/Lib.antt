@@ -1,0 +1,5 @@
+pub mod Replay
+pub mod Reading
+pub mod Logged
+pub mod Writing
+pub mod Surveying
