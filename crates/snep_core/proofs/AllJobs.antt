@@ -112,7 +112,7 @@ own_emptied : (s : ℕ) (l : EndState) (q : Option OwnState) → own_of s l ≡ 
 own_emptied s l None e = e
 own_emptied s l (Some o) e = own_with s l.own (record o { units = [] }) o e (here_of s l.own o e)
 
-emptied_elsewhere : (s t : ℕ) (l : EndState) → (t == s) ≡ false → own_of s (emptied l t) ≡ own_of s l
+pub emptied_elsewhere : (s t : ℕ) (l : EndState) → (t == s) ≡ false → own_of s (emptied l t) ≡ own_of s l
 emptied_elsewhere s t l n = go (own_of t l) refl
   where
     go : (q : Option OwnState) → own_of t l ≡ q → own_of s (emptied_by l q) ≡ own_of s l

@@ -31,11 +31,11 @@ CameOn before now there =
     ⊎ (((is_waiting (standing_of before) ≡ true) × (is_open_by now ≡ true))
     ⊎ ((is_open_by before ≡ true) × (is_open_by now ≡ true) × (owes_conn there ≡ false) × ((acked_of now == acked_of before) ≡ false)))
 
-true_or : (a b : Bool) → b ≡ true → (a || b) ≡ true
+pub true_or : (a b : Bool) → b ≡ true → (a || b) ≡ true
 true_or true b e = refl
 true_or false b e = e
 
-or_true : (a b : Bool) → a ≡ true → (a || b) ≡ true
+pub or_true : (a b : Bool) → a ≡ true → (a || b) ≡ true
 or_true a b e = ap (λ c. c || b) e
 
 -- so the reply gave something there

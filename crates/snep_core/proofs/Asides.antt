@@ -1,6 +1,6 @@
 -- A client and a peer between two calls, as PDUs go from one to the other that are of no request: acknowledgements, beside what waits in the
 -- queues of both.
-use Rattle.std.proofs.Common.{◌≡◌, ◌<◌, ◌≤◌, ◌⊎◌, ℕ, ◌+◌, ◌==◌, Bool, true, false, List, [], ◌∷◌, length, Option, Some, None, IfSome, refl, sym, ◌∙◌, ap, subst, inl, inr, arith, append-nil}
+use Rattle.std.proofs.Common.{◌≡◌, ◌<◌, ◌≤◌, ◌⊎◌, ℕ, ◌+◌, ◌==◌, Bool, true, false, List, [], ◌∷◌, length, Option, Some, None, IfSome, is_some, refl, sym, ◌∙◌, ap, subst, inl, inr, arith, append-nil}
 use Rattle.llcp_conn.specs.Conn.{ConnState, IsSap, first}
 use Rattle.llcp_link.specs.State.{Bound, Lookup, OwnState, Queued, conn_from, own_from, with_conn, with_own}
 use Rattle.llcp_link.specs.Asking.{is_there, unit_of}
@@ -17,7 +17,7 @@ use Rattle.snep_core.proofs.OnConnection.{conn_at}
 use Rattle.snep_core.proofs.Owned.{emptied_none}
 use Rattle.snep_core.proofs.Pairs.{bare_acks, bare_informs, client_ack, client_acks, client_gave, client_hears, client_quiet, client_settled, informs_is, acks_is, server_ack, server_acks, server_gave, server_hears, server_quiet, server_settled}
 use Rattle.snep_core.proofs.Places.{below, paired_client_acks, paired_server_acks}
-use Rattle.snep_core.proofs.Sides.{Place, Sides, Sizes, leaves_same, sides_on}
+use Rattle.snep_core.proofs.Sides.{Place, Sides, Sizes, leaves_same, sides_on, some_still}
 
 -- a connection that gives nothing, whatever its end is
 abbrev pub IsStill : Option OwnState → Type 0
@@ -77,12 +77,13 @@ but_splits s special still sap o c h = go (client_sap == sap) refl h
     go false e (inl y) = inl (over_still o y.0, y.1)
     go false e (inr y) = inr (y, λ p d q. subst (λ b. ButBy s special b sap p d) (sym e) (inr q))
 
-module _ (Found : List Lookup → Type 0) (names : List Bound) (s : ServerState) (z : Sizes) (At : Place) (splits : Splits s At) where
-  -- Nothing but these waits at the client and at the peer.
+module _ (Found : List Lookup → Type 0) (there : ℕ → Bool) (names : List Bound) (s : ServerState) (z : Sizes) (At : Place) (splits : Splits s At) where
+  -- Nothing but these waits at the client and at the peer, which has a connection from these SAPs.
   pub record Calm (client_waits peer_waits : List Queued) (l : EndState) (p : PeerState) : Type 0 where
     pub sides : Sides s.limit s.table names s.accepted z At client_waits peer_waits l p
     pub service_is : p.service ≡ s
     pub found : Found l.lookups
+    pub stays : (sap : ℕ) → is_some (conn_from sap p.served) ≡ there sap
 
   module _ (client_waits peer_waits : List Queued) (l : EndState) (p : PeerState) (h : Calm client_waits peer_waits l p) where
     at_ : (sap : ℕ) → At sap (own_from sap l.own) (conn_from sap p.served) s
@@ -106,6 +107,7 @@ module _ (Found : List Lookup → Type 0) (names : List Bound) (s : ServerState)
           client_last peer_last client_mark peer_mark;
       service_is = h.service_is;
       found = h.found;
+      stays = λ t. some_still sap (server_conn sap n) _ p.served q.served refl t ∙ h.stays t;
     }
 
     low : (sap : ℕ) → IsClientSap sap → sap < 64

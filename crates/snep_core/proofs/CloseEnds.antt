@@ -1,5 +1,5 @@
 -- What the end of a connection comes to at a peer that its client accords with.
-use Rattle.std.proofs.Common.{◌≡◌, ◌⊎◌, nat_le, ℕ, ◌==◌, Bool, true, false, List, [], ◌∷◌, ◌++◌, Option, Some, None, refl, sym, ◌∙◌, ap, subst, inl, inr, arith, if◌then◌else◌}
+use Rattle.std.proofs.Common.{◌≡◌, ◌⊎◌, nat_le, ℕ, ◌==◌, Bool, true, false, List, [], ◌∷◌, ◌++◌, Option, Some, None, is_some, refl, sym, ◌∙◌, ap, subst, inl, inr, arith, if◌then◌else◌}
 use Rattle.std.proofs.lemmas.Bool.{eqb-true}
 use Rattle.nfc_base.specs.Links.{CarrierView, FarStep}
 use Rattle.llcp_pdu.specs.declared.part.Part.TheVariants.{Disc, Dm}
@@ -22,7 +22,7 @@ use Rattle.snep_core.proofs.Carrying.{FirstSo}
 use Rattle.snep_core.proofs.Courses.{came}
 use Rattle.snep_core.proofs.Ends.{sizes_of}
 use Rattle.snep_core.proofs.OneExchange.{OneExchange, Same, course, fails_so}
-use Rattle.snep_core.proofs.Removed.{none_left, still_counted}
+use Rattle.snep_core.proofs.Removed.{none_left, still_counted, without_none}
 use Rattle.snep_core.proofs.Sides.{Sides, Sizes, at_changed, sides_own}
 
 -- the client's connection once it was given up, and once it is closed
@@ -78,17 +78,18 @@ gone_rested s t o c h = go (client_sap == t) h
 abbrev pub Any : List Lookup → Type 0
 Any k = Unit {0}
 
-module _ (names : List Bound) (s : ServerState) (z : Sizes) where
+module _ (there : ℕ → Bool) (names : List Bound) (s : ServerState) (z : Sizes) where
   -- The DISC waits at the client; the DM waits at the peer; there is no connection.
   pub record DiscWaits (l : EndState) (p : PeerState) : Type 0 where
     pub sides : Sides s.limit s.table names s.accepted z (But s Giving) (disc ∷ []) [] l p
     pub service_is : p.service ≡ s
+    pub stays : (t : ℕ) → is_some (conn_from t (without_conn client_sap p.served)) ≡ there t
 
   abbrev DmWaits : EndState → PeerState → Type 0
-  DmWaits l p = Calm Any names s z (But s Given) (but_splits s Given given_still) [] (dm ∷ []) l p
+  DmWaits l p = Calm Any there names s z (But s Given) (but_splits s Given given_still) [] (dm ∷ []) l p
 
   abbrev Parted : EndState → PeerState → Type 0
-  Parted l p = Calm Any names s z (But s Gone) (but_splits s Gone gone_still) [] [] l p
+  Parted l p = Calm Any there names s z (But s Gone) (but_splits s Gone gone_still) [] [] l p
 
   -- the client gives its DISC
   module _ (l : EndState) (p : PeerState) (h : DiscWaits l p) where
@@ -128,6 +129,7 @@ module _ (names : List Bound) (s : ServerState) (z : Sizes) where
       };
       service_is = h.service_is;
       found = tt;
+      stays = h.stays;
     }
 
     pub disc_out : FirstSo silent serving DmWaits l p (gave silent l)
@@ -150,6 +152,7 @@ module _ (names : List Bound) (s : ServerState) (z : Sizes) where
           (λ t n q k a. else_so s Given Gone t q k n a) ((refl, refl), given_.1);
       service_is = h.service_is;
       found = tt;
+      stays = h.stays;
     }
 
     pub dm_back : FirstSo serving silent (λ q e. Parted e q) p l (gave serving p)
@@ -172,9 +175,9 @@ module _ (names : List Bound) (s : ServerState) (z : Sizes) where
     Between = DmWaits;
     After = Parted;
     first = disc_out;
-    on = client_hop Any names s z (But s Given) (but_splits s Given given_still) (dm ∷ []);
+    on = client_hop Any there names s z (But s Given) (but_splits s Given given_still) (dm ∷ []);
     back = dm_back;
-    back_on = peer_hop Any names s z (But s Gone) (but_splits s Gone gone_still);
+    back_on = peer_hop Any there names s z (But s Gone) (but_splits s Gone gone_still);
     before_readable = λ l p h. (h.sides.client_readable, h.sides.peer_readable);
     between_readable = λ l p h. (h.sides.client_readable, h.sides.peer_readable);
     before_kept = λ l p h. h.service_is;
@@ -193,8 +196,12 @@ module _ {C A : Type 0} (seen : C → CarrierView) (swaps : C → List ℕ → L
   abbrev z_ : Sizes
   z_ = sizes_of client p
 
+  -- the peer's connections but that of the client's first SAP
+  abbrev gone : ℕ → Bool
+  gone s = is_some (conn_from s (without_conn client_sap p.served))
+
   abbrev closing : OneExchange p.service Closes Done
-  closing = closes p.bound p.service z_
+  closing = closes gone p.bound p.service z_
 
   abbrev AtStep : Step → PeerState → Type 0
   AtStep = (course p.service Closes Done closing).At
@@ -212,13 +219,14 @@ module _ {C A : Type 0} (seen : C → CarrierView) (swaps : C → List ℕ → L
         sides_own p.service.limit p.service.table p.bound p.service.accepted z_ (AllRested p.service) (But p.service Giving) [] [] client p (sides_at client p a) client_sap
         (given_up Leaving) _ h.own refl (λ t n q k y. subst (λ b. ButBy p.service Giving b t q k) (sym n) y) (refl, (h.numbers, h.served))
 
-    joined_begins : DiscWaits p.bound p.service z_ (disconnected_by client (own_of client_sap client)) p
+    joined_begins : DiscWaits gone p.bound p.service z_ (disconnected_by client (own_of client_sap client)) p
     joined_begins =
-        subst (λ o. DiscWaits p.bound p.service z_ (disconnected_by client o) p) (sym h.own) (record {
+        subst (λ o. DiscWaits gone p.bound p.service z_ (disconnected_by client o) p) (sym h.own) (record {
           sides = subst (λ q. Sides p.service.limit p.service.table p.bound p.service.accepted z_ (But p.service Giving) q [] (record gave_up { queue = client.queue ++ disc ∷ [] }) p)
               (ap (λ q. q ++ disc ∷ []) a.calm.client_queue)
               (client_queues p.service.limit p.service.table p.bound p.service.accepted z_ (But p.service Giving) [] [] gave_up p given_sides (client.queue ++ disc ∷ []) client.lookups client.asked);
           service_is = refl;
+          stays = λ t. refl;
         })
 
     joined_step : AtStep (begins client Leaves) p
@@ -239,6 +247,7 @@ module _ {C A : Type 0} (seen : C → CarrierView) (swaps : C → List ℕ → L
             sides = sides_by p.service.limit p.service.table p.bound p.service.accepted z_ (AllRested p.service) [] [] client p (sides_at client p a) (But p.service Gone) (λ t y. gone_at t (client_sap == t) refl y);
             service_is = refl;
             found = tt;
+            stays = λ t. ap (λ ks. is_some (conn_from t ks)) (sym (without_none client_sap p.served h.served));
           },
         )
 
@@ -256,8 +265,9 @@ module _ {C A : Type 0} (seen : C → CarrierView) (swaps : C → List ℕ → L
       let y = came (Same p.service Closes Done closing) (course p.service Closes Done closing) seen swaps steps stops view peer
       numbers (begins client Leaves) (Ends (alone (Over Done)) new) link now far after begins_so t in
       let h = y.1 in
-      let gone = over_at p.bound p.service z_ new (view after) h in record {
-        apart = record { own = gone.0; served = gone.1 };
+      let left = over_at gone p.bound p.service z_ new (view after) h in record {
+        apart = record { own = left.0; served = left.1 };
+        others = λ s n. h.stays s ∙ ap (λ o. is_some o) (conn_without_other s client_sap p.served n);
         aside = record {
           service = h.service_is;
           bound = h.sides.reached.0;

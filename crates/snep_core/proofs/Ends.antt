@@ -1,5 +1,5 @@
--- How a call begins where a client and a peer accord, how it ends, and what it leaves where it is cut off.
-use Rattle.std.proofs.Common.{◌≡◌, ◌<◌, ◌≤◌, ◌⊎◌, ℕ, ◌/◌, ◌==◌, ◌||◌, Bool, true, false, List, [], ◌∷◌, ◌++◌, length, map, Option, Some, None, IfSome, Result, Ok, Err, unwrap_or, refl, sym, ◌∙◌, ap, subst, inl, inr, arith, append-nil, if◌then◌else◌}
+-- How a call of one request begins where a client and a peer accord.
+use Rattle.std.proofs.Common.{◌≡◌, ◌<◌, ◌≤◌, ◌⊎◌, ℕ, ◌/◌, ◌==◌, ◌||◌, Bool, true, false, List, [], ◌∷◌, ◌++◌, length, Option, Some, None, IfSome, is_some, Result, Ok, Err, unwrap_or, refl, sym, ◌∙◌, ap, subst, inl, inr, arith, append-nil, if◌then◌else◌}
 use Rattle.std.proofs.lemmas.Bool.{eqb-true}
 use Rattle.std.proofs.lemmas.List.{length-replicate}
 use Rattle.llcp_pdu.specs.declared.param.Param.{Param}
@@ -10,29 +10,24 @@ use Rattle.llcp_link.proofs.Clients.{is_self}
 use Rattle.llcp_link.proofs.Ranged.{either}
 use Rattle.llcp_pdu.specs.declared.part.Part.TheVariants.{Connect}
 use Rattle.llcp_conn.specs.Conn.{ConnState, IsSap}
-use Rattle.llcp_link.specs.State.{Bound, OwnState, conn_from, miu_said, own_from}
+use Rattle.llcp_link.specs.State.{OwnState, conn_from, miu_said, own_from}
 use Rattle.llcp_link.specs.Asking.{asked_from, is_busy_by, put_own, request}
 use Rattle.llcp_link.specs.Names.{own_params}
 use Rattle.snep_core.specs.Accord.{Accords, IsApart, IsBegun, IsClientSap, IsJoined, IsOver, IsPaired, PeerState, clients_in, last_sap}
-use Rattle.snep_core.specs.Jobs.{Begins, Job}
-use Rattle.snep_core.specs.Payloads.{accepted_from}
-use Rattle.snep_core.specs.Server.{Received, ServerState, received, serving, session_of}
-use Rattle.snep_core.specs.Session.{Offer, Session, fresh_session}
-use Rattle.snep_core.specs.Talk.{EndState, Goes, Step, Working, connected, own_of, ready, readied, server_sap, silent, units_of}
+use Rattle.snep_core.specs.Jobs.{Begins}
+use Rattle.snep_core.specs.Server.{ServerState, session_of}
+use Rattle.snep_core.specs.Session.{Session, fresh_session}
+use Rattle.snep_core.specs.Talk.{EndState, connected, own_of, server_sap, units_of}
 use Rattle.snep_core.proofs.CallsEnd.{put_elsewhere, put_there}
-use Rattle.snep_core.proofs.Carrying.{AtFronts, at_front}
 use Rattle.snep_core.proofs.Conversations.{Conversation, Converses, Starts}
-use Rattle.snep_core.proofs.Courses.{Course, IsSafe}
-use Rattle.snep_core.proofs.Hops.{hands, takes}
 use Rattle.snep_core.proofs.Idling.{Idles}
-use Rattle.snep_core.proofs.Meets.{cc_of, connect_of, is_in}
+use Rattle.snep_core.proofs.Meets.{is_in}
 use Rattle.snep_core.proofs.OnConnection.{conn_at}
-use Rattle.snep_core.proofs.Opening.{stands, waits}
-use Rattle.snep_core.proofs.Places.{Plan, StandsBy, Talking}
+use Rattle.snep_core.proofs.Opening.{stands}
+use Rattle.snep_core.proofs.Places.{StandsBy}
 use Rattle.snep_core.proofs.Served.{Serves}
-use Rattle.snep_core.proofs.Shares.{whole_of}
 use Rattle.snep_core.proofs.Sides.{Kept, Sizes}
-use Rattle.snep_core.proofs.Turns.{M, Rests, StepSo, job_by, jobs, keeps, only_mine, plan, plan_by, ready_at, turns_so}
+use Rattle.snep_core.proofs.OneJob.{OneRests, is_it, job_by, jobs, ours, plan_by, unlike}
 
 -- general bytes say no MIU below the least one
 miu_more : (o : Option ℕ) → least_miu ≤ miu_by least_miu o
@@ -81,10 +76,10 @@ begun_accords client peer h = record {
 
 -- what two ends say of themselves
 abbrev pub sizes_of : EndState → PeerState → Sizes
-sizes_of l p = record { client_miu = l.miu; client_window = l.window; server_miu = p.miu; server_window = p.window }
+sizes_of l p = record { client_miu = l.miu; client_window = l.window; server_miu = p.miu; server_window = p.window; there = λ s. is_some (conn_from s p.served) }
 
 -- a connection that isn't there isn't busy
-over_free : (o : Option OwnState) → IsOver o → is_busy_by o ≡ false
+pub over_free : (o : Option OwnState) → IsOver o → is_busy_by o ≡ false
 over_free None h = refl
 over_free (Some o) h = h.0
 
@@ -130,7 +125,13 @@ module _ (client : EndState) (peer : PeerState) (a : Accords client peer) (sap :
   })
 
   abbrev Begun_ : EndState → Type 0
-  Begun_ l = Rests x_.limit x_.table peer.bound x_.accepted z_ sap conv most bytes range laws (Begins most bytes) l peer
+  Begun_ l = OneRests x_.limit x_.table peer.bound x_.accepted z_ sap conv most bytes range laws
+      (jobs x_.limit x_.table peer.bound x_.accepted z_ sap conv most bytes range laws (Begins most bytes)) l peer
+
+  -- what is so of its SAP is so of all SAPs of the call
+  at_ours : (l : EndState) → units_of (own_of sap l) ≡ [] → (s : ℕ) → is_in s (ours x_.limit x_.table peer.bound x_.accepted z_ sap conv most bytes range laws) ≡ true
+      → units_of (own_of s l) ≡ []
+  at_ours l e s i = subst (λ t. units_of (own_of t l) ≡ []) (is_it x_.limit x_.table peer.bound x_.accepted z_ sap conv most bytes range laws s i) e
 
   abbrev asked_ : EndState
   asked_ = record client { queue = client.queue ++ request (Connect server_sap sap (own_params client.miu client.window)) ∷ []; own = put_own (asked_from sap server_sap) client.own }
@@ -161,6 +162,7 @@ module _ (client : EndState) (peer : PeerState) (a : Accords client peer) (sap :
           awaited = [];
           unlike = (refl, tt);
           few = omega arith;
+          stays = λ t m. refl;
           sides = record {
             client_fair = record { miu = a.client_fair.miu; window = a.client_fair.window; last = a.client_fair.last };
             peer_fair = a.peer_fair;
@@ -180,7 +182,7 @@ module _ (client : EndState) (peer : PeerState) (a : Accords client peer) (sap :
             at = λ s. asks_at h s (sap == s) refl;
           };
         };
-        empty = ap units_of own_asked;
+        empty = at_ours asked_ (ap units_of own_asked);
       })
 
   -- the connection is there
@@ -211,6 +213,7 @@ module _ (client : EndState) (peer : PeerState) (a : Accords client peer) (sap :
           awaited = [];
           unlike = tt;
           few = omega arith;
+          stays = λ t m. refl;
           sides = record {
             client_fair = a.client_fair;
             peer_fair = a.peer_fair;
@@ -230,7 +233,7 @@ module _ (client : EndState) (peer : PeerState) (a : Accords client peer) (sap :
             at = λ s. talks_at h s (sap == s) refl;
           };
         };
-        empty = ap units_of h.own;
+        empty = at_ours client (ap units_of h.own);
       })
 
   pub accord_begins : Begun_ (connected client sap)
@@ -239,134 +242,3 @@ module _ (client : EndState) (peer : PeerState) (a : Accords client peer) (sap :
       go : (IsApart sap client peer ⊎ IsJoined sap client peer) → Begun_ (connected client sap)
       go (inl h) = apart_begins h
       go (inr h) = joined_begins h
-
--- where a call is, or was
-module _ (limit : ℕ) (table : List Offer) (names : List Bound) (old : List Received) (z : Sizes) (sap : ℕ) (conv : ℕ → ℕ → Conversation) (most : Option ℕ) (bytes : List ℕ)
-    (range : IsClientSap sap) (laws : (miu size : ℕ) → IsMiu miu → IsMiu size → Converses sap limit table (conv miu size) miu size) where
-  abbrev M_ : Job → EndState → PeerState → Type 0
-  M_ job l p = M limit table names old z sap conv most bytes range laws job l p
-
-  abbrev plan_ : ℕ → Plan
-  plan_ s = plan limit table names old z sap conv most bytes range laws s
-
-  abbrev jobs_ : Job → ℕ → Job
-  jobs_ job s = jobs limit table names old z sap conv most bytes range laws job s
-
-  module _ (job : Job) (l : EndState) (p : PeerState) (h : M_ job l p) where
-    -- what stands at a SAP, as the job's or as none
-    abbrev Stood : ℕ → Bool → Bool → Bool → Type 0
-    Stood s b a w = StandsBy limit table old z s (plan_by limit table names old z sap conv most bytes range laws b) (job_by limit table names old z sap conv most bytes range laws job b) a w
-        (own_from s l.own) (conn_from s p.served) p.service
-
-    pub at_sap : Stood sap true (is_in sap h.asked) (is_in sap h.awaited)
-    at_sap = subst (λ b. Stood sap b (is_in sap h.asked) (is_in sap h.awaited)) (is_self sap) (h.sides.at sap)
-
-    at_else : (s : ℕ) → (sap == s) ≡ false → Stood s false (is_in s h.asked) (is_in s h.awaited)
-    at_else s n = subst (λ b. Stood s b (is_in s h.asked) (is_in s h.awaited)) n (h.sides.at s)
-
-    others_got : (s : ℕ) → (sap == s) ≡ false → accepted_from s p.service.accepted ≡ accepted_from s old
-    others_got s n = go (is_in s h.asked) (is_in s h.awaited) (at_else s n)
-      where
-        go : (a w : Bool) → Stood s false a w → accepted_from s p.service.accepted ≡ accepted_from s old
-        go true w y = y.got
-        go false true y = y.serves.got
-        go false false (inl y) = y.got
-        go false false (inr y) = y.serves.got
-
-    -- what was accepted, where it is so from the job's SAP
-    pub all_accepted : (m : Option (List ℕ)) → accepted_from sap p.service.accepted ≡ accepted_from sap (old ++ received sap m) → p.service.accepted ≡ old ++ received sap m
-    all_accepted m e = whole_of sap old p.service.accepted h.sides.kept.more m h.sides.kept.grew others_got e
-
-    it_is : (t : ℕ) (rest : List ℕ) → t ≡ sap → is_in sap (t ∷ rest) ≡ true
-    it_is t rest e = ap (λ b. b || is_in sap rest) (ap (λ r. r == sap) e ∙ is_self sap)
-
-    no_asked : is_in sap h.asked ≡ false → (xs : List ℕ) → h.asked ≡ xs → h.asked ≡ []
-    no_asked free [] e = e
-    no_asked free (t ∷ rest) e =
-        let same = only_mine limit table names old z sap conv most bytes range laws t (stands limit table names old z plan_ (jobs_ job) l p h t rest e).busy in
-        absurd (let n = sym free ∙ ap (is_in sap) e ∙ it_is t rest same in cc)
-
-    no_awaited : is_in sap h.awaited ≡ false → (xs : List ℕ) → h.awaited ≡ xs → h.awaited ≡ []
-    no_awaited free [] e = e
-    no_awaited free (t ∷ rest) e =
-        let same = only_mine limit table names old z sap conv most bytes range laws t (waits limit table names old z plan_ (jobs_ job) l p h t rest e).busy in
-        absurd (let n = sym free ∙ ap (is_in sap) e ∙ it_is t rest same in cc)
-
-    -- The request is over on its connection: client and peer accord again.
-    module _ (free : (is_in sap h.asked ≡ false) × (is_in sap h.awaited ≡ false))
-        (t : Talking limit table old z sap (plan_by limit table names old z sap conv most bytes range laws true) job (own_from sap l.own) (conn_from sap p.served) p.service)
-        (q : (conv t.n.server_miu t.n.client_miu).queue_at t.phase ≡ []) (u : (conv t.n.server_miu t.n.client_miu).units_at t.phase ≡ [])
-        (x : (conv t.n.server_miu t.n.client_miu).session_at t.phase ≡ fresh_session) where
-      asked_none : h.asked ≡ []
-      asked_none = no_asked free.0 h.asked refl
-
-      awaited_none : h.awaited ≡ []
-      awaited_none = no_awaited free.1 h.awaited refl
-
-      joined_again : IsJoined sap l p
-      joined_again = record {
-        range = range;
-        numbers = t.n;
-        paired = subst (λ w. IsPaired t.n (length w)) q t.paired;
-        own = t.own ∙ ap (λ w. Some (conn_at sap t.n w ((conv t.n.server_miu t.n.client_miu).units_at t.phase))) q ∙ ap (λ w. Some (conn_at sap t.n [] w)) u;
-        served = t.served;
-        session = t.serves.session ∙ x;
-      }
-
-      else_again : (s : ℕ) → (sap == s) ≡ false → IsApart s l p ⊎ IsJoined s l p
-      else_again s n =
-          go (subst (λ w. Stood s false false (is_in s w)) awaited_none (subst (λ w. Stood s false (is_in s w) (is_in s h.awaited)) asked_none (at_else s n)))
-        where
-          go : Stood s false false false → IsApart s l p ⊎ IsJoined s l p
-          go (inl y) = inl (record { own = y.own; served = y.served })
-          go (inr y) = inr (record { range = y.range; numbers = y.n; paired = y.paired; own = y.own; served = y.served; session = y.serves.session })
-
-      stands_again : (s : ℕ) → IsApart s l p ⊎ IsJoined s l p
-      stands_again s = go (sap == s) refl
-        where
-          go : (b : Bool) → (sap == s) ≡ b → IsApart s l p ⊎ IsJoined s l p
-          go true e = subst (λ r. IsApart r l p ⊎ IsJoined r l p) (eqb-true sap s e) (inr joined_again)
-          go false e = else_again s e
-
-      pub accords_again : Accords l p
-      accords_again = record {
-        client_fair = h.sides.client_fair;
-        peer_fair = h.sides.peer_fair;
-        peer_serving = record { seats = h.sides.kept.seats; bound = h.sides.reached.1; far_miu = h.sides.reached.2 };
-        calm = record {
-          client_readable = h.sides.client_readable;
-          client_queue = h.sides.client_queue ∙ ap (map (connect_of limit table names old z plan_)) asked_none;
-          client_served = h.sides.client_served;
-          peer_readable = h.sides.peer_readable;
-          peer_queue = h.sides.peer_queue ∙ ap (map (cc_of limit table names old z plan_)) awaited_none;
-          peer_own = h.sides.peer_own;
-          no_other = h.sides.no_other;
-        };
-        stands = stands_again;
-      }
-
-  -- The course of a request: until it is answered, what is accepted is of some kind.
-  module _ (Adds : List Received → Type 0) (adds : (job : Job) (l : EndState) (p : PeerState) → M_ job l p → Adds p.service.accepted) where
-    abbrev At_ : Step → PeerState → Type 0
-    At_ s p = StepSo limit table names old z sap conv most bytes range laws s p
-
-    pub request_safe : (w : Working) (p : PeerState) → At_ (Goes w) p → IsSafe Adds (ready w).llc p
-    request_safe w p (job, l, idle, e, on, h, f) =
-        let r = readied l sap job in
-        let x = ready_at limit table names old z sap conv most bytes range laws job l p on h in
-        let k_ = keeps limit table names old z sap conv most bytes range laws in
-        let handed = hands limit table names old z plan_ (jobs_ r.job) k_ x.meets in
-        subst (λ v. IsSafe Adds (ready v).llc p) (sym e) (record {
-          here = adds r.job r.llc p x.meets;
-          stepped = λ k count. adds r.job _ _ (takes limit table names old z plan_ (jobs_ r.job) k_ (handed k).now count);
-          fronts = λ k front behind split.
-              (let f = at_front silent serving (M_ r.job) front behind p (subst (λ is. AtFronts silent serving (M_ r.job) p is) split (handed k).fronts) in
-              adds r.job _ _ f.1);
-        })
-
-    abbrev pub request_course : Course Adds
-    request_course = record {
-      At = At_;
-      turns = turns_so limit table names old z sap conv most bytes range laws;
-      safe = request_safe;
-    }

@@ -17,6 +17,7 @@ pub mod Owned
 pub mod OnConnection
 pub mod Jobs
 pub mod AllJobs
+pub mod AllOver
 pub mod Following
 pub mod Submits
 pub mod Connecting
@@ -56,5 +57,11 @@ pub mod Removed
 pub mod Peers
 pub mod Asides
 pub mod OneExchange
+pub mod OneJob
 pub mod LookupEnds
 pub mod CloseEnds
+pub mod Requests
+pub mod Connects
+pub mod AllBegin
+pub mod PutsEnd
+pub mod PutsRun

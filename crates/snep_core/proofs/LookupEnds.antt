@@ -67,7 +67,7 @@ module _ (tid : ℕ) (name : List ℕ) (short : length name ≤ 64) (names : Lis
   WasTold k = found_in tid k ≡ Some sap
 
   abbrev Waits : (List Lookup → Type 0) → List Queued → List Queued → EndState → PeerState → Type 0
-  Waits Found client_waits peer_waits l p = Calm Found names s z (AllRested s) (rested_splits s) client_waits peer_waits l p
+  Waits Found client_waits peer_waits l p = Calm Found z.there names s z (AllRested s) (rested_splits s) client_waits peer_waits l p
 
   -- the SNL waits at the client; its answer waits at the peer; nothing waits
   abbrev Before : EndState → PeerState → Type 0
@@ -94,6 +94,7 @@ module _ (tid : ℕ) (name : List ℕ) (short : length name ≤ 64) (names : Lis
           sides = peer_queues s.limit s.table names s.accepted z (AllRested s) [] [] (record l { queue = [] }) p out (told_ ∷ []);
           service_is = h.service_is;
           found = h.found;
+          stays = h.stays;
         }),
       )
 
@@ -108,6 +109,7 @@ module _ (tid : ℕ) (name : List ℕ) (short : length name ≤ 64) (names : Lis
               (client_queues s.limit s.table names s.accepted z (AllRested s) [] [] l (record p { queue = [] }) back l.queue (told_one tid sap l.lookups) l.asked);
           service_is = h.service_is;
           found = h.found;
+          stays = h.stays;
         }),
       )
 
@@ -126,9 +128,9 @@ module _ (tid : ℕ) (name : List ℕ) (short : length name ≤ 64) (names : Lis
     Between = Between;
     After = After;
     first = first_out;
-    on = client_hop ReadyTo names s z (AllRested s) (rested_splits s) (told_ ∷ []);
+    on = client_hop ReadyTo z.there names s z (AllRested s) (rested_splits s) (told_ ∷ []);
     back = first_back;
-    back_on = peer_hop WasTold names s z (AllRested s) (rested_splits s);
+    back_on = peer_hop WasTold z.there names s z (AllRested s) (rested_splits s);
     before_readable = λ l p h. (h.sides.client_readable, h.sides.peer_readable);
     between_readable = λ l p h. (h.sides.client_readable, h.sides.peer_readable);
     before_kept = λ l p h. h.service_is;
@@ -178,6 +180,7 @@ module _ {C A : Type 0} (seen : C → CarrierView) (swaps : C → List ℕ → L
             (client_queues p.service.limit p.service.table p.bound p.service.accepted z_ (AllRested p.service) [] [] client p (sides_at client p a) (client.queue ++ snl_ ∷ []) k ((tid + 1) % 256));
         service_is = refl;
         found = told_found tid told_sap client.lookups;
+        stays = λ t. refl;
       }
 
   begins_so : (course p.service (Looks tid) (Sap told_sap) looking).At (begins client (Finds name)) p
@@ -191,6 +194,7 @@ module _ {C A : Type 0} (seen : C → CarrierView) (swaps : C → List ℕ → L
       numbers (begins client (Finds name)) (Ends (alone (Over (Sap sap))) new) link now far after begins_so t in
       let h = y.1 in record {
         told = sap_is sap told_sap y.0;
+        all = h.stays;
         aside = record {
           service = h.service_is;
           bound = h.sides.reached.0;

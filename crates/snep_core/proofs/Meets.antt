@@ -1,5 +1,5 @@
 -- A client and a peer with any connections: what holds of both as PDUs go from one to the other.
-use Rattle.std.proofs.Common.{◌≡◌, ◌<◌, ◌≤◌, ◌⊎◌, nat_lt, ℕ, ◌+◌, ◌==◌, ◌||◌, Bool, true, false, List, [], ◌∷◌, ◌++◌, length, map, Option, Some, None, IfSome, refl, sym, ◌∙◌, ap, subst, inl, inr, arith}
+use Rattle.std.proofs.Common.{◌≡◌, ◌<◌, ◌≤◌, ◌⊎◌, nat_lt, ℕ, ◌+◌, ◌==◌, ◌||◌, Bool, true, false, List, [], ◌∷◌, ◌++◌, length, map, Option, Some, None, IfSome, is_some, refl, sym, ◌∙◌, ap, subst, inl, inr, arith}
 use Rattle.llcp_pdu.specs.General.{IsMiu}
 use Rattle.llcp_pdu.specs.declared.part.Part.{Part}
 use Rattle.llcp_pdu.specs.declared.part.Part.TheVariants.{Cc, Connect}
@@ -21,7 +21,7 @@ use Rattle.snep_core.proofs.Conversations.{Conversation, Converses, Tells}
 use Rattle.snep_core.proofs.OnConnection.{conn_at}
 use Rattle.snep_core.proofs.Pairs.{apart_acks, apart_informs, asks, bare_acks, bare_informs, client_ack, client_acks, client_gave, client_hears, client_quiet, client_settled, client_takes, client_took, client_unit, server_ack, server_acks, server_gave, server_hears, server_quiet, server_settled, server_takes, server_took, server_unit, tells, waiting_acks, waiting_informs}
 use Rattle.snep_core.proofs.Places.{Plan, StandsBy, Talking, asks_short, client_ack_short, few_asked, few_told, first_numbers, fits, server_ack_short, stands_left, talks_asks, talks_client_acks, talks_server_acks, talks_tells, tells_short}
-use Rattle.snep_core.proofs.Sides.{Leaves, Place, Sides, Sizes, leaves_brought, leaves_same, leaves_with, sides_on}
+use Rattle.snep_core.proofs.Sides.{Leaves, Place, Sides, Sizes, leaves_brought, leaves_same, leaves_with, sides_on, some_still}
 
 -- one of these SAPs; and no two are the same
 abbrev pub is_in : ℕ → List ℕ → Bool
@@ -49,11 +49,16 @@ module _ (limit : ℕ) (table : List Offer) (names : List Bound) (old : List Rec
   abbrev pub At : (ℕ → Job) → List ℕ → List ℕ → Place
   At job asked awaited s o c x = StandsBy limit table old z s (plan s) (job s) (is_in s asked) (is_in s awaited) o c x
 
+  -- where no job is, the peer has a connection where it had one
+  abbrev pub Stays : PeerState → Type 0
+  Stays p = (s : ℕ) → (plan s).is_job ≡ false → is_some (conn_from s p.served) ≡ z.there s
+
   pub record Meets (job : ℕ → Job) (l : EndState) (p : PeerState) : Type 0 where
     pub asked : List ℕ
     pub awaited : List ℕ
     pub unlike : AreUnlike (awaited ++ asked)
     pub few : length awaited + length asked ≤ most_clients
+    pub stays : Stays p
     pub sides : Sides limit table names old z (At job asked awaited) (map connect_of asked) (map cc_of awaited) l p
 
   -- the conversations keep to their laws
@@ -78,6 +83,7 @@ module _ (limit : ℕ) (table : List Offer) (names : List Bound) (old : List Rec
       awaited = h.awaited;
       unlike = h.unlike;
       few = h.few;
+      stays = λ t m. some_still s c there_before p.served served_is there t ∙ h.stays t m;
       sides = sides_on limit table names old z (At job h.asked h.awaited) (At job h.asked h.awaited) (map connect_of h.asked) (map cc_of h.awaited) l p h.sides s
           o before c there_before y own_is served_is here there v
           (λ t n q k a. stands_left limit table old z t (plan t) (job t) v n (is_in t h.asked) (is_in t h.awaited) q k a)

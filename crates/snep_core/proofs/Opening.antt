@@ -60,7 +60,7 @@ in_both s (x ∷ xs) ys = go (x == s) (in_both s xs ys)
     go true e = refl
     go false e = e
 
-neither : (a b : Bool) → (a || b) ≡ false → (a ≡ false) × (b ≡ false)
+pub neither : (a b : Bool) → (a || b) ≡ false → (a ≡ false) × (b ≡ false)
 neither true b e = absurd cc
 neither false b e = (refl, e)
 
@@ -84,7 +84,7 @@ in_last_other s t xs n = in_both t xs (s ∷ []) ∙ ap (λ b. is_in t xs || (b 
 in_last : (s : ℕ) (xs : List ℕ) → is_in s (xs ++ s ∷ []) ≡ true
 in_last s xs = in_both s xs (s ∷ []) ∙ ap (λ b. is_in s xs || (b || false)) (is_self s) ∙ or_true (is_in s xs)
 
-flip : (s t : ℕ) → (s == t) ≡ false → (t == s) ≡ false
+pub flip : (s t : ℕ) → (s == t) ≡ false → (t == s) ≡ false
 flip s t e = grind (arith, nat_tests)
 
 -- one amid others is none of them
@@ -208,6 +208,14 @@ module _ (limit : ℕ) (table : List Offer) (names : List Bound) (old : List Rec
       busy = stands.busy;
     }
 
+    -- where no job is, is another SAP
+    elsewhere_ : (t : ℕ) → (plan t).is_job ≡ false → (s == t) ≡ false
+    elsewhere_ t m = go (s == t) refl
+      where
+        go : (b : Bool) → (s == t) ≡ b → (s == t) ≡ false
+        go false n = n
+        go true n = absurd (let k = sym stands.busy ∙ ap (λ r. (plan r).is_job) (eqb-true s t n) ∙ m in cc)
+
     -- the peer accepted it, and its CC waits
     pub connect_meets : Meets limit table names old z plan job (record l { queue = map (connect_of limit table names old z plan) rest })
         (steps_part serving p (connect_part limit table names old z plan s))
@@ -216,6 +224,7 @@ module _ (limit : ℕ) (table : List Offer) (names : List Bound) (old : List Rec
       awaited = h.awaited ++ s ∷ [];
       unlike = line_now;
       few = few_now;
+      stays = λ t m. ap (λ q. is_some q) (conn_more_other t p.served conn (elsewhere_ t m)) ∙ h.stays t m;
       sides = record {
         client_fair = record { miu = h.sides.client_fair.miu; window = h.sides.client_fair.window; last = h.sides.client_fair.last };
         peer_fair = record { miu = h.sides.peer_fair.miu; window = h.sides.peer_fair.window; last = h.sides.peer_fair.last };
@@ -320,6 +329,7 @@ module _ (limit : ℕ) (table : List Offer) (names : List Bound) (old : List Rec
       awaited = rest;
       unlike = first_.1;
       few = (let f = subst (λ xs. length xs + length h.asked ≤ most_clients) e h.few in omega (arith, f));
+      stays = h.stays;
       sides = record {
         client_fair = record { miu = h.sides.client_fair.miu; window = h.sides.client_fair.window; last = h.sides.client_fair.last };
         peer_fair = record { miu = h.sides.peer_fair.miu; window = h.sides.peer_fair.window; last = h.sides.peer_fair.last };

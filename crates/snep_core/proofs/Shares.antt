@@ -6,7 +6,7 @@ use Rattle.snep_core.specs.Accord.{from_sap}
 use Rattle.snep_core.specs.Payloads.{accepted_from}
 use Rattle.snep_core.specs.Server.{Received, received}
 
-accepted_more : (c : ℕ) (xs ys : List Received) → accepted_from c (xs ++ ys) ≡ accepted_from c xs ++ accepted_from c ys
+pub accepted_more : (c : ℕ) (xs ys : List Received) → accepted_from c (xs ++ ys) ≡ accepted_from c xs ++ accepted_from c ys
 accepted_more c [] ys = refl
 accepted_more c (x ∷ xs) ys = go (x.source == c) (accepted_more c xs ys)
   where

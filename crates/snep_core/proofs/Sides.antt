@@ -71,12 +71,14 @@ module _ {sap : ℕ} {x y : ServerState} (v : Leaves sap x y) where
     offers = v.table ∙ h.offers;
   }
 
--- what the two ends say of themselves as a connection is asked for
+-- What the two ends say of themselves as a connection is asked for; and the SAPs from which the peer had a connection as
+-- the call began.
 pub record Sizes : Type 0 where
   pub client_miu : ℕ
   pub client_window : ℕ
   pub server_miu : ℕ
   pub server_window : ℕ
+  pub there : ℕ → Bool
 
 -- what stands at a SAP: the client's connection, the peer's, and the server
 abbrev pub Place : Type 1
@@ -113,7 +115,7 @@ module _ (sap : ℕ) (c k : ConnState) (ks : List ConnState) (there : conn_from 
   pub conn_other : (t : ℕ) → (sap == t) ≡ false → conn_from t (with_conn c ks) ≡ conn_from t ks
   conn_other t n = conn_with_other t c ks (ap (λ s. s == t) from ∙ n)
 
-  some_still : (t : ℕ) → is_some (conn_from t (with_conn c ks)) ≡ is_some (conn_from t ks)
+  pub some_still : (t : ℕ) → is_some (conn_from t (with_conn c ks)) ≡ is_some (conn_from t ks)
   some_still t = go (sap == t) refl
     where
       go : (b : Bool) → (sap == t) ≡ b → is_some (conn_from t (with_conn c ks)) ≡ is_some (conn_from t ks)

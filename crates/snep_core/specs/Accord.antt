@@ -1,6 +1,6 @@
 -- A far end that serves as this project's server does, and what a client's end and such a far end come to between
 -- calls.
-use Rattle.std.specs.Prelude.{◌≡◌, ◌<◌, ◌≤◌, ◌⊎◌, ℕ, zero, suc, ◌+◌, ◌%◌, Bool, true, false, List, [], ◌∷◌, ◌++◌, length, Option, IfSome, Some, None, is_some, if◌then◌else◌}
+use Rattle.std.specs.Prelude.{◌≡◌, ◌<◌, ◌≤◌, ◌⊎◌, ℕ, zero, suc, ◌+◌, ◌%◌, ◌==◌, Bool, true, false, List, [], ◌∷◌, ◌++◌, length, Option, IfSome, Some, None, is_some, if◌then◌else◌}
 use Rattle.nfc_base.specs.Choosing.{Choosing}
 use Rattle.llcp_pdu.specs.General.{IsMiu}
 use Rattle.llcp_pdu.specs.Wire.{least_miu}
@@ -205,25 +205,35 @@ from_sap sap m = record { source = sap; message = m }
 abbrev pub from_client : List ℕ → Received
 from_client m = from_sap client_sap m
 
--- A request that was answered: the peer's limit, its table for get and its names are as before, and client and peer
--- accord again.
-pub record IsAnswered (old : PeerState) (client : EndState) (new : PeerState) : Type 0 where
+-- at each SAP the peer has a connection where it had one
+abbrev pub AllStay : PeerState → PeerState → Type 0
+AllStay old new = (sap : ℕ) → is_some (conn_from sap new.served) ≡ is_some (conn_from sap old.served)
+
+-- and at each but this one
+abbrev pub OthersStay : ℕ → PeerState → PeerState → Type 0
+OthersStay sap old new =
+    (other : ℕ) → (sap == other) ≡ false → is_some (conn_from other new.served) ≡ is_some (conn_from other old.served)
+
+-- A request that was answered, on the connection from a SAP: the peer's limit, its table for get, its names and the
+-- connections from other SAPs are as before, and client and peer accord again.
+pub record IsAnswered (sap : ℕ) (old : PeerState) (client : EndState) (new : PeerState) : Type 0 where
   pub limit : new.service.limit ≡ old.service.limit
   pub table : new.service.table ≡ old.service.table
   pub bound : new.bound ≡ old.bound
+  pub others : OthersStay sap old new
   pub accords : Accords client new
 
 -- A put that was told to be taken: the peer accepted its message, once, from its SAP, and it is within the limit.
 pub record IsTaken (sap : ℕ) (m : List ℕ) (old : PeerState) (client : EndState) (new : PeerState) : Type 0 where
   pub within : length m ≤ old.service.limit
   pub accepted : new.service.accepted ≡ old.service.accepted ++ from_sap sap m ∷ []
-  pub answered : IsAnswered old client new
+  pub answered : IsAnswered sap old client new
 
 -- A message or a key that was rejected: it is longer than the limit, and nothing was accepted.
-pub record IsRejected (m : List ℕ) (old : PeerState) (client : EndState) (new : PeerState) : Type 0 where
+pub record IsRejected (sap : ℕ) (m : List ℕ) (old : PeerState) (client : EndState) (new : PeerState) : Type 0 where
   pub beyond : old.service.limit < length m
   pub accepted : new.service.accepted ≡ old.service.accepted
-  pub answered : IsAnswered old client new
+  pub answered : IsAnswered sap old client new
 
 -- nothing was accepted, or the message once, from its SAP, which is within the limit
 abbrev pub AddsAtMost : ℕ → List ℕ → PeerState → PeerState → Type 0
@@ -233,7 +243,7 @@ AddsAtMost sap m old new =
 
 -- a put on the connection from a SAP that failed so
 abbrev pub PutFails : ℕ → List ℕ → PeerState → SnepFault → EndState → PeerState → Type 0
-PutFails sap m old Reject client new = IsRejected m old client new
+PutFails sap m old Reject client new = IsRejected sap m old client new
 PutFails sap m old NotFound client new = ⊥
 PutFails sap m old Excess client new = ⊥
 PutFails sap m old NotImplemented client new = ⊥
@@ -243,12 +253,12 @@ PutFails sap m old BadPeer client new = ⊥
 
 -- A value that was told, of at most so many bytes: it is the one that the peer's table has under the key, and nothing
 -- was accepted.
-pub record IsGot (most : ℕ) (key value : List ℕ) (old : PeerState) (client : EndState) (new : PeerState) : Type 0 where
+pub record IsGot (sap most : ℕ) (key value : List ℕ) (old : PeerState) (client : EndState) (new : PeerState) : Type 0 where
   pub within : length key ≤ old.service.limit
   pub found : value_of key old.service.table ≡ Some value
   pub few : length value ≤ most
   pub accepted : new.service.accepted ≡ old.service.accepted
-  pub answered : IsAnswered old client new
+  pub answered : IsAnswered sap old client new
 
 -- why a table refuses a get that takes a value of at most so many bytes: it is empty; else it hasn't the key; else the
 -- value is longer
@@ -259,21 +269,21 @@ Refuses table most key Excess = (value : List ℕ) × (value_of key table ≡ So
 Refuses table most key _ = ⊥
 
 -- A get that was refused so: its key is within the limit, and nothing was accepted.
-pub record IsRefusedBy (why : SnepFault) (most : ℕ) (key : List ℕ) (old : PeerState) (client : EndState) (new : PeerState) : Type 0 where
+pub record IsRefusedBy (why : SnepFault) (sap most : ℕ) (key : List ℕ) (old : PeerState) (client : EndState) (new : PeerState) : Type 0 where
   pub within : length key ≤ old.service.limit
   pub refuses : Refuses old.service.table most key why
   pub accepted : new.service.accepted ≡ old.service.accepted
-  pub answered : IsAnswered old client new
+  pub answered : IsAnswered sap old client new
 
--- a get that failed so
-abbrev pub GetFails : ℕ → List ℕ → PeerState → SnepFault → EndState → PeerState → Type 0
-GetFails most key old Reject client new = IsRejected key old client new
-GetFails most key old NotFound client new = IsRefusedBy NotFound most key old client new
-GetFails most key old Excess client new = IsRefusedBy Excess most key old client new
-GetFails most key old NotImplemented client new = IsRefusedBy NotImplemented most key old client new
-GetFails most key old (LinkEnded c) client new = new.service.accepted ≡ old.service.accepted
-GetFails most key old Memory client new = new.service.accepted ≡ old.service.accepted
-GetFails most key old BadPeer client new = ⊥
+-- a get on the connection from a SAP that failed so
+abbrev pub GetFails : ℕ → ℕ → List ℕ → PeerState → SnepFault → EndState → PeerState → Type 0
+GetFails sap most key old Reject client new = IsRejected sap key old client new
+GetFails sap most key old NotFound client new = IsRefusedBy NotFound sap most key old client new
+GetFails sap most key old Excess client new = IsRefusedBy Excess sap most key old client new
+GetFails sap most key old NotImplemented client new = IsRefusedBy NotImplemented sap most key old client new
+GetFails sap most key old (LinkEnded c) client new = new.service.accepted ≡ old.service.accepted
+GetFails sap most key old Memory client new = new.service.accepted ≡ old.service.accepted
+GetFails sap most key old BadPeer client new = ⊥
 
 -- A call that puts nothing: the peer's service and its names are as before, and client and peer accord again.
 pub record IsAside (old : PeerState) (client : EndState) (new : PeerState) : Type 0 where
@@ -282,14 +292,16 @@ pub record IsAside (old : PeerState) (client : EndState) (new : PeerState) : Typ
   pub accords : Accords client new
 
 -- A lookup that was told: the SAP is the one to which the peer's end has the name bound, 1 that of service discovery, 0
--- where it has none.
+-- where it has none. No connection begins or ends.
 pub record IsFound (name : List ℕ) (old : PeerState) (sap : ℕ) (client : EndState) (new : PeerState) : Type 0 where
   pub told : sap ≡ found old.bound name
+  pub all : AllStay old new
   pub aside : IsAside old client new
 
--- The connection from a SAP was ended, or none was open: there is none.
+-- The connection from a SAP was ended, or none was open: there is none, and those from other SAPs stay.
 pub record IsClosed (sap : ℕ) (old : PeerState) (client : EndState) (new : PeerState) : Type 0 where
   pub apart : IsApart sap client new
+  pub others : OthersStay sap old new
   pub aside : IsAside old client new
 
 -- a call that puts nothing, and failed so: by the link or by want of memory

@@ -12,7 +12,7 @@ use Rattle.snep_core.specs.declared.fault.SnepFault.TheVariants.{LinkEnded, Memo
 use Rattle.snep_core.specs.declared.fault.SnepFault.TheVariants as faults
 use Rattle.snep_core.specs.Jobs.{Over, Refused}
 use Rattle.snep_core.specs.Listening.{all_awaiting}
-use Rattle.snep_core.specs.Talk.{EndState, Step, Goes, Ends, GivesUp, Told, Working, CameTo, OnSap, alone, numbers_behind, ready, replied, silent}
+use Rattle.snep_core.specs.Talk.{EndState, Step, Goes, Ends, GivesUp, Told, Working, CameTo, OnSap, numbers_behind, one_on, ready, replied, silent}
 use Rattle.snep_core.specs.declared.job.Refusal.{Refusal}
 use Rattle.snep_core.specs.declared.job.Refusal.TheVariants as refusals
 use Rattle.snep_core.specs.declared.job.Awaiting.{Awaiting}
@@ -152,13 +152,13 @@ module _ {C A : Type 0} (seen : C → CarrierView) (swaps : C → List ℕ → L
   FailsBy numbers from link far e new now after =
       ((e ≡ BadPeer) × (came : List CameTo) × Talks numbers from link far (gives_up came new) now after) ⊎ Breaks numbers from link far e new now after
 
-  -- A call whose request was refused.
-  pub record IsRefused (numbers : List ℕ) (from : Step) (link : C) (far : A) (e : SnepFault) (new : EndState) (now : C) (after : A) : Type 0 where
+  -- A call whose request, on the connection from a SAP, was refused.
+  pub record IsRefused (sap : ℕ) (numbers : List ℕ) (from : Step) (link : C) (far : A) (e : SnepFault) (new : EndState) (now : C) (after : A) : Type 0 where
     pub why : Refusal
     pub fault : e ≡ refused_by why
-    pub talks : Talks numbers from link far (Ends (alone (Over (Refused why))) new) now after
+    pub talks : Talks numbers from link far (Ends (one_on sap (Over (Refused why))) new) now after
 
-  -- A request that failed: it was refused, the far end was given up, or it was cut off.
-  abbrev pub RequestFails : List ℕ → Step → C → A → SnepFault → EndState → C → A → Type 0
-  RequestFails numbers from link far e new now after =
-      IsRefused numbers from link far e new now after ⊎ FailsBy numbers from link far e new now after
+  -- A request on the connection from a SAP that failed: it was refused, the far end was given up, or it was cut off.
+  abbrev pub RequestFails : ℕ → List ℕ → Step → C → A → SnepFault → EndState → C → A → Type 0
+  RequestFails sap numbers from link far e new now after =
+      IsRefused sap numbers from link far e new now after ⊎ FailsBy numbers from link far e new now after

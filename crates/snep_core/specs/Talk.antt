@@ -170,9 +170,16 @@ beginning r = if all_over r.jobs then Ends r.jobs r.llc else begun r.llc r.jobs
 abbrev pub begins_all : EndState → List TaskOn → Step
 begins_all l tasks = beginning (all_opening tasks l)
 
--- a call of one task, on the connection from the client's own SAP
+-- a call of one task, on the connection from a SAP; and from the client's first
+abbrev pub begins_from : EndState → ℕ → Task → Step
+begins_from l sap task = begins_all l (record { sap = sap; task = task } ∷ [])
+
 abbrev pub begins : EndState → Task → Step
-begins l task = begins_all l (record { sap = client_sap; task = task } ∷ [])
+begins l task = begins_from l client_sap task
+
+-- The SAP of a slot: eight slots have a SAP each.
+abbrev pub sap_of_slot : ℕ → ℕ
+sap_of_slot slot = client_sap + slot
 
 -- a unit may be submitted on the connection from a SAP, and is
 abbrev pub takes_more : EndState → ℕ → List ℕ → Bool

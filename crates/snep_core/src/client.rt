@@ -1,11 +1,11 @@
 //! A client of a SNEP server, over whatever carries payloads.
 
-ghost use Rattle.std.specs.Prelude.{◌≡◌, ◌≤◌, [], length, true, false, IfOk, IfErr, OnOk};
+ghost use Rattle.std.specs.Prelude.{◌≡◌, ◌<◌, ◌≤◌, [], length, true, false, IfOk, IfErr, OnOk};
 ghost use Rattle.llcp_link.specs.Asking.{is_open_by};
 ghost use Rattle.snep_core.specs.Accord.{Accords, AsideFails, AtPeers, GetFails, IsBegun, IsClosed, IsFound, IsGot, IsTaken, PeerState, PutFails};
 ghost use Rattle.snep_core.specs.Calling.{FailsBy, RequestFails, Talks, is_memory};
 ghost use Rattle.snep_core.specs.Jobs.{Done, Over, Sap, Value};
-ghost use Rattle.snep_core.specs.Talk.{Ends, Finds, Gets, Leaves, Puts, alone, begins, begun, client_sap, connected, gave_between as gave, is_waiting as awaits, one_on, own_of, stands_of};
+ghost use Rattle.snep_core.specs.Talk.{Ends, Finds, Gets, Leaves, Puts, alone, begins, begins_from, begun, client_sap, connected, gave_between as gave, is_waiting as awaits, one_on, own_of, sap_of_slot, stands_of};
 ghost use Rattle.snep_core.specs.Waning.{IsOf, aim_by};
 ghost use Rattle.snep_core.specs.declared.fault.SnepFault.{SnepFault};
 ghost use Rattle.snep_core.specs.declared.job.Job.{Job};
@@ -181,7 +181,7 @@ impl Client {
         ensures ok { OnOk result (Talks C.seen C.swaps A.steps A.stops counts (begins self.old.llc (Puts message.now))
             carrier.old far.old (Ends (alone (Over Done)) self.new.llc) carrier.new far.new) }
         ensures going { OnOk result ((self.old.spent ≡ false) × (self.new.spent ≡ false)) }
-        ensures err { self.old.spent ≡ false → IfErr result (λ e. RequestFails C.seen C.swaps A.steps A.stops counts
+        ensures err { self.old.spent ≡ false → IfErr result (λ e. RequestFails C.seen C.swaps A.steps A.stops client_sap counts
             (begins self.old.llc (Puts message.now)) carrier.old far.old e self.new.llc carrier.new far.new) }
         // Over a far end that serves as this project's server does, and with which the client accords:
         ensures taken { AtPeers A.steps A.stops self.old.llc far.old (λ view.
@@ -209,27 +209,30 @@ impl Client {
         }
     }
 
-    /// The value of a key of at most 65,536 bytes, where it has at most so many bytes.
-    pub fn get<C: Carrier, A: Answerer>(
+    /// The value of a key of at most 65,536 bytes, where it has at most so many bytes, on the connection of a slot.
+    pub fn get_on<C: Carrier, A: Answerer>(
         &mut self,
         carrier: &mut C,
         far: &mut A,
         counts: Counts,
+        slot: u8,
         acceptable: u32,
         key: &[u8],
     ) -> Result<Vec<u8>, SnepFault>
         requires ready { C.ready carrier.old }
+        requires slot { slot < 8 }
         requires key { length key.now ≤ 65536 }
         ensures ok { IfOk result (λ value. Talks C.seen C.swaps A.steps A.stops counts
-            (begins self.old.llc (Gets acceptable key.now)) carrier.old far.old (Ends (alone (Over (Value value.items))) self.new.llc) carrier.new far.new) }
+            (begins_from self.old.llc (sap_of_slot slot) (Gets acceptable key.now)) carrier.old far.old
+            (Ends (one_on (sap_of_slot slot) (Over (Value value.items))) self.new.llc) carrier.new far.new) }
         ensures going { OnOk result ((self.old.spent ≡ false) × (self.new.spent ≡ false)) }
-        ensures err { self.old.spent ≡ false → IfErr result (λ e. RequestFails C.seen C.swaps A.steps A.stops counts
-            (begins self.old.llc (Gets acceptable key.now)) carrier.old far.old e self.new.llc carrier.new far.new) }
+        ensures err { self.old.spent ≡ false → IfErr result (λ e. RequestFails C.seen C.swaps A.steps A.stops (sap_of_slot slot) counts
+            (begins_from self.old.llc (sap_of_slot slot) (Gets acceptable key.now)) carrier.old far.old e self.new.llc carrier.new far.new) }
         // Over a far end that serves as this project's server does, and with which the client accords:
         ensures value { AtPeers A.steps A.stops self.old.llc far.old (λ view.
-            IfOk result (λ value. IsGot acceptable key.now value.items (view far.old) self.new.llc (view far.new))) }
+            IfOk result (λ value. IsGot (sap_of_slot slot) acceptable key.now value.items (view far.old) self.new.llc (view far.new))) }
         ensures fails { AtPeers A.steps A.stops self.old.llc far.old (λ view.
-            IfErr result (λ e. GetFails acceptable key.now (view far.old) e self.new.llc (view far.new))) }
+            IfErr result (λ e. GetFails (sap_of_slot slot) acceptable key.now (view far.old) e self.new.llc (view far.new))) }
         ensures spent { IfErr result (λ e. self.new.spent ≡ is_memory e) }
         ensures stays { self.old.spent ≡ true
             → (self.new ≡ self.old) × (carrier.new ≡ carrier.old) × (far.new ≡ far.old) }
@@ -243,12 +246,49 @@ impl Client {
             Err(_) => return Err(self.spend()),
             Ok(request) => request,
         };
-        match self.ask(carrier, far, counts, CLIENT_SAP, Some(acceptable), request) {
+        match self.ask(
+            carrier,
+            far,
+            counts,
+            CLIENT_SAP + slot,
+            Some(acceptable),
+            request,
+        ) {
             Err(fault) => Err(fault),
             Ok(Ending::Value(value)) => Ok(value.into_vec()),
             Ok(Ending::Refused(refusal)) => Err(refusal.fault()),
             Ok(Ending::Done | Ending::Sap(_)) => unreachable!(),
         }
+    }
+
+    /// The value of a key of at most 65,536 bytes, where it has at most so many bytes, on the connection of slot 0.
+    pub fn get<C: Carrier, A: Answerer>(
+        &mut self,
+        carrier: &mut C,
+        far: &mut A,
+        counts: Counts,
+        acceptable: u32,
+        key: &[u8],
+    ) -> Result<Vec<u8>, SnepFault>
+        requires ready { C.ready carrier.old }
+        requires key { length key.now ≤ 65536 }
+        ensures ok { IfOk result (λ value. Talks C.seen C.swaps A.steps A.stops counts
+            (begins self.old.llc (Gets acceptable key.now)) carrier.old far.old (Ends (alone (Over (Value value.items))) self.new.llc) carrier.new far.new) }
+        ensures going { OnOk result ((self.old.spent ≡ false) × (self.new.spent ≡ false)) }
+        ensures err { self.old.spent ≡ false → IfErr result (λ e. RequestFails C.seen C.swaps A.steps A.stops client_sap counts
+            (begins self.old.llc (Gets acceptable key.now)) carrier.old far.old e self.new.llc carrier.new far.new) }
+        // Over a far end that serves as this project's server does, and with which the client accords:
+        ensures value { AtPeers A.steps A.stops self.old.llc far.old (λ view.
+            IfOk result (λ value. IsGot client_sap acceptable key.now value.items (view far.old) self.new.llc (view far.new))) }
+        ensures fails { AtPeers A.steps A.stops self.old.llc far.old (λ view.
+            IfErr result (λ e. GetFails client_sap acceptable key.now (view far.old) e self.new.llc (view far.new))) }
+        ensures spent { IfErr result (λ e. self.new.spent ≡ is_memory e) }
+        ensures stays { self.old.spent ≡ true
+            → (self.new ≡ self.old) × (carrier.new ≡ carrier.old) × (far.new ≡ far.old) }
+        ensures ready { C.ready carrier.new }
+        ensures same { C.lenders carrier.new ≡ C.lenders carrier.old }
+    {
+        self.get_on(carrier, far, counts, 0, acceptable, key)
     }
 
     /// The SAP at which the far end has a name of at most 64 bytes, 0 where it has none.

@@ -187,6 +187,8 @@ pub(crate) enum Step {
     Put(&'static [u8]),
     /// A value of at most so many bytes is asked for by its key.
     Get(u32, &'static [u8]),
+    /// The same on a slot, by these numbers of PDUs.
+    GetOn(u8, u32, &'static [u8], &'static [u32]),
     Close,
     /// The server gets a value under this key.
     Offer(&'static [u8], &'static [u8]),
@@ -272,6 +274,25 @@ fn got(
     client.get(link, far, Counts::most(alloc), most, key)
 }
 
+fn numbered(alloc: Global, numbers: &[u32]) -> Result<Counts, AllocError> {
+    Ok(Counts::new(Vec::from_slice(alloc, numbers)?))
+}
+
+fn got_on(
+    rt: &impl Abort,
+    client: &mut Client,
+    link: &mut Straight,
+    far: &mut Llc<Server>,
+    slot: u8,
+    most: u32,
+    key: &[u8],
+    counts: Counts,
+) -> Result<Vec<u8>, SnepFault> {
+    assert!(rt; slot < 8);
+    assert!(rt; key.len() <= 65536);
+    client.get_on(link, far, counts, slot, most, key)
+}
+
 /// A value, or why there is none.
 fn written_value(alloc: Global, got: Result<Vec<u8>, SnepFault>) -> Result<String, Fail> {
     match got {
@@ -310,6 +331,13 @@ fn told(
         }
         Step::Put(message) => done(alloc, put(rt, alloc, client, link, far, message)),
         Step::Get(most, key) => written_value(alloc, got(rt, alloc, client, link, far, most, key)),
+        Step::GetOn(slot, most, key, numbers) => {
+            let counts = numbered(alloc, numbers)?;
+            written_value(
+                alloc,
+                got_on(rt, client, link, far, slot, most, key, counts),
+            )
+        }
         Step::Close => done(alloc, client.close(link, far, Counts::most(alloc))),
         Step::Offer(key, value) => Ok(format!(in alloc; "{:?}", offered(rt, far, key, value))?),
         Step::Handed => Ok(format!(in alloc; "{}", link.handed.len())?),

@@ -1,9 +1,10 @@
-use Rattle.std.proofs.Common.{rules, ◌≡◌, false, List, ℕ, None, refl, sym, subst, inl, inr}
+use Rattle.std.proofs.Common.{rules, ◌≡◌, false, List, ℕ, None, refl, sym, subst, inl, inr, arith}
 use Rattle.snep_core.specs.Accord.{PutFails}
 use Rattle.snep_core.specs.Calling.{FailsBy, Talks}
 use Rattle.snep_core.specs.Jobs.{Begins, Done, Ending, Over, Refused}
 use Rattle.snep_core.specs.Talk.{Ends, Puts, alone, begins, begun, client_sap, connected, put_bytes}
 use Rattle.snep_core.proofs.PutEnds.{put_fails, put_taken}
+use Rattle.snep_core.proofs.RequestEnds.{slot_range}
 use Rattle.snep_core.proofs.Talking.{talks_none}
 use Rattle.snep_core.proofs.client.Client.put.Goals as goal
 
@@ -54,16 +55,16 @@ returns-in-Err-clause-fails g c = λ view peer a.
 pub returns-in-Err-ask-clause-fails : goal.returns-in-Err-ask-clause-fails
 returns-in-Err-ask-clause-fails g c = λ view peer a.
     let going : c.args.self.now.spent ≡ false = search rules in
-    put_fails g.C.Carrier.seen g.C.Carrier.swaps g.A.Answerer.steps g.A.Answerer.stops view peer c.args.message.now c.requires.message c.args.self.now.llc
+    put_fails g.C.Carrier.seen g.C.Carrier.swaps g.A.Answerer.steps g.A.Answerer.stops view peer client_sap (slot_range 0 (omega arith)) c.args.message.now c.requires.message c.args.self.now.llc
     c.args.carrier.now c.args.far.now a c.args.counts c.in-Err-ask.fault c.ask.new.self.llc c.ask.new.carrier c.ask.new.far (returns-in-Err-ask-clause-err g c going)
 
 pub returns-in-Ok-Done-clause-taken : goal.returns-in-Ok-Done-clause-taken
 returns-in-Ok-Done-clause-taken g c = λ view peer a.
-    put_taken g.C.Carrier.seen g.C.Carrier.swaps g.A.Answerer.steps g.A.Answerer.stops view peer c.args.message.now c.requires.message c.args.self.now.llc
+    put_taken g.C.Carrier.seen g.C.Carrier.swaps g.A.Answerer.steps g.A.Answerer.stops view peer client_sap (slot_range 0 (omega arith)) c.args.message.now c.requires.message c.args.self.now.llc
     c.args.carrier.now c.args.far.now a c.args.counts c.ask.new.self.llc c.ask.new.carrier c.ask.new.far (returns-in-Ok-Done-clause-ok g c)
 
 pub returns-in-Ok-Refused-clause-fails : goal.returns-in-Ok-Refused-clause-fails
 returns-in-Ok-Refused-clause-fails g c = λ view peer a.
     let going : c.args.self.now.spent ≡ false = search rules in
-    put_fails g.C.Carrier.seen g.C.Carrier.swaps g.A.Answerer.steps g.A.Answerer.stops view peer c.args.message.now c.requires.message c.args.self.now.llc
+    put_fails g.C.Carrier.seen g.C.Carrier.swaps g.A.Answerer.steps g.A.Answerer.stops view peer client_sap (slot_range 0 (omega arith)) c.args.message.now c.requires.message c.args.self.now.llc
     c.args.carrier.now c.args.far.now a c.args.counts c.fault.result c.ask.new.self.llc c.ask.new.carrier c.ask.new.far (returns-in-Ok-Refused-clause-err g c going)

@@ -2,22 +2,23 @@ use Rattle.std.proofs.Common.{rules, ◌≡◌, ◌<◌, ◌^◌, false, List, �
 use Rattle.snep_core.specs.Accord.{GetFails}
 use Rattle.snep_core.specs.Calling.{FailsBy, Talks}
 use Rattle.snep_core.specs.Jobs.{Begins, Ending, Over, Refused, Value}
-use Rattle.snep_core.specs.Talk.{Ends, Gets, alone, begins, begun, client_sap, connected, get_bytes}
+use Rattle.snep_core.specs.Talk.{Ends, Gets, begins_from, begun, connected, get_bytes, one_on, sap_of_slot}
 use Rattle.snep_core.proofs.GetEnds.{get_fails, get_got}
+use Rattle.snep_core.proofs.RequestEnds.{slot_range}
 use Rattle.snep_core.proofs.Talking.{talks_none}
-use Rattle.snep_core.proofs.client.Client.get.Goals as goal
+use Rattle.snep_core.proofs.client.Client.get_on.Goals as goal
 
 pub returns-in-Err-clause-err : goal.returns-in-Err-clause-err
 returns-in-Err-clause-err g c = λ going. inr (inr (record {
   at = record {
-    llc = connected c.args.self.now.llc client_sap;
-    jobs = alone (Begins (Some c.args.acceptable) (get_bytes c.args.acceptable c.args.key.now));
+    llc = connected c.args.self.now.llc (sap_of_slot c.args.slot);
+    jobs = one_on (sap_of_slot c.args.slot) (Begins (Some c.args.acceptable) (get_bytes c.args.acceptable c.args.key.now));
     idle = 0;
   };
   mid = c.args.carrier.now;
   mid_far = c.args.far.now;
   talks = talks_none g.C.Carrier.seen g.C.Carrier.swaps g.A.Answerer.steps g.A.Answerer.stops c.args.counts
-      (begins c.args.self.now.llc (Gets c.args.acceptable c.args.key.now)) c.args.carrier.now c.args.far.now;
+      (begins_from c.args.self.now.llc (sap_of_slot c.args.slot) (Gets c.args.acceptable c.args.key.now)) c.args.carrier.now c.args.far.now;
   cut = inl (inl (record { fault = c.spend.ensures.fault; link_is = refl; far_is = refl }));
 }))
 
@@ -26,7 +27,7 @@ returns-in-Err-ask-clause-err g c =
     let e : c.in-Ok.request ≡ get_bytes c.args.acceptable c.args.key.now = search rules in
     λ going. inr
     (subst (λ (b : List ℕ). FailsBy g.C.Carrier.seen g.C.Carrier.swaps g.A.Answerer.steps g.A.Answerer.stops c.args.counts
-    (begun (connected c.args.self.now.llc client_sap) (alone (Begins (Some c.args.acceptable) b))) c.args.carrier.now c.args.far.now c.in-Err-ask.fault
+    (begun (connected c.args.self.now.llc (sap_of_slot c.args.slot)) (one_on (sap_of_slot c.args.slot) (Begins (Some c.args.acceptable) b))) c.args.carrier.now c.args.far.now c.in-Err-ask.fault
     c.ask.new.self.llc c.ask.new.carrier c.ask.new.far) e c.in-Err-ask.ensures.err)
 
 pub returns-in-Ok-Value-clause-ok : goal.returns-in-Ok-Value-clause-ok
@@ -35,47 +36,47 @@ returns-in-Ok-Value-clause-ok g c =
     let v : c.in-Ok-Value.value ≡ c.into_vec.result.items = search rules in
     let t =
     subst (λ (o : Ending). Talks g.C.Carrier.seen g.C.Carrier.swaps g.A.Answerer.steps g.A.Answerer.stops c.args.counts
-    (begun (connected c.args.self.now.llc client_sap) (alone (Begins (Some c.args.acceptable) c.in-Ok.request))) c.args.carrier.now c.args.far.now
-    (Ends (alone (Over o)) c.ask.new.self.llc) c.ask.new.carrier c.ask.new.far) c.in-Ok-Value.field-0-is c.in-Ok-Value.ensures.ok in
+    (begun (connected c.args.self.now.llc (sap_of_slot c.args.slot)) (one_on (sap_of_slot c.args.slot) (Begins (Some c.args.acceptable) c.in-Ok.request))) c.args.carrier.now c.args.far.now
+    (Ends (one_on (sap_of_slot c.args.slot) (Over o)) c.ask.new.self.llc) c.ask.new.carrier c.ask.new.far) c.in-Ok-Value.field-0-is c.in-Ok-Value.ensures.ok in
     let u =
     subst (λ (b : List ℕ). Talks g.C.Carrier.seen g.C.Carrier.swaps g.A.Answerer.steps g.A.Answerer.stops c.args.counts
-    (begun (connected c.args.self.now.llc client_sap) (alone (Begins (Some c.args.acceptable) b))) c.args.carrier.now c.args.far.now
-    (Ends (alone (Over (Value c.in-Ok-Value.value))) c.ask.new.self.llc) c.ask.new.carrier c.ask.new.far) e t in
+    (begun (connected c.args.self.now.llc (sap_of_slot c.args.slot)) (one_on (sap_of_slot c.args.slot) (Begins (Some c.args.acceptable) b))) c.args.carrier.now c.args.far.now
+    (Ends (one_on (sap_of_slot c.args.slot) (Over (Value c.in-Ok-Value.value))) c.ask.new.self.llc) c.ask.new.carrier c.ask.new.far) e t in
     subst (λ (x : List ℕ). Talks g.C.Carrier.seen g.C.Carrier.swaps g.A.Answerer.steps g.A.Answerer.stops c.args.counts
-    (begun (connected c.args.self.now.llc client_sap) (alone (Begins (Some c.args.acceptable) (get_bytes c.args.acceptable c.args.key.now))))
-    c.args.carrier.now c.args.far.now (Ends (alone (Over (Value x))) c.ask.new.self.llc) c.ask.new.carrier c.ask.new.far) v u
+    (begun (connected c.args.self.now.llc (sap_of_slot c.args.slot)) (one_on (sap_of_slot c.args.slot) (Begins (Some c.args.acceptable) (get_bytes c.args.acceptable c.args.key.now))))
+    c.args.carrier.now c.args.far.now (Ends (one_on (sap_of_slot c.args.slot) (Over (Value x))) c.ask.new.self.llc) c.ask.new.carrier c.ask.new.far) v u
 
 pub returns-in-Ok-Refused-clause-err : goal.returns-in-Ok-Refused-clause-err
 returns-in-Ok-Refused-clause-err g c =
     let e : c.in-Ok.request ≡ get_bytes c.args.acceptable c.args.key.now = search rules in
     let t =
     subst (λ (o : Ending). Talks g.C.Carrier.seen g.C.Carrier.swaps g.A.Answerer.steps g.A.Answerer.stops c.args.counts
-    (begun (connected c.args.self.now.llc client_sap) (alone (Begins (Some c.args.acceptable) c.in-Ok.request))) c.args.carrier.now c.args.far.now
-    (Ends (alone (Over o)) c.ask.new.self.llc) c.ask.new.carrier c.ask.new.far) c.in-Ok-Refused.field-0-is c.in-Ok-Refused.ensures.ok in
+    (begun (connected c.args.self.now.llc (sap_of_slot c.args.slot)) (one_on (sap_of_slot c.args.slot) (Begins (Some c.args.acceptable) c.in-Ok.request))) c.args.carrier.now c.args.far.now
+    (Ends (one_on (sap_of_slot c.args.slot) (Over o)) c.ask.new.self.llc) c.ask.new.carrier c.ask.new.far) c.in-Ok-Refused.field-0-is c.in-Ok-Refused.ensures.ok in
     λ going. inl (record {
       why = c.in-Ok-Refused.refusal;
       fault = c.fault.ensures;
       talks = subst (λ (b : List ℕ). Talks g.C.Carrier.seen g.C.Carrier.swaps g.A.Answerer.steps g.A.Answerer.stops c.args.counts
-          (begun (connected c.args.self.now.llc client_sap) (alone (Begins (Some c.args.acceptable) b))) c.args.carrier.now c.args.far.now
-          (Ends (alone (Over (Refused c.in-Ok-Refused.refusal))) c.ask.new.self.llc) c.ask.new.carrier c.ask.new.far) e t;
+          (begun (connected c.args.self.now.llc (sap_of_slot c.args.slot)) (one_on (sap_of_slot c.args.slot) (Begins (Some c.args.acceptable) b))) c.args.carrier.now c.args.far.now
+          (Ends (one_on (sap_of_slot c.args.slot) (Over (Refused c.in-Ok-Refused.refusal))) c.ask.new.self.llc) c.ask.new.carrier c.ask.new.far) e t;
     })
 
 pub returns-in-Err-clause-fails : goal.returns-in-Err-clause-fails
 returns-in-Err-clause-fails g c = λ view peer a.
-    subst (λ f. GetFails c.args.acceptable c.args.key.now (view c.args.far.now) f c.spend.new.self.llc (view c.args.far.now)) (sym c.spend.ensures.fault) refl
+    subst (λ f. GetFails (sap_of_slot c.args.slot) c.args.acceptable c.args.key.now (view c.args.far.now) f c.spend.new.self.llc (view c.args.far.now)) (sym c.spend.ensures.fault) refl
 
 pub returns-in-Err-ask-clause-fails : goal.returns-in-Err-ask-clause-fails
 returns-in-Err-ask-clause-fails g c = λ view peer a.
     let going : c.args.self.now.spent ≡ false = search rules in
     let small : c.args.acceptable < 2 ^ 32 = search rules in
-    get_fails g.C.Carrier.seen g.C.Carrier.swaps g.A.Answerer.steps g.A.Answerer.stops view peer c.args.acceptable small c.args.key.now c.requires.key
+    get_fails g.C.Carrier.seen g.C.Carrier.swaps g.A.Answerer.steps g.A.Answerer.stops view peer (sap_of_slot c.args.slot) (slot_range c.args.slot c.requires.slot) c.args.acceptable small c.args.key.now c.requires.key
     c.args.self.now.llc c.args.carrier.now c.args.far.now a c.args.counts c.in-Err-ask.fault c.ask.new.self.llc c.ask.new.carrier c.ask.new.far
     (returns-in-Err-ask-clause-err g c going)
 
 pub returns-in-Ok-Value-clause-value : goal.returns-in-Ok-Value-clause-value
 returns-in-Ok-Value-clause-value g c = λ view peer a.
     let small : c.args.acceptable < 2 ^ 32 = search rules in
-    get_got g.C.Carrier.seen g.C.Carrier.swaps g.A.Answerer.steps g.A.Answerer.stops view peer c.args.acceptable small c.args.key.now c.requires.key
+    get_got g.C.Carrier.seen g.C.Carrier.swaps g.A.Answerer.steps g.A.Answerer.stops view peer (sap_of_slot c.args.slot) (slot_range c.args.slot c.requires.slot) c.args.acceptable small c.args.key.now c.requires.key
     c.args.self.now.llc c.args.carrier.now c.args.far.now a c.args.counts c.into_vec.result.items c.ask.new.self.llc c.ask.new.carrier c.ask.new.far
     (returns-in-Ok-Value-clause-ok g c)
 
@@ -83,6 +84,6 @@ pub returns-in-Ok-Refused-clause-fails : goal.returns-in-Ok-Refused-clause-fails
 returns-in-Ok-Refused-clause-fails g c = λ view peer a.
     let going : c.args.self.now.spent ≡ false = search rules in
     let small : c.args.acceptable < 2 ^ 32 = search rules in
-    get_fails g.C.Carrier.seen g.C.Carrier.swaps g.A.Answerer.steps g.A.Answerer.stops view peer c.args.acceptable small c.args.key.now c.requires.key
+    get_fails g.C.Carrier.seen g.C.Carrier.swaps g.A.Answerer.steps g.A.Answerer.stops view peer (sap_of_slot c.args.slot) (slot_range c.args.slot c.requires.slot) c.args.acceptable small c.args.key.now c.requires.key
     c.args.self.now.llc c.args.carrier.now c.args.far.now a c.args.counts c.fault.result c.ask.new.self.llc c.ask.new.carrier c.ask.new.far
     (returns-in-Ok-Refused-clause-err g c going)
