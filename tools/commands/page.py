@@ -23,13 +23,10 @@ from commands.run import NO_PROGRAM
 from page.answering import program_note
 from page.cache import Cache
 from page.program import NoProgram
-from page.running import Runner
+from page.running import ENDS, Runner
 from page.saving import saved_page
 from page.server import MOST_BODY, Server
 from page.sliding import Slider
-
-ENDS = (signal.SIGINT, signal.SIGTERM, signal.SIGHUP)
-
 
 def main(words: list[str]) -> int:
     parser = Words("page", __doc__)
@@ -54,11 +51,14 @@ def save(script: bytes, name: str | None) -> int:
     if len(script) > MOST_BODY:
         raise BadInput(f"the script has {len(script)} bytes, and the page takes at most {MOST_BODY}")
     left = ended_by_signals()
+    runner = Runner()
     try:
-        text = saved_page(Slider(Runner(), Cache()), script, gone=left.is_set)
+        text = saved_page(Slider(runner, Cache()), script, gone=left.is_set)
     except NoProgram as problem:
         print(f"nfc page: {problem}", file=sys.stderr)
         return NO_PROGRAM
+    finally:
+        runner.stop()
     with open(name, "w", encoding="utf-8") as file:
         file.write(text)
     return 0

@@ -27,6 +27,8 @@ PIECE = 1 << 16
 TICK = 0.2
 Pieces = Generator[bytes, None, None]
 ENDED = re.compile(rb"run=ended status=([0-9]+)")
+# the signals that ask a program to end
+ENDS = (signal.SIGINT, signal.SIGTERM, signal.SIGHUP)
 
 
 class Gone(Exception):
@@ -55,6 +57,17 @@ class Ran:
 
 def never() -> bool:
     return False
+
+
+@contextmanager
+def signals_held() -> Iterator[None]:
+    """Meanwhile a signal that asks this program to end waits, so that no process begins which nobody knows of. What begins here holds
+    them too: it has a session of its own, and is ended by SIGKILL."""
+    before = signal.pthread_sigmask(signal.SIG_BLOCK, ENDS)
+    try:
+        yield
+    finally:
+        signal.pthread_sigmask(signal.SIG_SETMASK, before)
 
 
 class Runner:
@@ -116,7 +129,7 @@ class Runner:
 
     def start(self, program: Program, form: str, source: int) -> subprocess.Popen[bytes]:
         errors = subprocess.STDOUT if program.is_tried else subprocess.DEVNULL
-        with self.lock:
+        with signals_held(), self.lock:
             if self.is_stopped:
                 raise Gone
             try:

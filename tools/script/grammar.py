@@ -6,7 +6,7 @@ from dataclasses import dataclass
 from typing import Any, Callable
 
 from script.field import Field
-from script.kinds import Fates, Hexadecimal, Identifier, Kind, Message, Name, Number, Size
+from script.kinds import Fates, Hexadecimal, Identifier, Kind, Message, Name, Number, Payload, Size
 
 NFCA_ID = Identifier((4, 7, 10), "an identifier of NFC-A, 4, 7 or 10 bytes, two hexadecimal digits a byte")
 T5_ID = Identifier((8,), "the identifier of a Type 5 tag, 8 bytes, high byte first, two hexadecimal digits a byte")
@@ -29,19 +29,26 @@ FREE = "fewer than 16 devices are placed and none has this ID"
 
 @dataclass(frozen=True)
 class Command:
-    """A command: its name, the kinds of the words behind it, what it does to the field, and where it may stand."""
+    """A command: its name, the kinds of the words behind it, what it does to the field, where it may stand, and how often its last word may."""
 
     name: str
     kinds: tuple[Kind, ...]
     obey: Callable[..., None] = Field.pass_on
     where: str = ""
+    most: int = 1
 
     @property
     def form(self) -> str:
-        return " ".join([self.name] + [kind.name for kind in self.kinds])
+        return " ".join([self.name] + [kind.name for kind in self.kinds] + ([".."] if self.most > 1 else []))
+
+    def kinds_of(self, count: int) -> tuple[Kind, ...] | None:
+        """The kinds of so many words, none where the command has another number of them."""
+        more = count - len(self.kinds)
+        return self.kinds + self.kinds[-1:] * more if 0 <= more < self.most else None
 
     def values(self, words: list[str]) -> list[Any]:
-        return [kind.value(word) for kind, word in zip(self.kinds, words, strict=True)]
+        kinds = self.kinds_of(len(words)) or self.kinds
+        return [kind.value(word) for kind, word in zip(kinds, words, strict=True)]
 
 
 IN_ORDER = (
@@ -77,6 +84,7 @@ IN_ORDER = (
     Command("read", (ANY_ID,)),
     Command("write", (ANY_ID, MSG)),
     Command("link", (NFCA_ID, MIU, RW)),
+    Command("forge", (NFCA_ID, Payload()), Field.forge, "nowhere: no bench takes it yet", most=16),
     Command("put", (MSG,)),
     Command("get", (ACCEPTED, HEX)),
     Command("lookup", (Name(),)),

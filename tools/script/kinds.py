@@ -74,6 +74,26 @@ class Hexadecimal:
         return b"" if word == "-" else bytes.fromhex(word)
 
 
+@dataclass(frozen=True)
+class Payload:
+    """The bytes of one payload of LLCP."""
+
+    most: int = 2178
+    name: str = "HEX"
+    told: str = "a payload of 1 to 2178 bytes, two hexadecimal digits a byte"
+
+    def fault(self, word: str) -> str | None:
+        if word == "-":
+            return "a payload has bytes, and - stands for none"
+        fault = "a payload is missing" if not word else digits_fault(word)
+        if fault is not None:
+            return fault
+        return f"a payload of {len(word) // 2} bytes is longer than {self.most}" if len(word) > 2 * self.most else None
+
+    def value(self, word: str) -> bytes:
+        return bytes.fromhex(word)
+
+
 def digits_fault(word: str) -> str | None:
     """What is wrong with hexadecimal digits, two for each byte."""
     if word[:2] in ("0x", "0X"):

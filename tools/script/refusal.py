@@ -153,12 +153,14 @@ def likely(word: str, known: tuple[str, ...]) -> str:
 
 
 def check_words(command: Command, words: list[str]) -> None:
-    if len(words) != len(command.kinds):
+    kinds = command.kinds_of(len(words))
+    if kinds is None:
         wanted = len(command.kinds)
         needs = f"needs {counted(wanted, 'word')} behind it" if wanted else "has no word behind it"
+        needs = f"needs {wanted} to {wanted + command.most - 1} words behind it" if command.most > 1 else needs
         here = f"here {'is' if len(words) == 1 else 'are'} {len(words) or 'none'}"
         raise Refused(f"{command.name} {needs}, and {here}", command)
-    for kind, word in zip(command.kinds, words, strict=True):
+    for kind, word in zip(kinds, words, strict=True):
         fault = kind.fault(word)
         if fault is not None:
             raise Refused(f"{kind.name}: {fault}", command, kind)

@@ -33,6 +33,7 @@ LEGAL = {
     "read": "read 02020202",
     "write": "write 02020202 00",
     "link": "link 02020202 128 1",
+    "forge": "forge 02020202 1120",
     "put": "put 00",
     "get": "get 1 6B",
     "lookup": "lookup a",
@@ -105,6 +106,10 @@ def contents() -> Iterator[str]:
     for length in (0, 13, 14, 15, 16, 63, 64, 65):
         yield f"place t4 01010101 8 {(CONTAINER.format(4, 16) + '00' * 60)[: 2 * length] or '-'} -"
     yield f"place t4 01010101 8 {CONTAINER.format(3, 16)} -"
+    for length in (0, 1, 15, 16, 17):
+        yield "forge 02020202" + " 1120" * length
+    for payload in ("-", "0", "000", "00 -", "0G", "gen:1:1", "00" * 2033):
+        yield f"forge 02020202 {payload}"
     for length in (0, 1, 63, 64, 65):
         yield f"lookup {'~' * length}"
     for length in (0, 1, 3999, 4000, 4001):

@@ -7,6 +7,7 @@ use Rattle.std.specs.Fmt.{decimal}
 use Rattle.std.proofs.lemmas.Fmt.{decimal_is_IsNumeral}
 use Rattle.std.proofs.lemmas.Str.Parse.{digit_at}
 use Rattle.std.proofs.lemmas.List.Elements.{All-cons, All-nil, All-append, All-map, All-from_get_or, All-weaker}
+use Rattle.std.proofs.Common.{append_assoc, append-nil}
 use Rattle.std.proofs.lemmas.List.{length-append}
 use Rattle.std.proofs.lemmas.List.Sums.{AllPass-from_list_all}
 use Rattle.std.proofs.lemmas.Bool.Decides.{nat_tests}
@@ -16,15 +17,15 @@ use Rattle.hex.proofs.HexLemmas.{length-encode_with, decode_of-encode_upper, dec
 use Rattle.nfc_base.specs.declared.event.Fate.{Fate}
 use Rattle.nfc_base.specs.declared.event.Fate.TheVariants.{Pass, Damage, Lose, Break}
 use Rattle.bench_script.specs.declared.command.Command.{Command}
-use Rattle.bench_script.specs.declared.command.Command.TheVariants.{Skip, Fates, PlaceT2, PlaceT4, PlaceT5, PlacePeer, Lock, Busy, Offer, Remove, Dump, Inbox, Find, Crowd, Read, Write, Link, Put, Get, Lookup, Unlink}
+use Rattle.bench_script.specs.declared.command.Command.TheVariants.{Skip, Fates, PlaceT2, PlaceT4, PlaceT5, PlacePeer, Lock, Busy, Offer, Remove, Dump, Inbox, Find, Crowd, Read, Write, Link, Forge, Put, Get, Lookup, Unlink}
 use Rattle.bench_script.specs.declared.command.DeviceId.{DeviceId}
 use Rattle.bench_script.specs.declared.command.DeviceId.TheVariants.{A, V}
 use Rattle.bench_script.specs.declared.message.Msg.{Msg}
 use Rattle.bench_script.specs.declared.message.Msg.TheVariants.{Hex, Gen}
-use Rattle.bench_script.specs.Script.{words_of, SpelledBy, Spells, SpellsHex, SpellsIdent, SpellsIdV, SpellsId, SpellsCounted, SpellsMsg, SpellsFates, SpellsName, fate_letter}
+use Rattle.bench_script.specs.Script.{words_of, SpelledBy, Spells, SpellsHex, SpellsIdent, SpellsIdV, SpellsId, SpellsCounted, SpellsMsg, SpellsFates, SpellsName, SpellsPayload, SpellEach, fate_letter}
 use Rattle.std.proofs.lemmas.Bool.{ne_eqb}
 use Rattle.bench_script.proofs.Spelling.{size_small, spells_words, spells_one}
-use Rattle.bench_script.specs.Canonical.{hex_text, id_text, message_text, fates_text, canonical_words, canonical, IsReadAs}
+use Rattle.bench_script.specs.Canonical.{hex_text, id_text, message_text, fates_text, payloads_text, canonical_words, canonical, IsReadAs}
 
 -- words are parts between spaces
 words_split : (line : List ℕ) → words_of line ≡ slice_split (λ b. b == 32) line
@@ -182,6 +183,46 @@ name_too word name s = record {
       All-weaker (λ b. is_ascii_graphic b ≡ true) (λ b. 32 < b) (λ b visible. grind (arith, nat_tests)) name
       (AllPass-from_list_all is_ascii_graphic name s.graphic);
 }
+
+-- a payload's digits
+payload_too : (word bytes : List ℕ) → SpellsPayload word bytes → SpellsToo (λ t. SpellsPayload t bytes) word (encode_upper bytes)
+payload_too word bytes s =
+    let upper = upper_too word bytes s.digits in
+    record { spells = record { digits = upper.spells; some = s.some; few = s.few }; size = upper.size; is = upper.is }
+
+-- Payloads in upper case are spelled too, with words of the same lengths, and stand behind any other word.
+record EachToo (vs ws ps : List (List ℕ)) : Type 0 where
+  pub spells : SpellEach ws ps
+  pub sizes : map length vs ≡ map length ws
+  pub are : (w : List ℕ) → IsWord w → AreWords (w ∷ ws)
+
+each_too : (ws ps : List (List ℕ)) → SpellEach ws ps → EachToo ws (map encode_upper ps) ps
+each_too [] [] s = record { spells = s; sizes = refl; are = λ w is. is }
+each_too (w ∷ ws) (p ∷ ps) s =
+    let one = payload_too w p s.0 in
+    let more = each_too ws ps s.1 in
+    let first : length w ≡ length (encode_upper p) = one.size in
+    let rest : map length ws ≡ map length (map encode_upper ps) = more.sizes in
+    record {
+      spells = (one.spells, more.spells);
+      sizes = cc;
+      are = λ v is. (is, more.are (encode_upper p) one.is);
+    }
+each_too [] (p ∷ ps) s = absurd s
+each_too (w ∷ ws) [] s = absurd s
+
+-- a word with payloads behind it, joined
+pub joined_payloads : (w : List ℕ) (ps : List (List ℕ)) → join_with_byte 32 (w ∷ map encode_upper ps) ≡ w ++ payloads_text ps
+joined_payloads w [] = sym (append-nil w)
+joined_payloads w (p ∷ ps) = ap (λ t. w ++ 32 ∷ t) (joined_payloads (encode_upper p) ps)
+
+-- `forge` and an identifier behind a text, and payloads behind that
+pub forge_text : (line x y id : List ℕ) (ps : List (List ℕ)) → x ≡ line ++ codes "forge" → y ≡ x ++ 32 ∷ encode_upper id
+    → y ++ payloads_text ps ≡ line ++ (codes "forge" ++ (32 ∷ join_with_byte 32 (encode_upper id ∷ map encode_upper ps)))
+forge_text line x y id ps p q =
+    let u : List ℕ = encode_upper id in
+    ap (λ t. t ++ payloads_text ps) (q ∙ ap (λ t. t ++ 32 ∷ u) p) ∙ append_assoc (line ++ codes "forge") (32 ∷ u) (payloads_text ps)
+    ∙ append_assoc line (codes "forge") ((32 ∷ u) ++ payloads_text ps) ∙ ap (λ t. line ++ (codes "forge" ++ (32 ∷ t))) (sym (joined_payloads u ps))
 
 -- Words that are joined are as long as others of the same lengths.
 joined_size : (vs ws : List (List ℕ)) → map length vs ≡ map length ws
@@ -392,6 +433,16 @@ all_too (Write id message) ws (i, m, e, p, q) =
       are = (literal (codes "write") refl, (x.is, y.is));
     }
 all_too (Link id miu rw) ws s = link_too id miu rw ws s
+all_too (Forge id payloads) ws (i, hs, e, p, q) =
+    let x = ident_too i id p in
+    let y = each_too hs payloads q.each in
+    let first : length i ≡ length (encode_upper id) = x.size in
+    let rest : map length hs ≡ map length (map encode_upper payloads) = y.sizes in
+    record {
+      spells = (encode_upper id, map encode_upper payloads, refl, x.spells, record { each = y.spells; some = q.some; few = q.few });
+      sizes = ap (map length) e ∙ (let h : 5 ∷ length i ∷ map length hs ≡ 5 ∷ length (encode_upper id) ∷ map length (map encode_upper payloads) = cc in h);
+      are = (literal (codes "forge") refl, y.are (encode_upper id) x.is);
+    }
 all_too (Put message) ws (m, e, p) =
     let x = message_too m message p in
     record {

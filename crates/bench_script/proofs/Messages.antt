@@ -1,6 +1,6 @@
 -- Counted bytes, and how a word spells them.
 use Rattle.std.proofs.Common.{◌≡◌, ◌≢◌, ℕ, suc, ◌+◌, ◌-◌, ◌%◌, ◌<◌, ◌≤◌, ◌^◌, ◌++◌, inl, inr, List, [], ◌∷◌, map, take, drop, Ok, true, refl, sym, ◌∙◌, ap, subst, arith}
-use Rattle.std.specs.Prelude.{codes, bytes_eq, Option, Some, None}
+use Rattle.std.specs.Prelude.{codes, bytes_eq}
 use Rattle.std.specs.List.{range_with_len}
 use Rattle.std.specs.Fmt.{decimal}
 use Rattle.std.proofs.lemmas.List.{append_assoc, take-append-drop}

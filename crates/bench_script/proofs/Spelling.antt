@@ -1,5 +1,5 @@
 -- No line spells two commands.
-use Rattle.std.proofs.Common.{◌≡◌, ◌≢◌, ℕ, zero, suc, ◌+◌, ◌==◌, ◌<◌, ◌≤◌, inl, inr, List, [], ◌∷◌, map, length, get_or, true, false, if◌then◌else◌, Ok, refl, sym, ◌∙◌, ap, subst, arith}
+use Rattle.std.proofs.Common.{◌≡◌, ◌≢◌, ℕ, zero, suc, ◌+◌, ◌==◌, ◌<◌, ◌≤◌, ◌++◌, inl, inr, List, [], ◌∷◌, drop, map, length, get_or, true, false, if◌then◌else◌, Ok, refl, sym, ◌∙◌, ap, subst, arith}
 use Rattle.std.specs.List.{onto_first}
 use Rattle.std.specs.Prelude.{codes}
 use Rattle.std.proofs.lemmas.Fmt.{decimal_injective}
@@ -8,18 +8,21 @@ use Rattle.nfc_base.specs.declared.event.Fate.TheVariants.{Pass, Damage, Lose, B
 use Rattle.hex.specs.Hex.{decode_of}
 use Rattle.hex.proofs.HexLemmas.{decode_of-same}
 use Rattle.bench_script.specs.declared.command.Command.{Command}
-use Rattle.bench_script.specs.declared.command.Command.TheVariants.{Skip, Fates, PlaceT2, PlaceT4, PlaceT5, PlacePeer, Lock, Busy, Offer, Remove, Dump, Inbox, Find, Crowd, Read, Write, Link, Put, Get, Lookup, Unlink}
+use Rattle.bench_script.specs.declared.command.Command.TheVariants.{Skip, Fates, PlaceT2, PlaceT4, PlaceT5, PlacePeer, Lock, Busy, Offer, Remove, Dump, Inbox, Find, Crowd, Read, Write, Link, Forge, Put, Get, Lookup, Unlink}
 use Rattle.bench_script.specs.declared.command.DeviceId.{DeviceId}
 use Rattle.bench_script.specs.declared.command.DeviceId.TheVariants.{A, V}
 use Rattle.bench_script.specs.declared.message.Msg.{Msg}
 use Rattle.bench_script.specs.declared.message.Msg.TheVariants.{Hex, Gen}
 use Rattle.bench_script.specs.declared.script.words.CommandName.{CommandName}
 use Rattle.bench_script.specs.declared.script.words.CommandName.TheVariants as names
-use Rattle.bench_script.specs.Words.{SpellsNoHex, name_text}
-use Rattle.bench_script.specs.Script.{words_of, is_skipped, SpellsHex, SpellsIdent, SpellsIdV, SpellsId, SpellsWithin, SpellsSize, SpellsCode, SpellsBlock, fate_letter, SpellsFates, SpellsMsg, SpelledBy, Spells, least_blocks, most_blocks, least_blocks_v, most_blocks_v, least_lr, most_lr, least_miu, most_miu, least_rw, most_rw, least_limit, most_limit, least_busy, most_busy, least_times, most_times, least_acceptable, most_acceptable}
+use Rattle.std.specs.Prelude.{Option, Some, None}
+use Rattle.std.proofs.lemmas.List.{length-append}
+use Rattle.bench_script.specs.Words.{CutsWord, SpellsNoHex, name_text}
+use Rattle.bench_script.specs.Script.{words_of, is_skipped, SpellsHex, SpellsIdent, SpellsIdV, SpellsId, SpellsWithin, SpellsSize, SpellsCode, SpellsBlock, fate_letter, SpellsFates, SpellsMsg, SpellsPayload, SpellEach, SpellPayloads, most_payloads, SpelledBy, Spells, least_blocks, most_blocks, least_blocks_v, most_blocks_v, least_lr, most_lr, least_miu, most_miu, least_rw, most_rw, least_limit, most_limit, least_busy, most_busy, least_times, most_times, least_acceptable, most_acceptable}
 use Rattle.nfca_poll.specs.Ident.{IsIdent}
 use Rattle.t5t_tag.specs.Store.{IsBlockSize}
 use Rattle.std.proofs.lemmas.Bool.{ne_eqb}
+use Rattle.bench_script.proofs.Words.{words_not_nil}
 use Rattle.bench_script.proofs.Messages.{counted_one, counted_differs}
 
 -- a word spells one identifier
@@ -60,6 +63,91 @@ message_one word (Gen m r) (Gen n s) p q =
     let counts : m ≡ n = same.0 in
     let starts : r ≡ s = same.1 in
     cc
+
+-- words spell one list of payloads
+pub each_one : (ws a b : List (List ℕ)) → SpellEach ws a → SpellEach ws b → a ≡ b
+each_one [] [] [] p q = refl
+each_one (w ∷ ws) (x ∷ a) (y ∷ b) p q =
+    let one : x ≡ y = decode_of-same w x y p.0.digits q.0.digits in
+    let more : a ≡ b = each_one ws a b p.1 q.1 in
+    cc
+each_one [] (x ∷ a) b p q = absurd p
+each_one [] [] (y ∷ b) p q = absurd q
+each_one (w ∷ ws) [] b p q = absurd p
+each_one (w ∷ ws) (x ∷ a) [] p q = absurd q
+
+-- Words spell payloads, and so do others behind them: they all do, in a row.
+pub each_joined : (vs ws a b : List (List ℕ)) → SpellEach vs a → SpellEach ws b → SpellEach (vs ++ ws) (a ++ b)
+each_joined [] ws [] b p q = q
+each_joined (v ∷ vs) ws (x ∷ a) b p q = (p.0, each_joined vs ws a b p.1 q)
+each_joined [] ws (x ∷ a) b p q = absurd p
+each_joined (v ∷ vs) ws [] b p q = absurd p
+
+-- What words in a row spell begins with what the first of them do, and the rest spell the rest.
+pub each_parted : (vs ws a b : List (List ℕ)) → SpellEach vs a → SpellEach (vs ++ ws) b → (c : List (List ℕ)) × (b ≡ a ++ c) × SpellEach ws c
+each_parted [] ws [] b p q = (b, refl, q)
+each_parted (v ∷ vs) ws (x ∷ a) (y ∷ b) p q =
+    let more = each_parted vs ws a b p.1 q.1 in
+    let one : y ≡ x = decode_of-same v y x q.0.digits p.0.digits in
+    let rest : b ≡ a ++ more.0 = more.1 in
+    (more.0, (let h : y ∷ b ≡ x ∷ (a ++ more.0) = cc in h), more.2)
+each_parted [] ws (x ∷ a) b p q = absurd p
+each_parted (v ∷ vs) ws [] b p q = absurd p
+each_parted (v ∷ vs) ws (x ∷ a) [] p q = absurd q
+
+-- ... as many as they are
+pub each_many : (ws a : List (List ℕ)) → SpellEach ws a → length a ≡ length ws
+each_many [] [] p = refl
+each_many (w ∷ ws) (x ∷ a) p = ap suc (each_many ws a p.1)
+each_many [] (x ∷ a) p = absurd p
+each_many (w ∷ ws) [] p = absurd p
+
+-- a text's first word, and what stands behind it
+first_word : (text word : List ℕ) (o : Option (List ℕ)) → CutsWord text word o → (ws : List (List ℕ)) × (words_of text ≡ word ∷ ws)
+first_word text word None e = ([], e)
+first_word text word (Some rest) e = (words_of rest, e)
+
+some_each : (word : List ℕ) (ws a : List (List ℕ)) → SpellEach (word ∷ ws) a → (x : List ℕ) × SpellsPayload word x
+some_each word ws [] p = absurd p
+some_each word ws (x ∷ a) p = (x, p.0)
+
+-- Where one of a text's words is no payload, they spell none together.
+pub none_left : (text left word : List ℕ) (before payloads : List (List ℕ)) (o : Option (List ℕ)) → words_of text ≡ before ++ words_of left → SpellEach before payloads
+    → CutsWord left word o → ((x : List ℕ) → SpellsPayload word x → ⊥) → (a : List (List ℕ)) → SpellPayloads (words_of text) a → ⊥
+none_left text left word before payloads o split each cut none a s =
+    let first = first_word left word o cut in
+    let P : List (List ℕ) → Type 0 = λ ws. SpellEach ws a in
+    let parted = each_parted before (word ∷ first.0) payloads a each (subst P (split ∙ ap (λ ws. before ++ ws) first.1) s.each) in
+    let one = some_each word first.0 parted.0 parted.2 in
+    none one.0 one.1
+
+-- The words that were read spell the payloads, and one more, which ends the text, one more.
+pub last_spelled : (text left word : List ℕ) (before payloads : List (List ℕ)) (p : List ℕ) → words_of text ≡ before ++ words_of left → SpellEach before payloads
+    → words_of left ≡ word ∷ [] → SpellsPayload word p → length payloads < most_payloads → SpellPayloads (words_of text) (payloads ++ p ∷ [])
+last_spelled text left word before payloads p split each ends s few =
+    let all : words_of text ≡ before ++ word ∷ [] = split ∙ ap (λ ws. before ++ ws) ends in
+    let size : length (payloads ++ p ∷ []) ≡ length payloads + 1 = length-append payloads (p ∷ []) in
+    let below : length payloads < 16 = few in
+    record {
+      each = subst (λ ws. SpellEach ws (payloads ++ p ∷ [])) (sym all) (each_joined before (word ∷ []) payloads (p ∷ []) each (s, tt));
+      some = omega (arith, size);
+      few = omega (arith, size, below);
+    }
+
+-- Nor do they where a word is left behind sixteen, and one is left in any text.
+some_words : (ws : List (List ℕ)) → ws ≢ [] → 0 < length ws
+some_words [] some = absurd (some refl)
+some_words (w ∷ ws) some = omega arith
+
+pub too_many : (text left : List ℕ) (before payloads : List (List ℕ)) → words_of text ≡ before ++ words_of left → SpellEach before payloads
+    → length payloads ≡ most_payloads → (a : List (List ℕ)) → SpellPayloads (words_of text) a → ⊥
+too_many text left before payloads split each full a s =
+    let many : length a ≡ length (words_of text) = each_many (words_of text) a s.each in
+    let all : length (words_of text) ≡ length before + length (words_of left) = ap length split ∙ length-append before (words_of left) in
+    let some : 0 < length (words_of left) = some_words (words_of left) (words_not_nil left) in
+    let few : length a ≤ 16 = s.few in
+    let sixteen : length payloads ≡ 16 = full in
+    omega (arith, many, all, some, each_many before payloads each, sixteen, few)
 
 -- a word spells one number within limits
 pub within_one : (least most : ℕ) → most ≤ 65536 → (w : List ℕ) (m n : ℕ) → SpellsWithin least most w m → SpellsWithin least most w n → m ≡ n
@@ -117,37 +205,38 @@ first_byte ((b ∷ bs) ∷ ws) = b
 abbrev word : ℕ → List (List ℕ) → List ℕ
 word n ws = get_or ws n []
 
--- the sum of a word's bytes
+-- a number of a word: its bytes, each worth twice the one before it
 abbrev total : List ℕ → ℕ
 total [] = 0
-total (b ∷ bs) = b + total bs
+total (b ∷ bs) = b + (total bs + total bs)
 
 -- a number of the words by which a command is told from others: that of its first, and of `place` that of its second
 abbrev key_by : List (List ℕ) → ℕ
-key_by ws = if total (word 0 ws) == 517 then 1000 + total (word 1 ws) else total (word 0 ws)
+key_by ws = if total (word 0 ws) == 3124 then 10000 + total (word 1 ws) else total (word 0 ws)
 
 abbrev key_of : Command → ℕ
 key_of Skip = 0
-key_of (Fates a) = 531
-key_of (PlaceT2 a b c) = 1166
-key_of (PlaceT4 a b c d) = 1168
-key_of (PlaceT5 a b c d) = 1169
-key_of (PlacePeer a b c d e) = 1428
-key_of (Lock a b) = 425
-key_of (Busy a b c) = 451
-key_of (Offer a b c) = 530
-key_of (Remove a) = 654
-key_of (Dump a) = 438
-key_of (Inbox a) = 544
-key_of Find = 417
-key_of Crowd = 543
-key_of (Read a) = 412
-key_of (Write a b) = 555
-key_of (Link a b c) = 430
-key_of (Put a) = 345
-key_of (Get a b) = 320
-key_of (Lookup a) = 666
-key_of Unlink = 657
+key_of (Fates a) = 3408
+key_of (PlaceT2 a b c) = 10216
+key_of (PlaceT4 a b c d) = 10220
+key_of (PlaceT5 a b c d) = 10222
+key_of (PlacePeer a b c d e) = 11630
+key_of (Lock a b) = 1582
+key_of (Busy a b c) = 1760
+key_of (Offer a b c) = 3355
+key_of (Remove a) = 6760
+key_of (Dump a) = 1666
+key_of (Inbox a) = 3525
+key_of Find = 1552
+key_of Crowd = 3323
+key_of (Read a) = 1504
+key_of (Write a b) = 3311
+key_of (Link a b c) = 1614
+key_of (Forge a b) = 3220
+key_of (Put a) = 810
+key_of (Get a b) = 769
+key_of (Lookup a) = 7086
+key_of Unlink = 6793
 
 key_at : (ws : List (List ℕ)) (c : Command) → SpelledBy ws c → key_by ws ≡ key_of c
 key_at ws Skip p = absurd p
@@ -167,6 +256,7 @@ key_at ws Crowd e = ap key_by e
 key_at ws (Read a) (w, is, p) = ap key_by is
 key_at ws (Write a b) (w, x, is, p, q) = ap key_by is
 key_at ws (Link a b c) (w, x, y, is, p, q, r) = ap key_by is
+key_at ws (Forge a b) (w, hs, is, p, q) = ap key_by is
 key_at ws (Put a) (w, is, p) = ap key_by is
 key_at ws (Get a b) (w, x, is, p, q) = ap key_by is
 key_at ws (Lookup a) (w, is, p) = ap key_by is
@@ -226,6 +316,12 @@ spelled_alike ws (Link i m g) (Link j n h) key (u, v, w, e, p, r, s) (u', v', w'
     let ids : i ≡ j = ident_one u' i j (let P : List ℕ → Type 0 = λ t. SpellsIdent t i in subst P first p) p' in
     let units : m ≡ n = within_one least_miu most_miu (omega arith) v' m n (let P : List ℕ → Type 0 = λ t. SpellsWithin least_miu most_miu t m in subst P second r) r' in
     let windows : g ≡ h = within_one least_rw most_rw (omega arith) w' g h (let P : List ℕ → Type 0 = λ t. SpellsWithin least_rw most_rw t g in subst P third s) s' in
+    cc
+spelled_alike ws (Forge i a) (Forge j b) key (u, hs, e, p, q) (v, ks, f, p', q') =
+    let first : u ≡ v = ap (word 1) (sym e ∙ f) in
+    let more : hs ≡ ks = ap (drop 2) (sym e ∙ f) in
+    let ids : i ≡ j = ident_one v i j (let P : List ℕ → Type 0 = λ t. SpellsIdent t i in subst P first p) p' in
+    let payloads : a ≡ b = each_one ks a b (let P : List (List ℕ) → Type 0 = λ t. SpellEach t a in subst P more q.each) q'.each in
     cc
 spelled_alike ws (Put a) (Put b) key (v, e, p) (w, f, q) =
     let same : v ≡ w = ap (word 1) (sym e ∙ f) in
@@ -307,6 +403,7 @@ nameless w ws none some Crowd e = some (let h : ws ≡ [] = cc in h)
 nameless w ws none some (Read id) (i, e, p) = none names.Read (let h : w ≡ codes "read" = cc in h)
 nameless w ws none some (Write id message) (i, m, e, p, q) = none names.Write (let h : w ≡ codes "write" = cc in h)
 nameless w ws none some (Link id miu rw) (i, m, v, e, p, q, r) = none names.Link (let h : w ≡ codes "link" = cc in h)
+nameless w ws none some (Forge id payloads) (i, hs, e, p, q) = none names.Forge (let h : w ≡ codes "forge" = cc in h)
 nameless w ws none some (Put message) (m, e, p) = none names.Put (let h : w ≡ codes "put" = cc in h)
 nameless w ws none some (Get acceptable key) (n, k, e, p, q) = none names.Get (let h : w ≡ codes "get" = cc in h)
 nameless w ws none some (Lookup name) (n, e, p) = none names.Lookup (let h : w ≡ codes "lookup" = cc in h)
@@ -398,6 +495,7 @@ hash_begins_none ws Crowd e h = omega (arith, h, ap first_byte e)
 hash_begins_none ws (Read id) (i, e, p) h = omega (arith, h, ap first_byte e)
 hash_begins_none ws (Write id message) (i, m, e, p, q) h = omega (arith, h, ap first_byte e)
 hash_begins_none ws (Link id miu rw) (i, m, w, e, p, q, r) h = omega (arith, h, ap first_byte e)
+hash_begins_none ws (Forge id payloads) (i, hs, e, p, q) h = omega (arith, h, ap first_byte e)
 hash_begins_none ws (Put message) (m, e, p) h = omega (arith, h, ap first_byte e)
 hash_begins_none ws (Get acceptable key) (n, k, e, p, q) h = omega (arith, h, ap first_byte e)
 hash_begins_none ws (Lookup name) (n, e, p) h = omega (arith, h, ap first_byte e)

@@ -6,7 +6,7 @@ use Rattle.std.specs.Fmt.{decimal}
 use Rattle.hex.specs.Hex.{encode_upper}
 use Rattle.nfc_base.specs.declared.event.Fate.{Fate}
 use Rattle.bench_script.specs.declared.command.Command.{Command}
-use Rattle.bench_script.specs.declared.command.Command.TheVariants.{Skip, Fates, PlaceT2, PlaceT4, PlaceT5, PlacePeer, Lock, Busy, Offer, Remove, Dump, Inbox, Find, Crowd, Read, Write, Link, Put, Get, Lookup, Unlink}
+use Rattle.bench_script.specs.declared.command.Command.TheVariants.{Skip, Fates, PlaceT2, PlaceT4, PlaceT5, PlacePeer, Lock, Busy, Offer, Remove, Dump, Inbox, Find, Crowd, Read, Write, Link, Forge, Put, Get, Lookup, Unlink}
 use Rattle.bench_script.specs.declared.command.DeviceId.{DeviceId}
 use Rattle.bench_script.specs.declared.message.Msg.{Msg}
 use Rattle.bench_script.specs.declared.message.Msg.TheVariants.{Hex, Gen}
@@ -29,6 +29,11 @@ id_text id = encode_upper (bytes_of id)
 abbrev pub message_text : Msg → List ℕ
 message_text (Hex bytes) = hex_text bytes
 message_text (Gen count start) = codes "gen:" ++ decimal count ++ 58 ∷ decimal start
+
+-- payloads, each behind a space
+abbrev pub payloads_text : List (List ℕ) → List ℕ
+payloads_text [] = []
+payloads_text (p ∷ ps) = 32 ∷ encode_upper p ++ payloads_text ps
 
 -- `place`, a kind, an ID and a number
 abbrev pub place_text : List ℕ → List ℕ → ℕ → List ℕ
@@ -56,6 +61,7 @@ canonical_words Crowd = codes "crowd" ∷ []
 canonical_words (Read id) = codes "read" ∷ id_text id ∷ []
 canonical_words (Write id message) = codes "write" ∷ id_text id ∷ message_text message ∷ []
 canonical_words (Link id miu rw) = codes "link" ∷ encode_upper id ∷ decimal miu ∷ decimal rw ∷ []
+canonical_words (Forge id payloads) = codes "forge" ∷ encode_upper id ∷ map encode_upper payloads
 canonical_words (Put message) = codes "put" ∷ message_text message ∷ []
 canonical_words (Get acceptable key) = codes "get" ∷ decimal acceptable ∷ hex_text key ∷ []
 canonical_words (Lookup name) = codes "lookup" ∷ name ∷ []

@@ -10,7 +10,7 @@ use Rattle.nfc_base.specs.declared.event.Fate.TheVariants.{Pass, Damage, Lose, B
 use Rattle.nfca_poll.specs.Ident.{IsIdent}
 use Rattle.t5t_tag.specs.Store.{IsBlockSize}
 use Rattle.bench_script.specs.declared.command.Command.{Command}
-use Rattle.bench_script.specs.declared.command.Command.TheVariants.{Skip, Fates, PlaceT2, PlaceT4, PlaceT5, PlacePeer, Lock, Busy, Offer, Remove, Dump, Inbox, Find, Crowd, Read, Write, Link, Put, Get, Lookup, Unlink}
+use Rattle.bench_script.specs.declared.command.Command.TheVariants.{Skip, Fates, PlaceT2, PlaceT4, PlaceT5, PlacePeer, Lock, Busy, Offer, Remove, Dump, Inbox, Find, Crowd, Read, Write, Link, Forge, Put, Get, Lookup, Unlink}
 use Rattle.bench_script.specs.declared.command.DeviceId.{DeviceId}
 use Rattle.bench_script.specs.declared.command.DeviceId.TheVariants.{A, V}
 use Rattle.bench_script.specs.declared.message.Msg.{Msg}
@@ -146,6 +146,32 @@ pub record SpellsName (word name : List ℕ) : Type 0 where
   pub few : length name ≤ longest_name
   pub graphic : list_all is_ascii_graphic name ≡ true
 
+-- how many payloads of a link a line may have, and how many bytes each of these: 3 for the head of the longest PDU, and its information
+abbrev pub most_payloads : ℕ
+most_payloads = 16
+
+abbrev pub longest_payload : ℕ
+longest_payload = 2178
+
+-- a payload of a link: two digits of either case a byte, and at least one byte
+pub record SpellsPayload (word bytes : List ℕ) : Type 0 where
+  pub digits : decode_of word ≡ Ok bytes
+  pub some : 0 < length bytes
+  pub few : length bytes ≤ longest_payload
+
+-- payloads, a word each, in their order
+abbrev pub SpellEach : List (List ℕ) → List (List ℕ) → Type 0
+SpellEach [] [] = Unit {0}
+SpellEach [] (p ∷ ps) = ⊥
+SpellEach (w ∷ ws) [] = ⊥
+SpellEach (w ∷ ws) (p ∷ ps) = SpellsPayload w p × SpellEach ws ps
+
+-- at least one payload
+pub record SpellPayloads (words payloads : List (List ℕ)) : Type 0 where
+  pub each : SpellEach words payloads
+  pub some : 0 < length payloads
+  pub few : length payloads ≤ most_payloads
+
 -- the letter of a fate, in upper case alone: P, D, L or B
 abbrev pub fate_letter : Fate → ℕ
 fate_letter Pass = 80
@@ -170,7 +196,7 @@ is_skipped (b ∷ bs) = b == 35
 
 -- `fates FATES`, `place t2 ID BLOCKS HEX`, `place t4 ID CODE HEX HEX`, `place t5 ID BLOCKS SIZE HEX`,
 -- `place peer ID LR MIU RW LIMIT`, `lock ID BLOCK`, `busy ID COUNT TIMES`, `offer ID HEX HEX`, `remove ID`, `dump ID`, `inbox ID`,
--- `find`, `read ID`, `write ID MSG`, `link ID MIU RW`, `put MSG`, `get N HEX`, `lookup NAME` and `unlink`
+-- `find`, `read ID`, `write ID MSG`, `link ID MIU RW`, `forge ID HEX ..`, `put MSG`, `get N HEX`, `lookup NAME` and `unlink`
 abbrev pub SpelledBy : List (List ℕ) → Command → Type 0
 SpelledBy ws Skip = ⊥
 SpelledBy ws (Fates fates) = (f : List ℕ) × (ws ≡ codes "fates" ∷ f ∷ []) × SpellsFates f fates
@@ -204,6 +230,8 @@ SpelledBy ws (Write id message) =
 SpelledBy ws (Link id miu rw) =
     (i m w : List ℕ) × (ws ≡ codes "link" ∷ i ∷ m ∷ w ∷ [])
     × SpellsIdent i id × SpellsWithin least_miu most_miu m miu × SpellsWithin least_rw most_rw w rw
+SpelledBy ws (Forge id payloads) =
+    (i : List ℕ) × (hs : List (List ℕ)) × (ws ≡ codes "forge" ∷ i ∷ hs) × SpellsIdent i id × SpellPayloads hs payloads
 SpelledBy ws (Put message) = (m : List ℕ) × (ws ≡ codes "put" ∷ m ∷ []) × SpellsMsg m message
 SpelledBy ws (Get acceptable key) =
     (n k : List ℕ) × (ws ≡ codes "get" ∷ n ∷ k ∷ [])

@@ -1,5 +1,5 @@
 -- Words cut off the front of a text.
-use Rattle.std.specs.Prelude.{◌≡◌, ◌≢◌, ◌++◌, ℕ, List, [], ◌∷◌, codes, Option, Some, None, MatchOption}
+use Rattle.std.specs.Prelude.{◌≡◌, ◌≢◌, ◌++◌, ℕ, List, [], ◌∷◌, codes, Option, Some, None}
 use Rattle.bench_script.specs.declared.script.words.CommandName.{CommandName}
 use Rattle.bench_script.specs.declared.script.words.CommandName.TheVariants as names
 use Rattle.std.specs.Borrow.{Bor}
@@ -79,6 +79,7 @@ name_text names.Inbox = codes "inbox"
 name_text names.Read = codes "read"
 name_text names.Write = codes "write"
 name_text names.Link = codes "link"
+name_text names.Forge = codes "forge"
 name_text names.Put = codes "put"
 name_text names.Get = codes "get"
 name_text names.Lookup = codes "lookup"

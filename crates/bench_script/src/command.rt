@@ -121,6 +121,11 @@ pub enum Command {
         miu: u16,
         rw: u8,
     },
+    /// Opens a link to a peer, sends these payloads of LLCP over it, one for each reply, and leaves the link.
+    Forge {
+        id: Ident,
+        payloads: Items<Items<u8>>,
+    },
     /// Puts a message to the server of the link's peer.
     Put {
         message: Msg,
@@ -196,6 +201,7 @@ impl Command {
                 miu: *miu,
                 rw: *rw,
             }),
+            Command::Forge { id, payloads } => copy_forge(alloc, id, payloads.as_slice()),
             Command::Put { message } => copy_put(alloc, message),
             Command::Get { acceptable, key } => copy_get(alloc, *acceptable, key.as_slice()),
             Command::Lookup { name } => copy_lookup(alloc, name.as_slice()),
@@ -275,6 +281,25 @@ fn copy_write(alloc: Global, id: &DeviceId, message: &Msg) -> Result<Command, Al
     let message = message.copy(alloc)?;
     let id = id.copy();
     Ok(Command::Write { id, message })
+}
+
+fn copy_forge(alloc: Global, id: &Ident, payloads: &[Items<u8>]) -> Result<Command, AllocError>
+    ensures { IfOk result (λ c. c ≡ Command.Forge id.now payloads.now) }
+{
+    let payloads = copy_payloads(alloc, payloads)?;
+    let id = id.copy();
+    Ok(Command::Forge { id, payloads })
+}
+
+/// These payloads again.
+fn copy_payloads(alloc: Global, payloads: &[Items<u8>]) -> Result<Items<Items<u8>>, AllocError>
+    ensures { IfOk result (λ a. a ≡ payloads.now) }
+{
+    let mut copies = Vec::with_capacity(alloc, payloads.len())?;
+    for payload in payloads {
+        copies.push(Items::from_bytes(alloc, payload.as_slice())?)?;
+    }
+    Ok(Items::new(copies))
 }
 
 fn copy_put(alloc: Global, message: &Msg) -> Result<Command, AllocError>

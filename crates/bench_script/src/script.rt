@@ -10,7 +10,7 @@ mod links;
 mod words;
 
 use crate::command::Command;
-use links::{get_line, link_line, lookup_line, put_line};
+use links::{forge_line, get_line, link_line, lookup_line, put_line};
 use std::alloc::{AllocError, Global};
 use thiserror::Error;
 use words::{
@@ -126,6 +126,7 @@ fn command_line(alloc: Global, line: &[u8]) -> Result<Command, LineFault>
         Some(CommandName::Read) => read_line(alloc, rest),
         Some(CommandName::Write) => write_line(alloc, rest),
         Some(CommandName::Link) => link_line(alloc, rest),
+        Some(CommandName::Forge) => forge_line(alloc, rest),
         Some(CommandName::Put) => put_line(alloc, rest),
         Some(CommandName::Get) => get_line(alloc, rest),
         Some(CommandName::Lookup) => lookup_line(alloc, rest),

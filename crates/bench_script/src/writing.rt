@@ -4,11 +4,11 @@ ghost use Rattle.std.specs.Prelude.{◌≡◌, ◌≤◌, ◌++◌, ◌∷◌, �
 ghost use Rattle.std.specs.Fmt.{decimal};
 ghost use Rattle.hex.specs.Hex.{encode_upper};
 ghost use Rattle.bench_script.specs.Script.{fate_letter, Spells};
-ghost use Rattle.bench_script.specs.Canonical.{hex_text, id_text, message_text, fates_text, place_text, canonical, IsReadAs};
+ghost use Rattle.bench_script.specs.Canonical.{hex_text, id_text, message_text, fates_text, payloads_text, place_text, canonical, IsReadAs};
 
 use crate::command::{Command, DeviceId};
 use crate::message::Msg;
-use nfc_base::Fate;
+use nfc_base::{Fate, Items};
 use nfca_poll::Ident;
 use std::alloc::AllocError;
 
@@ -95,6 +95,7 @@ impl Command {
                 add_number(line, *miu as u32)?;
                 add_number(line, *rw as u32)
             }
+            Command::Forge { id, payloads } => add_forge(line, id, payloads.as_slice()),
             Command::Put { message } => {
                 line.extend_from_slice(b"put")?;
                 add_message(line, message)
@@ -139,6 +140,25 @@ fn add_peer(
     add_number(line, miu as u32)?;
     add_number(line, rw as u32)?;
     add_number(line, limit)
+}
+
+/// Adds `forge`, an identifier and payloads.
+fn add_forge(line: &mut Vec<u8>, id: &Ident, payloads: &[Items<u8>]) -> Result<(), AllocError>
+    ensures { OnOk result (line.new.items ≡ line.old.items ++ canonical (Command.Forge id.now payloads.now)) }
+{
+    line.extend_from_slice(b"forge")?;
+    add_digits(line, id.view())?;
+    add_payloads(line, payloads)
+}
+
+/// Adds payloads, each behind a space.
+fn add_payloads(line: &mut Vec<u8>, payloads: &[Items<u8>]) -> Result<(), AllocError>
+    ensures { OnOk result (line.new.items ≡ line.old.items ++ payloads_text payloads.now) }
+{
+    for payload in payloads {
+        add_digits(line, payload.as_slice())?;
+    }
+    Ok(())
 }
 
 /// Adds a command's name and an identifier.

@@ -1,6 +1,7 @@
 //! The lines of links: which of them are taken, what they spell, and how that is written.
 
 use crate::line_rows::{faults, spell};
+use std::alloc::Global;
 use std::test::Fail;
 
 const LINES: &[(&str, u8)] = &[
@@ -49,6 +50,61 @@ const LINES: &[(&str, u8)] = &[
     ("unlink 1", 1),
 ];
 
+const FORGED: &[(&str, u8)] = &[
+    ("forge 08010203 00", 0),
+    ("forge 00010203040506070809 1120 2080 00", 0),
+    ("forge 08010203 1 2 3", 1),
+    ("forge 08010203 112", 1),
+    ("forge 08010203 1120 11G0", 1),
+    ("forge 08010203 -", 1),
+    ("forge 08010203 1120 -", 1),
+    ("forge 08010203 1120 ", 1),
+    ("forge 08010203  1120", 1),
+    ("forge 08010203 1120  1120", 1),
+    ("forge 08010203", 1),
+    ("forge 08010203 ", 1),
+    ("forge", 1),
+    ("forge ", 1),
+    ("forge 1120", 1),
+    ("forge 0801020304 1120", 1),
+    ("forge E004010203040506 1120", 1),
+    ("forge 88010203 1120", 1),
+    ("Forge 08010203 1120", 1),
+    ("forge 08010203 gen:1:1", 1),
+    (
+        "forge 08010203 00 01 02 03 04 05 06 07 08 09 0A 0B 0C 0D 0E 0F",
+        0,
+    ),
+    (
+        "forge 08010203 00 01 02 03 04 05 06 07 08 09 0A 0B 0C 0D 0E 0F 10",
+        1,
+    ),
+];
+
+#[test]
+fn lines_of_payloads(rt: HostRuntime) {
+    faults(&rt, rt.alloc(), FORGED);
+}
+
+/// A line of one payload of so many bytes.
+fn line_of(alloc: Global, bytes: usize) -> Result<String, Fail> {
+    let mut line = String::new(alloc);
+    line.push_str("forge 08010203 ")?;
+    for _ in 0..bytes {
+        line.push_str("5A")?;
+    }
+    Ok(line)
+}
+
+#[test]
+fn the_longest_payload(rt: HostRuntime) -> Result<(), Fail> {
+    for (bytes, wanted) in [(1, 0), (2177, 0), (2178, 0), (2179, 1)] {
+        let line = line_of(rt.alloc(), bytes)?;
+        faults(&rt, rt.alloc(), &[(line.as_str(), wanted)]);
+    }
+    Ok(())
+}
+
 #[test]
 fn lines_of_links(rt: HostRuntime) {
     faults(&rt, rt.alloc(), LINES);
@@ -66,6 +122,11 @@ fn values_of_links(rt: HostRuntime) -> Result<(), Fail> {
             "put gen:3:255",
             "put gen:3:255",
             "Put { message: Gen { count: 3, start: 255 } }",
+        ),
+        (
+            "forge 080102fF 1121 13210010020000000a",
+            "forge 080102FF 1121 13210010020000000A",
+            "Forge { id: Ident { bytes: [8, 1, 2, 255] }, payloads: Items { owned: [Items { owned: [17, 33] }, Items { owned: [19, 33, 0, 16, 2, 0, 0, 0, 10] }] } }",
         ),
         ("unlink", "unlink", "Unlink"),
     ];

@@ -5,8 +5,8 @@ ghost use Rattle.bench_script.specs.Words.{SpellsNone};
 ghost use Rattle.bench_script.specs.Script.{words_of, SpelledBy};
 
 use super::words::{
-    hex_word, ident_word, long_word, message_word, name_word, only_word, small_word, three_words,
-    two_words, within_word,
+    cut_word, hex_word, ident_word, long_word, message_word, name_word, only_word, payload_words,
+    small_word, three_words, two_words, within_word,
 };
 use super::{LEAST_MIU, LEAST_RW, LineFault, MOST_MIU, MOST_RW};
 use crate::command::Command;
@@ -29,6 +29,21 @@ pub fn link_line(alloc: Global, rest: &[u8]) -> Result<Command, LineFault>
     let miu = within_word(alloc, miu_text, LEAST_MIU, MOST_MIU)?;
     let rw = small_word(alloc, rw_text, LEAST_RW, MOST_RW)?;
     Ok(Command::Link { id, miu, rw })
+}
+
+/// `forge ID HEX ..`, behind its first word.
+#[tactic(auto, using(crate::proofs::Words::words_not_nil))]
+pub fn forge_line(alloc: Global, rest: &[u8]) -> Result<Command, LineFault>
+    ensures ok { IfOk result (λ c. SpelledBy (codes "forge" ∷ words_of rest.now) c) }
+    ensures refused { IsErrOf result LineFault.Refused → SpellsNone (codes "forge" ∷ words_of rest.now) }
+{
+    let (id_text, rest) = cut_word(rest);
+    let Some(rest) = rest else {
+        return Err(LineFault::Refused);
+    };
+    let id = ident_word(alloc, id_text)?;
+    let payloads = payload_words(alloc, rest)?;
+    Ok(Command::Forge { id, payloads })
 }
 
 /// `put MSG`, behind its first word.
