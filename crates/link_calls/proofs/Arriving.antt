@@ -4,7 +4,7 @@ use Rattle.std.specs.List.{AllByRecursion}
 use Rattle.std.proofs.lemmas.List.{drop-append-le}
 use Rattle.std.proofs.Math.Seq.{drop-length}
 use Rattle.nfc_base.specs.Choosing.{Choosing, first_number, later_numbers}
-use Rattle.nfc_base.specs.Links.{BySwaps, FarStep, Stepped, Stopped, FarMoved}
+use Rattle.nfc_base.specs.Links.{FarStep, Stepped, Stopped, FarMoved}
 use Rattle.nfc_base.specs.LinkTurns.{arrived}
 use Rattle.nfc_base.proofs.LinkTurns.{arrived_append}
 use Rattle.nfc_base.specs.declared.event.Event.{Event}
@@ -32,9 +32,7 @@ use Rattle.llcp_link.specs.Counting.{AnswersCounted, StopsCounted}
 use Rattle.snep_core.specs.Accord.{PeerState}
 use Rattle.snep_core.specs.Calling.{payloads}
 use Rattle.snep_core.specs.Server.{serving}
-use Rattle.snep_core.specs.Talk.{Step, Goes, Ends, GivesUp, Told, replied}
 use Rattle.link_calls.specs.Arriving.{Arrives, IsCounted, StopsAtLast, all_answered, answered}
-use Rattle.link_calls.specs.CallTurns.{swaps}
 
 -- whole steps of a far end, with payloads of bytes
 abbrev pub AreWhole : List FarStep → Type 0
@@ -117,20 +115,6 @@ module _ {L : Type 0} (k : Ghosts L) (target : L → TargetState) where
   pub none_yet : (a : DepSeen L) (old : Air L) (i : InitState) → a ≡ first_seen old i → brought a.first (since a) ≡ []
   none_yet a old i is =
       ap (λ (p : DepSeen L). brought p.first (since p)) is ∙ ap (brought i.core.number) (drop-length old.trace)
-
-  module _ {C : Type 0} (see : C → DepSeen L) where
-    -- the steps of a call are whole
-    pub told_whole : (ns : List ℕ) (did : List FarStep) (from to : Step) (a b : C) → Told ns from did to → BySwaps (swaps k target see) did a b → AreWhole did
-    told_whole ns [] from to a b told by = tt
-    told_whole ns (x ∷ did) (Ends jobs l) to a b told by = absurd told
-    told_whole ns (x ∷ did) (GivesUp l) to a b told by = absurd told
-    told_whole ns (Stopped out ∷ did) (Goes w) to a b told by = absurd told
-    told_whole ns (Stepped out reply ∷ did) (Goes w) to a b (o, told) (mid, one, by) =
-        (one.bytes, told_whole (later_numbers ns) did (replied (first_number ns) w reply) to mid b told by)
-
-    pub firsts : (did : List FarStep) (a b : C) → BySwaps (swaps k target see) did a b → (see b).first ≡ (see a).first
-    firsts [] a b e = ap (λ z. (see z).first) e
-    firsts (x ∷ did) a b (mid, one, rest) = firsts did mid b rest ∙ one.same.0
 
 -- RLS_REQ brings nothing, whatever comes back of it.
 abbrev pub BringNothing : List Event → Type 0

@@ -101,6 +101,6 @@ module _ {L : Type 0} (k : Ghosts L) (target : L → TargetState) (ns : List ℕ
   pub put_failed : (m : List ℕ) (x : SnepFault) → Fell (Puts m) x → (Accords client old.far.end → PutFails client_sap m old.far.end x left new.far.end) → TaskCalled k target ns (Puts m) client old (came_to (λ (e : Ending). e) (Err x)) left new
   put_failed m = by_fault (Puts m) (λ e. PutFails client_sap m old.far.end e left new.far.end) (λ w s. s) (λ e s. s)
 
-  pub get_failed : (most : ℕ) (key : List ℕ) (x : SnepFault) → Fell (Gets most key) x → (Accords client old.far.end → GetFails most key old.far.end x left new.far.end)
+  pub get_failed : (most : ℕ) (key : List ℕ) (x : SnepFault) → Fell (Gets most key) x → (Accords client old.far.end → GetFails client_sap most key old.far.end x left new.far.end)
       → TaskCalled k target ns (Gets most key) client old (came_to (λ (e : Ending). e) (Err x)) left new
-  get_failed most key = by_fault (Gets most key) (λ e. GetFails most key old.far.end e left new.far.end) (λ w s. s) (λ e s. s)
+  get_failed most key = by_fault (Gets most key) (λ e. GetFails client_sap most key old.far.end e left new.far.end) (λ w s. s) (λ e s. s)

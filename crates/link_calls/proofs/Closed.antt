@@ -37,11 +37,12 @@ use Rattle.link_calls.specs.ClosingDue.{Releasing, closing_at, closing_due_at}
 use Rattle.link_calls.specs.Closing.{ClosingTurns, ClosingFails, HaltsAtRls, SendsRls, IsReleased}
 use Rattle.link_calls.specs.Staying.{setting_of}
 use Rattle.link_calls.proofs.Arriving.{release_brings}
-use Rattle.link_calls.proofs.Made.{peer_table, peer_kind, reaches, made, cut_off, within}
+use Rattle.link_calls.proofs.Walked.{peer_table, peer_kind}
+use Rattle.link_calls.proofs.Made.{reaches, made, cut_off, within}
 use Rattle.link_calls.proofs.Closes.{of_call, with_release}
 
 due_same : (s : CallStanding) (f : Signal) → call_due_at s ≡ Asks f → closing_due_at (closing_at s) ≡ Asks f
-due_same (Carries w ks q) f e = e
+due_same (Carries w q) f e = e
 due_same (Comes to i) f e = absurd cc
 due_same (BrokenBy c) f e = absurd cc
 due_same Strays f e = absurd cc

@@ -22,7 +22,8 @@ use Rattle.peer_air.specs.Aside.{AsideBut}
 use Rattle.peer_air.specs.SwapTurns.{Stands}
 use Rattle.peer_air.proofs.Aside.{aside_turns}
 use Rattle.snep_core.specs.Talk.{Step}
-use Rattle.link_calls.specs.CallDue.{CallStanding, Carries, Comes, BrokenBy, Strays, call_at, carried, call_on, call_due, call_due_at, call_stand}
+use Rattle.link_calls.specs.CallDue.{CallStanding, Carries, Comes, BrokenBy, Strays, by_client, call_at, call_on, call_due, call_due_at, call_stand}
+use Rattle.link_calls.specs.Walk.{walk_carried}
 use Rattle.link_calls.specs.CallTurns.{CallTurns}
 use Rattle.link_calls.specs.ClosingDue.{ClosingStanding, Releasing, closing_at, closing_noted, closing_on, closing_due, closing_due_at}
 use Rattle.link_calls.specs.Closing.{ClosingTurns}
@@ -34,7 +35,7 @@ strays (n ∷ ns) = strays ns
 -- while its call goes on a closing stands by it
 follows : (c : CallStanding) (ns : List Note) (s : CallStanding) → call_on c ns ≡ s → (s ≡ Strays → ⊥) → closing_on (closing_at c) ns ≡ closing_at s
 follows c [] s e never = ap closing_at e
-follows (Carries w ks q) (n ∷ ns) s e never = follows (carried w ks (noted q n)) ns s e never
+follows (Carries w q) (n ∷ ns) s e never = follows (walk_carried by_client w (noted q n)) ns s e never
 follows (Comes to i) (n ∷ ns) s e never = absurd (never (sym e ∙ strays ns))
 follows (BrokenBy c) (n ∷ ns) s e never = absurd (never (sym e ∙ strays ns))
 follows Strays (n ∷ ns) s e never = absurd (never (sym e ∙ strays ns))
@@ -48,7 +49,7 @@ asks_same : (numbers : List ℕ) (from : Step) (i : InitState) (ns : List Note) 
 asks_same numbers from i ns d e demand = go (call_stand numbers from i ns) refl e
   where
     go : (q : CallStanding) → call_stand numbers from i ns ≡ q → call_due_at q ≡ d → closing_due numbers from i ns ≡ d
-    go (Carries w ks s) at due = ap closing_due_at (follows (call_at numbers from i) ns (Carries w ks s) at (λ z. cc)) ∙ due
+    go (Carries w s) at due = ap closing_due_at (follows (call_at numbers from i) ns (Carries w s) at (λ z. cc)) ∙ due
     go (Comes to j) at due = absurd (subst IsDemand (sym due) demand)
     go (BrokenBy c) at due = absurd (subst IsDemand (sym due) demand)
     go Strays at due = absurd (subst IsDemand (sym due) demand)

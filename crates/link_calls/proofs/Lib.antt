@@ -1,7 +1,10 @@
 pub mod Settings
 pub mod Arriving
-pub mod CallWalk
 pub mod Open
+pub mod Walk
+pub mod Walked
+pub mod Swapping
+pub mod CallWalk
 pub mod Made
 mod Called
 pub mod Closes

@@ -1,28 +1,24 @@
 -- A client's call over a link to a peer, in the world with far ends: each request was due by what was heard before it
 -- (NFCIP-1, ISO/IEC 18092; NFC Forum SNEP 1.0; the air is this project's own).
-use Rattle.std.specs.Prelude.{◌≡◌, ◌⊎◌, ℕ, List, Bool, true, Option, None}
+use Rattle.std.specs.Prelude.{◌≡◌, ℕ, List, Bool, Option, None}
 use Rattle.nfc_base.specs.Choosing.{Choosing}
-use Rattle.nfc_base.specs.Signal.{Signal}
 use Rattle.nfc_base.specs.Links.{CarrierView, FarStep}
-use Rattle.nfc_base.specs.declared.event.Event.TheVariants.{Request}
-use Rattle.nfc_base.specs.declared.event.Fate.TheVariants.{Pass}
 use Rattle.nfc_base.specs.declared.carrier.EndCause.TheVariants as cause
-use Rattle.air_core.specs.Turn.{Air, moment, after_event}
-use Rattle.air_core.specs.Conversation.{Note, Next, Asks, first_fate, later_fates}
+use Rattle.air_core.specs.Turn.{Air}
+use Rattle.air_core.specs.Conversation.{Next}
 use Rattle.air_core.specs.declared.listener.Listener.{Ghosts}
 use Rattle.dep_link.specs.Target.{TargetState}
 use Rattle.dep_link.specs.Initiator.{InitState}
 use Rattle.dep_link.specs.DepLinks.{DepSeen, dep_swaps, dep_view}
-use Rattle.dep_link.specs.Stopping.{HeardUpTo}
 use Rattle.far_air.specs.FarEnds.{FarTable}
 use Rattle.far_air.specs.FarLaws.{IsFarTable, IsLinked, IsOfTable}
-use Rattle.far_air.specs.FarTurns.{FarGoing}
 use Rattle.peer_air.specs.SwapTurns.{Stands}
 use Rattle.snep_core.specs.declared.fault.SnepFault.{SnepFault}
 use Rattle.snep_core.specs.declared.fault.SnepFault.TheVariants.{LinkEnded, Memory}
 use Rattle.snep_core.specs.Talk.{EndState, Step, numbers_behind}
 use Rattle.snep_core.specs.Calling.{Talks, Breaks}
-use Rattle.link_calls.specs.CallDue.{CallStanding, BrokenBy, Strays, call_at, call_stand, call_due, call_due_at}
+use Rattle.link_calls.specs.WalkTurns.{HaltsAt, WalkTurns, WalkFront}
+use Rattle.link_calls.specs.CallDue.{CallStanding, BrokenBy, by_client, call_at, next_of}
 
 -- what a call sees of what shows a link to a peer
 abbrev pub sees : {L C : Type 0} → (C → DepSeen L) → C → CarrierView
@@ -35,33 +31,18 @@ swaps k target see a out did b = dep_swaps k target (see a) out did (see b)
 module _ {L F : Type 0} (k : Ghosts L) (target : L → TargetState) (linked : L → Bool) (t : FarTable F) where
   -- From one moment of a field to another the requests of a call were made, with these numbers of PDUs: each was due,
   -- this was heard, and it brought the call to where it stands.
-  pub record CallTurns (numbers : List ℕ) (from : Step) (i : InitState) (old new : Air L) (place : ℕ) (os : List (Option F)) (far after : Choosing F) (s : CallStanding) : Type 0 where
-    pub notes : List Note
-    pub going : FarGoing k.machine linked t (call_due numbers from i) (moment old) (moment new) notes place os far after
-    pub stands : call_stand numbers from i notes ≡ s
+  abbrev pub CallTurns : List ℕ → Step → InitState → Air L → Air L → ℕ → List (Option F) → Choosing F → Choosing F → CallStanding → Type 0
+  CallTurns numbers from i old new place os far after s = WalkTurns k linked t by_client (next_of numbers from) i old new place os far after s
 
   -- A far end that stops as it takes a payload is left so.
   module _ (halts : Choosing F → List ℕ → Choosing F → Type 0) where
-    -- The request passed that was due, and as it handed a payload over the far end stopped for want of memory: it was
-    -- heard up to the peer, and nothing came back of it.
-    pub record HaltsInCall (due : Next) (mid new : Air L) (half after : Choosing F) : Type 0 where
-      pub sent : Signal
-      pub asked : due ≡ Asks sent
-      pub passes : first_fate mid.fates ≡ Pass
-      pub payload : List ℕ
-      pub listeners : List L
-      pub heard : HeardUpTo k.machine sent payload mid.listeners listeners
-      pub left : new ≡ after_event mid (Request sent Pass) (later_fates mid.fates) (record { lit = true; listeners = listeners })
-      pub halted : halts half payload after
+    -- The request passed that was due, and as it handed a payload over the far end stopped for want of memory.
+    abbrev pub HaltsInCall : Next → Air L → Air L → Choosing F → Choosing F → Type 0
+    HaltsInCall due mid new half after = HaltsAt k linked t halts due mid new half after
 
     -- Behind such requests nothing more happened, or the far end stopped at one more.
-    pub record CallFront (numbers : List ℕ) (from : Step) (i : InitState) (old new : Air L) (place : ℕ) (os : List (Option F)) (far after : Choosing F) : Type 0 where
-      pub standing : CallStanding
-      pub mid : Air L
-      pub half : Choosing F
-      pub turns : CallTurns numbers from i old mid place os far half standing
-      pub under_way : standing ≡ Strays → ⊥
-      pub left : ((new ≡ mid) × (after ≡ half)) ⊎ HaltsInCall (call_due_at standing) mid new half after
+    abbrev pub CallFront : List ℕ → Step → InitState → Air L → Air L → ℕ → List (Option F) → Choosing F → Choosing F → Type 0
+    CallFront numbers from i old new place os far after = WalkFront k linked t halts by_client (next_of numbers from) i old new place os far after
 
     -- how a call was cut off: by its link, or by want of memory
     abbrev pub CutBy : List ℕ → Step → InitState → Air L → Air L → ℕ → List (Option F) → Choosing F → Choosing F → SnepFault → Type 0

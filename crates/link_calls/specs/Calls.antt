@@ -1,84 +1,45 @@
 -- What a client's call over the open link of a field does, and how it leaves the link (NFC Forum LLCP 1.3 and SNEP
 -- 1.0).
-use Rattle.std.specs.Prelude.{◌≡◌, ◌⊎◌, ℕ, ◌<◌, List, length, drop, Bool, true, Option, Some, None}
+use Rattle.std.specs.Prelude.{◌≡◌, ◌⊎◌, ℕ, List}
 use Rattle.nfc_base.specs.Choosing.{Choosing}
-use Rattle.nfc_base.specs.Trace.{noise}
 use Rattle.nfc_base.specs.declared.carrier.EndCause.{EndCause}
 use Rattle.nfc_base.specs.declared.carrier.EndCause.TheVariants as cause
 use Rattle.air_core.specs.Turn.{Air}
 use Rattle.air_core.specs.declared.listener.Listener.{Ghosts}
 use Rattle.dep_link.specs.Target.{TargetState}
 use Rattle.dep_link.specs.Initiator.{InitState}
-use Rattle.dep_link.specs.DepLinks.{DepSeen, Swap, Chained, IsInStep, first_seen, over_at}
-use Rattle.far_air.specs.FarLaws.{IsLinked}
-use Rattle.peer_air.specs.PeerFars.{peer_ends}
-use Rattle.peer_air.specs.SwapTurns.{Stands}
 use Rattle.snep_core.specs.declared.fault.SnepFault.{SnepFault}
 use Rattle.snep_core.specs.declared.fault.SnepFault.TheVariants.{BadPeer, LinkEnded, Memory}
 use Rattle.snep_core.specs.declared.job.Refusal.{Refusal}
-use Rattle.llcp_link.specs.Counting.{StopsCounted}
 use Rattle.snep_core.specs.Accord.{PeerState}
-use Rattle.snep_core.specs.Server.{serving}
 use Rattle.snep_core.specs.Calling.{gives_up, refused_by}
 use Rattle.snep_core.specs.declared.job.Job.TheVariants.{Over}
 use Rattle.snep_core.specs.declared.job.Ending.TheVariants.{Refused}
 use Rattle.snep_core.specs.Talk.{CameTo, EndState, Step, Ends, alone}
-use Rattle.link_calls.specs.CallDue.{CallStanding, BrokenBy, Comes}
-use Rattle.link_calls.specs.CallTurns.{CallTurns, CallFront}
-use Rattle.link_calls.specs.Arriving.{Arrives, ArrivesCut, IsCounted}
-use Rattle.link_calls.specs.Staying.{setting_of}
+use Rattle.link_calls.specs.CallDue.{CallStanding, by_client, next_of}
+use Rattle.link_calls.specs.Carrying.{WalkComes, IsWalked, IsWalkEnded, IsWalkShort}
+pub use Rattle.link_calls.specs.Carrying.{IsOpen, IsCarried}
 
 module _ {L : Type 0} (k : Ghosts L) (target : L → TargetState) where
-  -- A link is open: the field is lit, and in it a peer is selected, alone and in step with the initiator, whose last
-  -- exchange didn't end by a fault.
-  pub record IsOpen (air : Air L) (i : InitState) : Type 0 where
-    pub in_step : IsInStep k target air i
-    pub going : over_at i.phase true ≡ None
-
-  -- From a moment of the field, its initiator and its peer's end to others payloads were swapped over the link, which
-  -- is over by this cause then, or isn't. What arrived at the peer its end answered, counted from the initiator's number; a
-  -- link that isn't over is counted to that number again. So nothing changes that is set of the end.
-  pub record IsCarried (old : Air L) (i : InitState) (far : Choosing PeerState) (new : Air L) (j : InitState) (after : Choosing PeerState) (over : Option EndCause) : Type 0 where
-    pub at : DepSeen L
-    pub left : (at.air ≡ new) × (at.initiator ≡ j) × (at.over ≡ over)
-    pub swaps : List Swap
-    pub chain : Chained k target swaps (first_seen old i) at
-    pub arrives : Arrives i.core.number (drop (length old.trace) new.trace) far after
-    pub counted : over ≡ None → IsCounted i.core.number (drop (length old.trace) new.trace) j.core.number
-    pub setting : setting_of after.end ≡ setting_of far.end
-
   -- A call on an open link, from a moment of the field, its initiator and its peer's end to others. These numbers say
   -- how many PDUs each of its payloads has, and those that are left to the peer's end the same of its replies.
   module _ (numbers : List ℕ) (from : Step) (old : Air L) (i : InitState) (far : Choosing PeerState) (new : Air L) (j : InitState) (after : Choosing PeerState) where
     -- In the world with the far ends of peers, at the place of this one, each of its requests was due, and what was
     -- heard brought it to where it stands so.
     abbrev pub CallComes : CallStanding → Type 0
-    CallComes s =
-        (linked : L → Bool) → IsLinked k.machine linked → (place : ℕ) → Stands k target linked peer_ends old place → (os : List (Option PeerState))
-        → CallTurns k target linked peer_ends numbers from i old new place os far after s
+    CallComes s = WalkComes k target by_client (next_of numbers from) old i far new j after s
 
-    -- It came to its end: what was heard tells how, and where the initiator rests. The link is open, and its peer
-    -- stands where it stood.
-    pub record IsMade (to : Step) : Type 0 where
-      pub open_ : IsOpen new j
-      pub turns : CallComes (Comes to j)
-      pub there : (linked : L → Bool) → IsLinked k.machine linked → (place : ℕ) → Stands k target linked peer_ends old place
-          → Stands k target linked peer_ends new place
-      pub carried : IsCarried old i far new j after None
+    -- It came to its end.
+    abbrev pub IsMade : Step → Type 0
+    IsMade to = IsWalked k target by_client (next_of numbers from) old i far new j after to
 
-    -- Its link ended by this cause. Six bad receptions have a transmission that didn't pass.
-    pub record IsEndedBy (c : EndCause) : Type 0 where
-      pub turns : CallComes (BrokenBy c)
-      pub carried : IsCarried old i far new j after (Some c)
-      pub noisy : c ≡ cause.SixBad → 0 < noise (drop (length old.trace) new.trace)
+    -- Its link ended by this cause.
+    abbrev pub IsEndedBy : EndCause → Type 0
+    IsEndedBy c = IsWalkEnded k target by_client (next_of numbers from) old i far new j after c
 
-    -- Memory was wanting: there is a front of it, the peer's end answered what arrived, but for the last payload where it
-    -- stopped at that, and nothing that is set of the end changed.
-    pub record IsCutShort : Type 0 where
-      pub front : (linked : L → Bool) → IsLinked k.machine linked → (place : ℕ) → Stands k target linked peer_ends old place → (os : List (Option PeerState))
-          → CallFront k target linked peer_ends (StopsCounted serving) numbers from i old new place os far after
-      pub arrives : ArrivesCut i.core.number (drop (length old.trace) new.trace) far after
-      pub setting : setting_of after.end ≡ setting_of far.end
+    -- Memory was wanting.
+    abbrev pub IsCutShort : Type 0
+    IsCutShort = IsWalkShort k target by_client (next_of numbers from) old i far new j after
 
     -- It was cut off, by its link or by want of memory.
     abbrev pub IsCutOff : SnepFault → Type 0

@@ -20,7 +20,7 @@ abbrev pub closing_at : CallStanding → ClosingStanding
 closing_at (Comes (Ends jobs l) i) = Releasing (Ends jobs l)
 closing_at (Comes (GivesUp l) i) = Calls (Comes (GivesUp l) i)
 closing_at (Comes (Goes w) i) = Calls (Comes (Goes w) i)
-closing_at (Carries w ns s) = Calls (Carries w ns s)
+closing_at (Carries w s) = Calls (Carries w s)
 closing_at (BrokenBy cause) = Calls (BrokenBy cause)
 closing_at Strays = Calls Strays
 

@@ -1,5 +1,10 @@
 pub mod Staying
 pub mod Arriving
+pub mod Walk
+pub mod WalkTurns
+pub mod Walking
+pub mod Carrying
+pub mod Exchanging
 pub mod CallDue
 pub mod CallTurns
 pub mod Calls

@@ -66,9 +66,9 @@ pub fn get_on<L: PeerListener>(
         field.old initiator.old far.old field.new initiator.new far.new client.new.llc e) }
     ensures spent { IfErr result (λ e. client.new.spent ≡ is_memory e) }
     ensures value { Accords client.old.llc far.old.end
-        → IfOk result (λ value. IsGot acceptable key.now value.items far.old.end client.new.llc far.new.end) }
+        → IfOk result (λ value. IsGot client_sap acceptable key.now value.items far.old.end client.new.llc far.new.end) }
     ensures fails { Accords client.old.llc far.old.end
-        → IfErr result (λ e. GetFails acceptable key.now far.old.end e client.new.llc far.new.end) }
+        → IfErr result (λ e. GetFails client_sap acceptable key.now far.old.end e client.new.llc far.new.end) }
 {
     let mut pair = DepPair::on(field, initiator);
     client.get(&mut pair, far, counts, acceptable, key)

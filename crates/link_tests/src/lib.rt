@@ -14,6 +14,8 @@ mod call_tests;
 #[cfg(test)]
 mod dep_tests;
 #[cfg(test)]
+mod exchange_tests;
+#[cfg(test)]
 mod field_tests;
 #[cfg(test)]
 mod meeting;
