@@ -4,7 +4,7 @@ use Rattle.std.specs.List.{AllByRecursion}
 use Rattle.nfc_base.specs.declared.event.Event.{Event}
 use Rattle.nfc_base.specs.declared.event.Event.TheVariants.{Reset, Request, Answer, Clash}
 use Rattle.nfc_base.specs.declared.event.Fate.TheVariants.{Pass, Damage, Lose, Break}
-use Rattle.nfc_base.specs.declared.frame.Tech.TheVariants.{A, V}
+use Rattle.nfc_base.specs.declared.frame.Tech.TheVariants.{A, V, F}
 use Rattle.nfc_base.specs.Signal.{Signal}
 use Rattle.nfc_base.specs.Trace.{breaks, back_of}
 use Rattle.nfc_base.specs.Trace as backs
@@ -14,7 +14,7 @@ use Rattle.air_core.specs.Conversation.{EachDue}
 use Rattle.nfca_poll.specs.Enquiry.{enquiring}
 use Rattle.nfca_poll.specs.Rounds.{all_devices, finding}
 use Rattle.bench_devices.specs.declared.device.Device.{Device}
-use Rattle.bench_devices.specs.declared.device.Device.TheVariants.{T2, T4, Peer, T5}
+use Rattle.bench_devices.specs.declared.device.Device.TheVariants.{T2, T4, Peer, T5, T3}
 use Rattle.bench_devices.specs.Device.{devices}
 use Rattle.bench_devices.specs.Keeping.{EachAsked}
 use Rattle.air_core.proofs.Following.{light_is_no_request}
@@ -31,6 +31,7 @@ woken : (ds : List Device) → AreAwake (map (λ l. devices.woken (devices.darke
 woken [] = tt
 woken (T2 d ∷ ds) = (tt, woken ds)
 woken (T4 d ∷ ds) = (tt, woken ds)
+woken (T3 p ∷ ds) = (tt, woken ds)
 woken (Peer d ∷ ds) = (tt, woken ds)
 woken (T5 p ∷ ds) = ((refl, refl, refl), woken ds)
 
@@ -38,6 +39,7 @@ woken (T5 p ∷ ds) = ((refl, refl, refl), woken ds)
 step_leaves : (f : Signal) (d : Device) → f.tech ≡ A → IsAwake d → IsAwake (stepped_by devices d f None)
 step_leaves f (T2 d) a h = subst (λ t. IsAwake (if same_tech A t then devices.after (T2 d) f None else T2 d)) (sym a) tt
 step_leaves f (T4 d) a h = subst (λ t. IsAwake (if same_tech A t then devices.after (T4 d) f None else T4 d)) (sym a) tt
+step_leaves f (T3 p) a h = subst (λ t. IsAwake (if same_tech F t then devices.after (T3 p) f None else T3 p)) (sym a) tt
 step_leaves f (Peer d) a h = subst (λ t. IsAwake (if same_tech A t then devices.after (Peer d) f None else Peer d)) (sym a) tt
 step_leaves f (T5 p) a h = subst (λ t. IsAwake (if same_tech V t then devices.after (T5 p) f None else T5 p)) (sym a) h
 

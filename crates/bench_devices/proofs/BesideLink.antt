@@ -16,9 +16,9 @@ use Rattle.air_core.proofs.PlainAside.{aside_silent}
 use Rattle.dep_link.specs.Answering.{reply_for, answering, answering_air}
 use Rattle.peer_air.specs.Aside.{AsideBut}
 use Rattle.bench_devices.specs.declared.device.Device.{Device}
-use Rattle.bench_devices.specs.declared.device.Device.TheVariants.{T2, T4, Peer, T5}
-use Rattle.bench_devices.specs.declared.polling.SeenKind.TheVariants as seen
-use Rattle.bench_devices.specs.Device.{devices, device_tech, device_selected, seen_of}
+use Rattle.bench_devices.specs.declared.device.Device.TheVariants.{T2, T4, Peer, T5, T3}
+use Rattle.bench_devices.specs.Kinds.{PeerKind}
+use Rattle.bench_devices.specs.Device.{devices, device_tech, device_selected, kind_of}
 use Rattle.bench_devices.specs.Keeping.{Kept, ghosts, kept, EachAsked}
 use Rattle.bench_devices.specs.Beside.{PeerAt, TalkLeaves}
 use Rattle.bench_devices.specs.Phases.{IsTidy}
@@ -33,7 +33,7 @@ at_aside own place [] a = absurd a
 at_aside own zero (l ∷ ls) a = a.1
 at_aside own (suc place) (l ∷ ls) a = (a.0, at_aside own place ls a.1)
 
-pub at_split : (own : List ℕ) (before : List Device) (d : Device) (behind : List Device) → seen_of d ≡ seen.Peer → AllByRecursion (IsAside ghosts own) before
+pub at_split : (own : List ℕ) (before : List Device) (d : Device) (behind : List Device) → kind_of d ≡ PeerKind → AllByRecursion (IsAside ghosts own) before
     → AllByRecursion (IsAside ghosts own) behind → PeerAt own (length before) (before ++ d ∷ behind)
 at_split own [] d behind is first later = (is, later)
 at_split own (b ∷ before) d behind is first later = (first.0, at_split own before d behind is first.1 later)
@@ -61,7 +61,7 @@ leaves_both own place a b c x y = record { same = y.same ∙ x.same; at = y.at; 
 
 module _ (own : List ℕ) where
   -- a change of each device
-  module _ (g : Device → Device) (one : (l : Device) → seen_of l ≡ seen.Peer → kept (g l) ≡ kept l) (other : (l : Device) → IsAside ghosts own l → (kept (g l) ≡ kept l) × IsAside ghosts own (g l))
+  module _ (g : Device → Device) (one : (l : Device) → kind_of l ≡ PeerKind → kept (g l) ≡ kept l) (other : (l : Device) → IsAside ghosts own l → (kept (g l) ≡ kept l) × IsAside ghosts own (g l))
       (tidy : (l : Device) → IsTidy l → IsTidy (g l)) where
     both_kept : (k : Kept) (l : Device) (ks : List Kept) (ls : List Device) → k ≡ kept l → ks ≡ map kept ls → k ∷ ks ≡ kept l ∷ map kept ls
     both_kept k l ks ls e h = ap (λ x. x ∷ ks) e ∙ ap (λ xs. kept l ∷ xs) h
@@ -96,6 +96,7 @@ module _ (own : List ℕ) where
   lit_aside (T4 d) a = record { rests = λ h. (refl, refl); other = a.other }
   lit_aside (Peer d) a = record { rests = λ h. (refl, refl); other = a.other }
   lit_aside (T5 p) a = record { rests = λ h. absurd cc; other = a.other }
+  lit_aside (T3 p) a = record { rests = λ h. absurd cc; other = a.other }
 
   pub dark_leaves : (place : ℕ) (ls : List Device) → PeerAt own place ls → TalkLeaves own place ls (map devices.darkened ls)
   dark_leaves place ls a = map_leaves devices.darkened (λ l is. kept_dark l) (λ l b. (kept_dark l, dark_aside l b)) dark_tidy place ls a
@@ -126,11 +127,12 @@ module _ (own : List ℕ) where
           let here : step l ≡ stepped_by devices l f None = quiet_step l a in
           (ap kept here ∙ aside_keeps own A f l whole tt a, subst (IsAside ghosts own) (sym here) (aside_silent ghosts laws own A f whole tt l a).aside)
 
-      peer_step : (l : Device) → seen_of l ≡ seen.Peer → kept (step l) ≡ kept l
+      peer_step : (l : Device) → kind_of l ≡ PeerKind → kept (step l) ≡ kept l
       peer_step (T2 d) is = absurd cc
       peer_step (T4 d) is = absurd cc
       peer_step (Peer d) is = peer_kept d f (reply_for r (devices.handed (Peer d) f))
       peer_step (T5 p) is = absurd cc
+      peer_step (T3 p) is = absurd cc
 
       step_leaves : (place : ℕ) (ls : List Device) → PeerAt own place ls → TalkLeaves own place ls (map step ls)
       step_leaves place ls a = map_leaves step peer_step aside_step (λ l t. stepped_tidy f (reply_for r (devices.handed l f)) l t) place ls a

@@ -31,7 +31,7 @@ use Rattle.isodep_link.proofs.Heeding.{AreBytes}
 use Rattle.isodep_link.proofs.Obeyed.{keeps}
 use Rattle.tag_reader.specs.declared.how.How.TheVariants as hows
 use Rattle.bench_devices.specs.declared.device.Device.{Device}
-use Rattle.bench_devices.specs.declared.device.Device.TheVariants.{T2, T4, Peer, T5}
+use Rattle.bench_devices.specs.declared.device.Device.TheVariants.{T2, T4, Peer, T5, T3}
 use Rattle.bench_devices.specs.Device.{BenchWorld, air, devices, device_card, device_tag, how_of}
 use Rattle.bench_devices.specs.CardAsking.{CardStanding, Activates, Exchanges, told_code, card_stand, card_due}
 use Rattle.bench_devices.specs.Keeping.{ghosts}
@@ -279,3 +279,4 @@ has_fresh a place (T2 d) s four = absurd cc
 has_fresh a place (T4 d) s four = record { listener = T4 d; alone = stands_alone a place (T4 d) s; takes = takes_rats d s.sound s.selected s.unasked }
 has_fresh a place (Peer d) s four = absurd cc
 has_fresh a place (T5 p) s four = absurd cc
+has_fresh a place (T3 p) s four = absurd cc

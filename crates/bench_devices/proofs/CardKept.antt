@@ -46,15 +46,19 @@ use Rattle.isodep_link.proofs.Made.{stays_made, replied_made}
 use Rattle.bench_devices.specs.Uppers.{t4_upper}
 use Rattle.bench_devices.specs.Cards.{T4Near, card_now}
 use Rattle.bench_devices.specs.declared.device.Device.{Device}
-use Rattle.bench_devices.specs.declared.device.Device.TheVariants.{T2, T4, Peer, T5}
+use Rattle.bench_devices.specs.declared.device.Device.TheVariants.{T2, T4, Peer, T5, T3}
+use Rattle.bench_devices.specs.Kinds.{T2Kind, T3Kind, T4Kind, T5Kind}
 use Rattle.bench_devices.specs.Device.{devices, device_id, device_store, device_ready, device_selected, device_locks, no_target, by_card, on_link, did_if, says_of, t2_machine, t4_did, t4_machine}
 use Rattle.bench_devices.specs.Device.{air}
 use Rattle.bench_devices.specs.Keeping.{ghosts, Fixed, fixed, Kept, kept, EachAsked}
 use Rattle.bench_devices.specs.Standing.{at_rest, step_keeps}
 use Rattle.air_core.proofs.DueWaits.{due_all}
-use Rattle.bench_devices.specs.declared.polling.SeenKind.TheVariants as seen
 use Rattle.bench_devices.proofs.PeerMade.{peer_kept}
 use Rattle.bench_devices.proofs.SelectingKept.{IsHarmless, due_asked, kept_dark, kept_lit}
+use Rattle.t3t_tag.specs.Store.{T3State}
+use Rattle.t3t_tag.specs.Step.{t3_after}
+use Rattle.bench_devices.specs.Lights.{three_named, three_locks}
+use Rattle.bench_devices.specs.Powered.{Powered}
 
 -- What holds of the machine of a Type 4 device, with and without a link, holds of it behind a frame where it holds of what the
 -- frame leaves.
@@ -139,7 +143,7 @@ did_none u f none false = refl
 -- what stays of a Type 4 tag
 abbrev fixed_four : List ℕ → ℕ → List ℕ → CardState → Fixed
 fixed_four id code container made =
-    record { id = id; kind = seen.T4; how = hows.T4; size = 0; locked = []; code = code; container = container; made = made; target = no_target }
+    record { id = id; kind = T4Kind; how = hows.T4; size = 0; locked = []; code = code; container = container; made = made; target = no_target }
 
 abbrev tagged : List ℕ → T4State → CardState → Kept
 tagged id t made = record { fixed = fixed_four id t.code t.container made; store = store_of t }
@@ -168,6 +172,7 @@ rats_keeps (T2 d) = rats_two d.id d.front d.upper
 rats_keeps (T4 d) = four_keeps d rats rats_delivers_none
 rats_keeps (Peer d) = peer_kept d rats None
 rats_keeps (T5 p) = refl
+rats_keeps (T3 p) = refl
 
 -- RATS, however often it is sent, changes no device but in its state.
 pub rats_harmless : (ns : List Note) (f : Signal) → waits_next (rats ∷ []) ns ≡ Asks f → IsHarmless f
@@ -231,11 +236,26 @@ two_locks (Active starred) d f = active_locks d f (spelled_command f)
 -- What is fixed of a device stays at every frame, whether it hears it or not.
 abbrev fixed_two : List ℕ → List Bool → Fixed
 fixed_two id locked =
-    record { id = id; kind = seen.T2; how = hows.T2; size = 16; locked = locked; code = 0; container = []; made = ends.fresh 0; target = no_target }
+    record { id = id; kind = T2Kind; how = hows.T2; size = 16; locked = locked; code = 0; container = []; made = ends.fresh 0; target = no_target }
 
 abbrev fixed_five : List ℕ → ℕ → List Bool → Fixed
 fixed_five id size locked =
-    record { id = id; kind = seen.T5; how = hows.T5 id; size = size; locked = locked; code = 0; container = []; made = ends.fresh 0; target = no_target }
+    record { id = id; kind = T5Kind; how = hows.T5 id; size = size; locked = locked; code = 0; container = []; made = ends.fresh 0; target = no_target }
+
+abbrev fixed_three : List ℕ → List Bool → Fixed
+fixed_three id locked =
+    record { id = id; kind = T3Kind; how = hows.T2; size = 0; locked = locked; code = 0; container = []; made = ends.fresh 0; target = no_target }
+
+five_fixed : (p : Powered T5State) (f : Signal) (v : Bool) → fixed (T5 (if v then record { tag = t5_after p.tag f; lit = true } else p)) ≡ fixed (T5 p)
+five_fixed p f true =
+    let new : T5State = t5_after p.tag f in
+    let same = same_five p.tag f in
+    ap (λ id. fixed_five id new.size new.locked) same.id ∙ ap (λ n. fixed_five p.tag.id n new.locked) same.size ∙ ap (fixed_five p.tag.id p.tag.size) same.locked
+five_fixed p f false = refl
+
+three_fixed : (p : Powered T3State) (f : Signal) (v : Bool) → fixed (T3 (if v then record { tag = t3_after p.tag f; lit = true } else p)) ≡ fixed (T3 p)
+three_fixed p f true = ap (λ id. fixed_three id (t3_after p.tag f).locked) (three_named p.tag f) ∙ ap (fixed_three p.tag.id) (three_locks p.tag f)
+three_fixed p f false = refl
 
 heard_fixed : (d e : Device) → fixed e ≡ fixed d → (v : Bool) → fixed (if v then e else d) ≡ fixed d
 heard_fixed d e same true = same
@@ -256,15 +276,8 @@ fixed_step (T4 d) f =
     ∙ ap (fixed_four d.id d.upper.tag.code d.upper.tag.container) (four_made d f))
     (hears devices (T4 d) f)
 fixed_step (Peer d) f = ap (λ (k : Kept). k.fixed) (peer_kept d f None)
-fixed_step (T5 p) f =
-    let new : T5State = t5_after p.tag f in
-    let same = same_five p.tag f in
-    let lit : Device = T5 (record { tag = new; lit = true }) in
-    heard_fixed (T5 p) (devices.after (T5 p) f None)
-    (heard_fixed (T5 p) lit
-    (ap (λ id. fixed_five id new.size new.locked) same.id ∙ ap (λ n. fixed_five p.tag.id n new.locked) same.size ∙ ap (fixed_five p.tag.id p.tag.size) same.locked)
-    p.lit)
-    (hears devices (T5 p) f)
+fixed_step (T5 p) f = heard_fixed (T5 p) (devices.after (T5 p) f None) (five_fixed p f p.lit) (hears devices (T5 p) f)
+fixed_step (T3 p) f = heard_fixed (T3 p) (devices.after (T3 p) f None) (three_fixed p f p.lit) (hears devices (T3 p) f)
 
 -- no device of NFC-A that is ready or selected
 abbrev pub IsAtRest : Device → Type 0
@@ -292,24 +305,28 @@ rest_keeps (T2 d) bytes r = rest_two d.id d.front d.upper (whole_a bytes) (r ref
 rest_keeps (T4 d) bytes r = rest_four d.id d.front d.upper (whole_a bytes) (r refl).0 (r refl).1
 rest_keeps (Peer d) bytes r = peer_kept d (whole_a bytes) None
 rest_keeps (T5 p) bytes r = refl
+rest_keeps (T3 p) bytes r = refl
 
 pub rest_stays : (d : Device) (bytes : List ℕ) → IsAtRest d → IsAtRest (stepped_by devices d (whole_a bytes) None)
 rest_stays (T2 d) bytes r t = (let h = at_rest (T2 d) bytes refl (r refl).0 (r refl).1 in (h.2, h.3))
 rest_stays (T4 d) bytes r t = (let h = at_rest (T4 d) bytes refl (r refl).0 (r refl).1 in (h.2, h.3))
 rest_stays (Peer d) bytes r t = (let h = at_rest (Peer d) bytes refl (r refl).0 (r refl).1 in (h.2, h.3))
 rest_stays (T5 p) bytes r t = absurd cc
+rest_stays (T3 p) bytes r t = absurd cc
 
 pub dark_at_rest : (d : Device) → IsAtRest (devices.darkened d)
 dark_at_rest (T2 d) t = (refl, refl)
 dark_at_rest (T4 d) t = (refl, refl)
 dark_at_rest (Peer d) t = (refl, refl)
 dark_at_rest (T5 p) t = absurd cc
+dark_at_rest (T3 p) t = absurd cc
 
 pub lit_at_rest : (d : Device) → IsAtRest (devices.woken (devices.darkened d))
 lit_at_rest (T2 d) t = (refl, refl)
 lit_at_rest (T4 d) t = (refl, refl)
 lit_at_rest (Peer d) t = (refl, refl)
 lit_at_rest (T5 p) t = absurd cc
+lit_at_rest (T3 p) t = absurd cc
 
 -- A change of devices that leaves those at rest as they are but in their state, and of any other what is fixed.
 record IsStill (g : Device → Device) : Type 0 where

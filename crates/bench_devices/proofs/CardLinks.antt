@@ -20,8 +20,8 @@ use Rattle.tag_reader.specs.Kinds.{IsTag}
 use Rattle.tag_reader.proofs.Cards.{t4_tag}
 use Rattle.bench_devices.specs.Cards.{T4Near}
 use Rattle.bench_devices.specs.declared.device.Device.{Device}
-use Rattle.bench_devices.specs.declared.device.Device.TheVariants.{T2, T4, Peer, T5}
-use Rattle.bench_devices.specs.Device.{device_id, device_store, device_commands, device_card, device_tag, how_of, size_of, is_tag}
+use Rattle.bench_devices.specs.declared.device.Device.TheVariants.{T2, T4, Peer, T5, T3}
+use Rattle.bench_devices.specs.Device.{device_id, device_store, device_commands, device_card, device_tag, how_of, size_of, may_be_read}
 use Rattle.bench_devices.specs.Standing.{tag_holds}
 use Rattle.bench_devices.specs.Linking.{Linked, IsNewLink}
 use Rattle.bench_devices.specs.Keeping.{Kept, kept, IsSound, ghosts}
@@ -77,6 +77,7 @@ shows_four v (T2 y) how is kind state step = absurd cc
 shows_four v (T4 y) how is kind state step = t4_tag v y.upper.tag kind (sound_tag y is) state step
 shows_four v (Peer y) how is kind state step = absurd cc
 shows_four v (T5 p) how is kind state step = absurd cc
+shows_four v (T3 p) how is kind state step = absurd cc
 
 -- how many bytes a READ asks for says nothing of it
 resized : (size more : ℕ) (v : LinkView) → IsTag hows.T4 size v → IsTag hows.T4 more v
@@ -90,11 +91,12 @@ held_there (d ∷ ds) (suc n) = held_there ds n
 
 -- what a Type 4 tag does with commands is told by what is fixed of it
 -- a Type 4 tag is a tag
-pub four_tag : (d : Device) → how_of d ≡ hows.T4 → is_tag d ≡ true
+pub four_tag : (d : Device) → how_of d ≡ hows.T4 → may_be_read d ≡ true
 four_tag (T2 d) four = refl
 four_tag (T4 d) four = refl
 four_tag (Peer d) four = absurd cc
 four_tag (T5 p) four = refl
+four_tag (T3 p) four = absurd cc
 
 four_commands : (x d : Device) → how_of d ≡ hows.T4 → kept x ≡ kept d → device_commands x ≡ device_commands d
 four_commands (T2 x) d four same = absurd (let e : hows.T2 ≡ hows.T4 = ap (λ (k : Kept). k.fixed.how) same ∙ four in cc)
@@ -102,7 +104,9 @@ four_commands (T4 x) (T2 d) four same = absurd cc
 four_commands (T4 x) (T4 d) four same = ap t4_link_step (ap (λ (k : Kept). k.fixed.code) same)
 four_commands (T4 x) (Peer d) four same = absurd cc
 four_commands (T4 x) (T5 d) four same = absurd cc
+four_commands (T4 x) (T3 d) four same = absurd cc
 four_commands (Peer x) d four same = absurd (let e : hows.T2 ≡ hows.T4 = ap (λ (k : Kept). k.fixed.how) same ∙ four in cc)
+four_commands (T3 x) d four same = absurd (let e : hows.T2 ≡ hows.T4 = ap (λ (k : Kept). k.fixed.how) same ∙ four in cc)
 four_commands (T5 x) d four same = absurd (let e : hows.T5 x.tag.id ≡ hows.T4 = ap (λ (k : Kept). k.fixed.how) same ∙ four in cc)
 
 module _ (p : IsoSeen Device) (is : IsNewLink p) (d : Device) (l : Linked d p.air p.place p.reader) where

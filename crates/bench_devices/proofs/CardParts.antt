@@ -24,12 +24,12 @@ use Rattle.isodep_link.specs.Reader.{waiting}
 use Rattle.isodep_link.specs.declared.link.IsoLink.{IsoLink}
 use Rattle.tag_reader.specs.declared.how.How.TheVariants as hows
 use Rattle.bench_devices.specs.declared.device.Device.{Device}
-use Rattle.bench_devices.specs.declared.device.Device.TheVariants.{T2, T4, Peer, T5}
+use Rattle.bench_devices.specs.declared.device.Device.TheVariants.{T2, T4, Peer, T5, T3}
 use Rattle.bench_devices.specs.Device.{devices, device_id, device_card, device_tag, how_of, seen_of}
 use Rattle.bench_devices.specs.Answering.{TellsExchange, TellsCard, TellsBy, IsUnbrokenCard, GoesOnBy}
 use Rattle.bench_devices.specs.CardAsking as standing
 use Rattle.bench_devices.specs.CardAsking.{Exchanges, card_due, card_stands, card_next, tag_next}
-use Rattle.bench_devices.specs.Device.{air}
+use Rattle.bench_devices.specs.Device.{air, seen_of}
 use Rattle.bench_devices.specs.Linking.{Linked, AsksOn, IsNewLink, AsksSomeOn}
 use Rattle.bench_devices.specs.Keeping.{Kept, kept, ghosts, Changes, Leaves}
 use Rattle.bench_devices.proofs.EveryFrame.{IsSoundFor, leaves_more, leaves_then}
@@ -51,6 +51,7 @@ has_fresh a place (T2 d) s four = absurd cc
 has_fresh a place (T4 d) s four = record { listener = T4 d; alone = stands_alone a place (T4 d) s; takes = takes_rats d s.sound s.selected s.unasked }
 has_fresh a place (Peer d) s four = absurd cc
 has_fresh a place (T5 p) s four = absurd cc
+has_fresh a place (T3 p) s four = absurd cc
 
 -- what stays of the device at a place is what stays there
 pub at_kept : (ls : List Device) (place : ℕ) → at_place (λ d. Some (kept d)) None ls place ≡ at_place (λ (k : Kept). Some k) None (map kept ls) place
@@ -109,12 +110,14 @@ module _ {X : Type 0} (what : Changes) (IsAll : List Signal → Type 0) (Shows :
   as_told old new (T4 d) x four s = record { commands = s.commands; asks = s.asks; asked = s.asked; ends = s.ends; lost = s.lost; noisy = s.noisy }
   as_told old new (Peer d) x four s = absurd cc
   as_told old new (T5 p) x four s = absurd cc
+  as_told old new (T3 p) x four s = absurd cc
 
   pub as_cut : (old new : Moment (World Device)) (d : Device) → how_of d ≡ hows.T4 → AsksCardSome old new → AsksSome what IsAll (tag_next (seen_of d)) (GoesOnBy (seen_of d)) old new
   as_cut old new (T2 d) four s = absurd cc
   as_cut old new (T4 d) four s = record { commands = s.commands; asks = s.asks; asked = s.asked; unbroken = s.unbroken; unlost = s.unlost }
   as_cut old new (Peer d) four s = absurd cc
   as_cut old new (T5 p) four s = absurd cc
+  as_cut old new (T3 p) four s = absurd cc
 
   -- RATS was sent to the tag that stands at a place, whose command has such a list.
   module _ (some : (xs : List Signal) × IsAll xs) (old mid : Air Device) (place : ℕ) (d : Device) (s : Stands (moment old) place d) (four : how_of d ≡ hows.T4)

@@ -1,8 +1,7 @@
 -- A search for every Type 5 tag: what it asked of the bench's devices, and what it tells of them.
-use Rattle.std.proofs.Common.{◌≡◌, ℕ, ◌<◌, List, [], ◌∷◌, map, length, drop, filter_map, Option, Some, None, Result, Ok, Err, refl, sym, ◌∙◌, ap, subst}
-use Rattle.nfc_base.specs.declared.event.Event.{Event}
+use Rattle.std.proofs.Common.{◌≡◌, ℕ, ◌<◌, List, map, length, drop, filter_map, Result, Err, refl, sym, ◌∙◌, ap, subst}
 use Rattle.nfc_base.specs.Trace.{breaks, turns}
-use Rattle.air_core.specs.Conversation.{Note, Next, Over, Moment, Going, receptions}
+use Rattle.air_core.specs.Conversation.{Over}
 use Rattle.air_core.specs.Turn.{Air, moment}
 use Rattle.nfca_poll.specs.declared.fault.PollFault.{PollFault}
 use Rattle.nfca_poll.specs.declared.fault.PollFault.TheVariants as faults
@@ -10,7 +9,6 @@ use Rattle.nfca_poll.specs.ByHeard.{turns_since}
 use Rattle.nfca_poll.specs.Crowd.{Each}
 use Rattle.nfca_poll.specs.Enquiry.{Progress, Reaches, Loses, progress, due_of, answer_of, or_memory, Enquires}
 use Rattle.t5t_tag.specs.Store.{id_size}
-use Rattle.nfcv_poll.specs.declared.search.Search.{Search}
 use Rattle.nfcv_poll.specs.declared.search.Stage.{Stage}
 use Rattle.nfcv_poll.specs.declared.search.Stage.TheVariants as stages
 use Rattle.nfcv_poll.specs.Finding.{AreAscending, HasCauses}
@@ -19,7 +17,7 @@ use Rattle.nfcv_poll.specs.Tags.{FindsTags, FoundIf, tag_ids}
 use Rattle.nfcv_poll.specs.Crowd.{AreCrowd, CrowdV, SearchesCrowd}
 use Rattle.bench_devices.specs.declared.device.Device.{Device}
 use Rattle.bench_devices.specs.Crowded.{v_if}
-use Rattle.bench_devices.specs.Crowding.{crowding, crowd_told, CrowdTells, Crowds}
+use Rattle.bench_devices.specs.Crowding.{crowding, Crowds}
 use Rattle.bench_devices.specs.Device.{air, devices}
 use Rattle.bench_devices.specs.Keeping.{kept, AreTame, NoStore}
 use Rattle.bench_devices.specs.Phases.{AskedPart}

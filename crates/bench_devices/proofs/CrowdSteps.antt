@@ -2,33 +2,31 @@
 use Rattle.std.proofs.Common.{◌≡◌, ℕ, suc, ◌<◌, ◌≤◌, arith, List, [], ◌∷◌, map, length, slice_index, take, drop, filter_map, Bool, true, false, not, ◌&&◌, ◌==◌, nat_eq, replicate, if◌then◌else◌, Option, Some, None, refl, sym, ◌∙◌, ap, subst}
 use Rattle.std.specs.Int.{w64, to_le_bytes}
 use Rattle.std.specs.List.{AllByRecursion}
-use Rattle.nfc_base.specs.declared.frame.Tech.TheVariants.{A, V}
+use Rattle.nfc_base.specs.declared.frame.Tech.TheVariants.{A, V, F}
 use Rattle.nfc_base.specs.Far.{Untouched}
 use Rattle.nfc_base.specs.Signal.{Signal}
-use Rattle.air_core.specs.Conversation.{Note, Next, Over, LightUp, Asks}
+use Rattle.air_core.specs.Conversation.{Note, Asks}
 use Rattle.air_core.specs.Joint.{same_tech}
-use Rattle.air_core.specs.World.{stepped_by}
 use Rattle.nfca_poll.specs.Crowd.{Each}
-use Rattle.nfca_poll.specs.Enquiry.{Progress, Reaches, Loses, progress, due_of, enquiring}
+use Rattle.nfca_poll.specs.Enquiry.{Progress, Reaches, Loses, progress, due_of}
 use Rattle.t5t_tag.specs.declared.command.T5Command.TheVariants.{Inventory, NextSlot, Quiet}
 use Rattle.t5t_tag.specs.declared.round.Round.{Round}
 use Rattle.t5t_tag.specs.declared.answer.T5Answer.TheVariants.{Present}
 use Rattle.t5t_tag.specs.Mask.{low_first, mask_size, asks_for}
 use Rattle.t5t_tag.specs.Slots.{asks_in_slots, begun, slot_of}
 use Rattle.t5t_tag.specs.Spelling.{command_frame, quiet_code, inventory_code}
-use Rattle.t5t_tag.specs.Step.{T5Turn, Asked, Unknown, silent, tells, refuses, not_supported, asked, asked_turn, obeyed, names, addressed, next_round, in_slot, out_of_round, t5_answer, t5_after, asked_by_pair}
+use Rattle.t5t_tag.specs.Step.{T5Turn, Unknown, silent, tells, asked, asked_turn, obeyed, names, addressed, next_round, in_slot, out_of_round, t5_answer, t5_after, asked_by_pair}
 use Rattle.t5t_tag.specs.Store.{T5State, id_size, darkened}
 use Rattle.t5t_tag.proofs.Turns.{hushes}
 use Rattle.nfcv_poll.specs.declared.mask.Mask.{Mask}
 use Rattle.nfcv_poll.specs.declared.search.Stage.{Stage}
 use Rattle.nfcv_poll.specs.declared.search.Stage.TheVariants as stages
 use Rattle.nfcv_poll.specs.Masks.{slots_frame}
-use Rattle.nfcv_poll.specs.Search.{Course, Begins, Runs, asked_for, course_next, stage_request, due_request, finding_all}
+use Rattle.nfcv_poll.specs.Search.{Course, Begins, Runs, asked_for, course_next, stage_request, finding_all}
 use Rattle.nfcv_poll.specs.Tags.{StepAsTags, tag_ids}
 use Rattle.nfcv_poll.specs.Crowd.{AreOwn, AreCrowd}
 use Rattle.bench_devices.specs.declared.device.Device.{Device}
-use Rattle.bench_devices.specs.declared.device.Device.TheVariants.{T2, T4, Peer, T5}
-use Rattle.bench_devices.specs.Powered.{Powered}
+use Rattle.bench_devices.specs.declared.device.Device.TheVariants.{T2, T4, Peer, T5, T3}
 use Rattle.bench_devices.specs.Crowded.{v_if}
 use Rattle.bench_devices.specs.Device.{devices}
 use Rattle.bench_devices.specs.Keeping.{Kept, kept, IsApart, AreSound, AreTame}
@@ -140,6 +138,7 @@ kept_after t false f h = refl
 harmless_by : (f : Signal) → f.tech ≡ V → LeavesLike f → IsHarmless f
 harmless_by f is h (T2 d) = ap (λ x. kept (if same_tech A x then devices.after (T2 d) f None else T2 d)) is
 harmless_by f is h (T4 d) = ap (λ x. kept (if same_tech A x then devices.after (T4 d) f None else T4 d)) is
+harmless_by f is h (T3 p) = ap (λ x. kept (if same_tech F x then devices.after (T3 p) f None else T3 p)) is
 harmless_by f is h (Peer d) = ap (λ x. kept (if same_tech A x then devices.after (Peer d) f None else Peer d)) is
 harmless_by f is h (T5 p) = ap (λ x. kept (if same_tech V x then devices.after (T5 p) f None else T5 p)) is ∙ kept_after p.tag p.lit f h
 
@@ -153,12 +152,14 @@ no_tag = record { id = []; store = []; size = 0; locked = []; quiet = false; rou
 abbrev pub tag_of : Device → T5State
 tag_of (T2 d) = no_tag
 tag_of (T4 d) = no_tag
+tag_of (T3 p) = no_tag
 tag_of (Peer d) = no_tag
 tag_of (T5 p) = p.tag
 
 abbrev pub lit_of : Device → Bool
 lit_of (T2 d) = false
 lit_of (T4 d) = false
+lit_of (T3 p) = false
 lit_of (Peer d) = false
 lit_of (T5 p) = p.lit
 
@@ -175,18 +176,21 @@ steps_as_tags = record {
     woken : (d : Device) → devices.tech d ≡ V → (lit_of (devices.woken (devices.darkened d)) ≡ true) × (tag_of (devices.woken (devices.darkened d)) ≡ darkened (tag_of d))
     woken (T2 d) e = absurd cc
     woken (T4 d) e = absurd cc
+    woken (T3 p) e = absurd cc
     woken (Peer d) e = absurd cc
     woken (T5 p) e = (refl, refl)
 
     untouched : (d : Device) (f : Signal) → devices.tech d ≡ V → devices.handed d f ≡ Untouched
     untouched (T2 d) f e = absurd cc
     untouched (T4 d) f e = absurd cc
+    untouched (T3 p) f e = absurd cc
     untouched (Peer d) f e = absurd cc
     untouched (T5 p) f e = refl
 
     answers : (d : Device) (f : Signal) → devices.tech d ≡ V → lit_of d ≡ true → devices.answer d f None ≡ t5_answer (tag_of d) f
     answers (T2 d) f e lit = absurd cc
     answers (T4 d) f e lit = absurd cc
+    answers (T3 p) f e lit = absurd cc
     answers (Peer d) f e lit = absurd cc
     answers (T5 p) f e lit = ap (λ v. if v then t5_answer p.tag f else None) lit
 
@@ -194,11 +198,12 @@ steps_as_tags = record {
         → (lit_of (devices.after d f None) ≡ true) × (tag_of (devices.after d f None) ≡ t5_after (tag_of d) f)
     goes (T2 d) f e lit = absurd cc
     goes (T4 d) f e lit = absurd cc
+    goes (T3 p) f e lit = absurd cc
     goes (Peer d) f e lit = absurd cc
     goes (T5 p) f e lit =
         let G : Bool → Type 0 = λ v.
-        (lit_of (if v then T5 (record { tag = t5_after p.tag f; lit = true }) else T5 p) ≡ true)
-        × (tag_of (if v then T5 (record { tag = t5_after p.tag f; lit = true }) else T5 p) ≡ t5_after p.tag f) in
+        (lit_of (T5 (if v then record { tag = t5_after p.tag f; lit = true } else p)) ≡ true)
+        × (tag_of (T5 (if v then record { tag = t5_after p.tag f; lit = true } else p)) ≡ t5_after p.tag f) in
         subst G (sym lit) (refl, refl)
 
     woken_tech : (d : Device) → devices.tech (devices.woken (devices.darkened d)) ≡ devices.tech d
@@ -206,14 +211,16 @@ steps_as_tags = record {
     woken_tech (T4 d) = refl
     woken_tech (Peer d) = refl
     woken_tech (T5 p) = refl
+    woken_tech (T3 p) = refl
 
     after_tech : (d : Device) (f : Signal) → devices.tech d ≡ V → devices.tech (devices.after d f None) ≡ V
     after_tech (T2 d) f e = absurd cc
     after_tech (T4 d) f e = absurd cc
+    after_tech (T3 p) f e = absurd cc
     after_tech (Peer d) f e = absurd cc
     after_tech (T5 p) f e = by_light p.lit
       where
-        by_light : (v : Bool) → devices.tech (if v then T5 (record { tag = t5_after p.tag f; lit = true }) else T5 p) ≡ V
+        by_light : (v : Bool) → devices.tech (T5 (if v then record { tag = t5_after p.tag f; lit = true } else p)) ≡ V
         by_light true = refl
         by_light false = refl
 
@@ -222,6 +229,7 @@ pub ids_same : (ds : List Device) → tag_ids devices tag_of ds ≡ filter_map v
 ids_same [] = refl
 ids_same (T2 d ∷ ds) = ids_same ds
 ids_same (T4 d ∷ ds) = ids_same ds
+ids_same (T3 p ∷ ds) = ids_same ds
 ids_same (Peer d ∷ ds) = ids_same ds
 ids_same (T5 p ∷ ds) = ap (λ is. p.tag.id ∷ is) (ids_same ds)
 
@@ -229,6 +237,7 @@ pub ids_whole : (ds : List Device) → AreSound (map kept ds) → Each (λ i. le
 ids_whole [] s = tt
 ids_whole (T2 d ∷ ds) s = ids_whole ds s.2
 ids_whole (T4 d ∷ ds) s = ids_whole ds s.2
+ids_whole (T3 p ∷ ds) s = ids_whole ds s.2
 ids_whole (Peer d ∷ ds) s = ids_whole ds s.2
 ids_whole (T5 p ∷ ds) s = (s.0.1, ids_whole ds s.2)
 
@@ -241,6 +250,7 @@ ids_bytes : (ds : List Device) → AreSound (map kept ds) → Each (λ i. Each (
 ids_bytes [] s = tt
 ids_bytes (T2 d ∷ ds) s = ids_bytes ds s.2
 ids_bytes (T4 d ∷ ds) s = ids_bytes ds s.2
+ids_bytes (T3 p ∷ ds) s = ids_bytes ds s.2
 ids_bytes (Peer d ∷ ds) s = ids_bytes ds s.2
 ids_bytes (T5 p ∷ ds) s = (bytes_each p.tag.id s.0.2, ids_bytes ds s.2)
 
@@ -248,6 +258,7 @@ others_apart : (k : Kept) (ds : List Device) → AllByRecursion (IsApart k) (map
 others_apart k [] a = tt
 others_apart k (T2 d ∷ ds) a = others_apart k ds a.1
 others_apart k (T4 d ∷ ds) a = others_apart k ds a.1
+others_apart k (T3 p ∷ ds) a = others_apart k ds a.1
 others_apart k (Peer d ∷ ds) a = others_apart k ds a.1
 others_apart k (T5 p ∷ ds) a = (a.0, others_apart k ds a.1)
 
@@ -255,6 +266,7 @@ ids_own : (ds : List Device) → AreSound (map kept ds) → AreOwn (filter_map v
 ids_own [] s = tt
 ids_own (T2 d ∷ ds) s = ids_own ds s.2
 ids_own (T4 d ∷ ds) s = ids_own ds s.2
+ids_own (T3 p ∷ ds) s = ids_own ds s.2
 ids_own (Peer d ∷ ds) s = ids_own ds s.2
 ids_own (T5 p ∷ ds) s = (others_apart (kept (T5 p)) ds s.1, ids_own ds s.2)
 
@@ -265,6 +277,7 @@ ids_few : (ds : List Device) → length (filter_map v_if ds) ≤ length (map kep
 ids_few [] = omega arith
 ids_few (T2 d ∷ ds) = few_more (length (filter_map v_if ds)) (length (map kept ds)) (ids_few ds)
 ids_few (T4 d ∷ ds) = few_more (length (filter_map v_if ds)) (length (map kept ds)) (ids_few ds)
+ids_few (T3 p ∷ ds) = few_more (length (filter_map v_if ds)) (length (map kept ds)) (ids_few ds)
 ids_few (Peer d ∷ ds) = few_more (length (filter_map v_if ds)) (length (map kept ds)) (ids_few ds)
 ids_few (T5 p ∷ ds) = omega (arith, ids_few ds)
 

@@ -36,12 +36,16 @@ use Rattle.tlv_area.proofs.Stepping.{length-with_block, block_before}
 use Rattle.bench_devices.specs.Cards.{T4Near}
 use Rattle.bench_devices.specs.Powered.{Powered}
 use Rattle.bench_devices.specs.declared.device.Device.{Device}
-use Rattle.bench_devices.specs.declared.device.Device.TheVariants.{T2, T4, Peer, T5}
+use Rattle.bench_devices.specs.declared.device.Device.TheVariants.{T2, T4, Peer, T5, T3}
 use Rattle.bench_devices.specs.Device.{BenchWorld, air, devices, device_id, device_store, says_of, t2_machine, t4_machine}
 use Rattle.bench_devices.specs.Placed.{device_with, IfPlaced}
 use Rattle.bench_devices.specs.Keeping.{ghosts, Fixed, fixed, kept, IsSound, IsApart, AreSound, AreTame, StaysDevice, AllStayDevices, held_by, images_of, IsStoreOf, AreImages, DevicesStay, ImagesStay, AsideKeeps, Changes, NoStore, StoreOf, AllKeepBut, Leaves, EachAsked, IsAsideOf}
 use Rattle.bench_devices.proofs.SelectingKept.{due_asked, kept_dark, kept_lit}
 use Rattle.bench_devices.proofs.CardKept.{IsAtRest, fixed_step, four_same, rest_keeps, rest_stays, dark_at_rest, lit_at_rest}
+use Rattle.t3t_tag.specs.Store.{T3State}
+use Rattle.t3t_tag.specs.Step.{t3_after, T3Turn}
+use Rattle.bench_devices.specs.Lights.{three_after, three_silent}
+use Rattle.t3t_tag.proofs.Stores.{still_blocks, length_with_block as length_three}
 
 -- A changed block behind the first four leaves a store of a Type 2 tag one: its size and its capability container stay.
 two_written : (store : List ℕ) (block : ℕ) (content : List ℕ) → length content ≡ 4 → 4 ≤ block → block < t2.block_count store → IsT2Store store → IsT2Store (with_block 4 store block content)
@@ -136,11 +140,26 @@ four_holds d f =
       sound = λ is. (is.0, new.file, ap (λ c. c ++ new.file) same.container, four_file d.upper.tag new same (file_of is), is.4, is.5);
     }
 
-five_holds : (p : Powered) (f : Signal) → HoldsOn (T5 p) (device_store (devices.after (T5 p) f None))
-five_holds p f =
+five_holds : (p : Powered T5State) (f : Signal) (v : Bool) → HoldsOn (T5 p) (device_store (T5 (if v then record { tag = t5_after p.tag f; lit = true } else p)))
+five_holds p f true =
     let new : T5State = t5_after p.tag f in
     let long : length new.store ≡ length p.tag.store = (same_five p.tag f).length in
-    heard_holds (T5 p) (T5 (record { tag = new; lit = true })) (record { long = long; sound = λ is. (is.0, is.1, is.2, still_store p.tag.size p.tag.store new.store long is.3) }) p.lit
+    record { long = long; sound = λ is. (is.0, is.1, is.2, still_store p.tag.size p.tag.store new.store long is.3) }
+five_holds p f false = record { long = refl; sound = λ is. is }
+
+-- The store of a Type 3 tag stays as long, and so whole blocks.
+three_long : (t : T3State) (f : Signal) → length (t3_after t f).store ≡ length t.store
+three_long t f = three_after t f (λ r. length r.after.store ≡ length t.store) (record {
+  silent_too = refl;
+  told_too = λ a. refl;
+  written = λ block content within long. length_three t.store block content within long;
+})
+
+three_holds : (p : Powered T3State) (f : Signal) (v : Bool) → HoldsOn (T3 p) (device_store (T3 (if v then record { tag = t3_after p.tag f; lit = true } else p)))
+three_holds p f true =
+    let long : length (t3_after p.tag f).store ≡ length p.tag.store = three_long p.tag f in
+    record { long = long; sound = λ is. (is.0, is.1, still_blocks p.tag.store (t3_after p.tag f).store long is.2) }
+three_holds p f false = record { long = refl; sound = λ is. is }
 
 holds_step : (d : Device) (f : Signal) → HoldsOn d (device_store (stepped_by devices d f None))
 holds_step (T2 d) f =
@@ -148,7 +167,8 @@ holds_step (T2 d) f =
     heard_holds (T2 d) (devices.after (T2 d) f None) (record { long = on.long; sound = λ is. (is.0, is.1, on.sound is.2) }) (hears devices (T2 d) f)
 holds_step (T4 d) f = heard_holds (T4 d) (devices.after (T4 d) f None) (four_holds d f) (hears devices (T4 d) f)
 holds_step (Peer d) f = heard_holds (Peer d) (devices.after (Peer d) f None) (record { long = refl; sound = λ is. is }) (hears devices (Peer d) f)
-holds_step (T5 p) f = heard_holds (T5 p) (devices.after (T5 p) f None) (five_holds p f) (hears devices (T5 p) f)
+holds_step (T5 p) f = heard_holds (T5 p) (devices.after (T5 p) f None) (five_holds p f p.lit) (hears devices (T5 p) f)
+holds_step (T3 p) f = heard_holds (T3 p) (devices.after (T3 p) f None) (three_holds p f p.lit) (hears devices (T3 p) f)
 
 -- So frames, the dark and light leave a device one that may be placed.
 stays_by : (d e : Device) → fixed e ≡ fixed d → HoldsOn d (device_store e) → StaysDevice d e
@@ -285,7 +305,7 @@ pub images_stay : ImagesStay
 images_stay w es id s = images_sound w es id (first_sound id w.listeners s)
 
 -- A device that is aside: a whole frame of NFC-A finds it at rest, and what is addressed to another identifier it passes over.
-five_aside : (lit : Bool) (p : Powered) (f : Signal) → t5_after p.tag f ≡ out_of_round p.tag → kept (if lit then T5 (record { tag = t5_after p.tag f; lit = true }) else T5 p) ≡ kept (T5 p)
+five_aside : (lit : Bool) (p : Powered T5State) (f : Signal) → t5_after p.tag f ≡ out_of_round p.tag → kept (T5 (if lit then record { tag = t5_after p.tag f; lit = true } else p)) ≡ kept (T5 p)
 five_aside true p f same = ap (λ t. kept (T5 (record { tag = t; lit = true }))) same
 five_aside false p f same = refl
 
@@ -294,40 +314,45 @@ addressed_keeps own code rest (T2 d) eight a = refl
 addressed_keeps own code rest (T4 d) eight a = refl
 addressed_keeps own code rest (Peer d) eight a = refl
 addressed_keeps own code rest (T5 p) eight a = five_aside p.lit p (addressed own code rest) (ap (λ (r : T5Turn). r.after) (other_silent p.tag own eight a.other code rest))
+addressed_keeps own code rest (T3 p) eight a = refl
 
--- no device hears a frame of NFC-F
-not_heard : (own : List ℕ) (size code : ℕ) (rest : List ℕ) (d : Device) → kept (stepped_by devices d (addressed_f own size code rest) None) ≡ kept d
-not_heard own size code rest (T2 d) = refl
-not_heard own size code rest (T4 d) = refl
-not_heard own size code rest (Peer d) = refl
-not_heard own size code rest (T5 p) = refl
+-- likewise a frame of NFC-F, which Type 3 tags alone hear
+three_aside : (v : Bool) (p : Powered T3State) (f : Signal) → t3_after p.tag f ≡ p.tag → kept (T3 (if v then record { tag = t3_after p.tag f; lit = true } else p)) ≡ kept (T3 p)
+three_aside true p f same = ap (λ t. kept (T3 (record { tag = t; lit = true }))) same
+three_aside false p f same = refl
 
-not_heard_rests : (own : List ℕ) (size code : ℕ) (rest : List ℕ) (d : Device) → IsAside ghosts own d → IsAtRest (stepped_by devices d (addressed_f own size code rest) None)
-not_heard_rests own size code rest (T2 d) a = a.rests
-not_heard_rests own size code rest (T4 d) a = a.rests
-not_heard_rests own size code rest (Peer d) a = a.rests
-not_heard_rests own size code rest (T5 p) a = a.rests
+named_keeps : (own : List ℕ) (size code : ℕ) (rest : List ℕ) (d : Device) → length own ≡ 8 → IsAside ghosts own d → kept (stepped_by devices d (addressed_f own size code rest) None) ≡ kept d
+named_keeps own size code rest (T2 d) eight a = refl
+named_keeps own size code rest (T4 d) eight a = refl
+named_keeps own size code rest (Peer d) eight a = refl
+named_keeps own size code rest (T5 p) eight a = refl
+named_keeps own size code rest (T3 p) eight a =
+    three_aside p.lit p (addressed_f own size code rest) (ap (λ (r : T3Turn). r.after) (three_silent p.tag own size code rest eight a.other))
+
+named_rests : (own : List ℕ) (size code : ℕ) (rest : List ℕ) (d : Device) → IsAside ghosts own d → IsAtRest (stepped_by devices d (addressed_f own size code rest) None)
+named_rests own size code rest (T2 d) a = a.rests
+named_rests own size code rest (T4 d) a = a.rests
+named_rests own size code rest (Peer d) a = a.rests
+named_rests own size code rest (T5 p) a = a.rests
+named_rests own size code rest (T3 p) a = λ t. absurd cc
 
 pub aside_keeps : AsideKeeps
 aside_keeps own A f d may named a = subst (λ g. kept (stepped_by devices d g None) ≡ kept d) (sym may) (rest_keeps d f.bytes a.rests)
 aside_keeps own V f d may named a = subst (λ g. kept (stepped_by devices d g None) ≡ kept d) (sym may.frame) (addressed_keeps own may.code may.rest d named a)
-aside_keeps own F f d may named a = subst (λ g. kept (stepped_by devices d g None) ≡ kept d) (sym may.frame) (not_heard own may.size may.code may.rest d)
+aside_keeps own F f d may named a = subst (λ g. kept (stepped_by devices d g None) ≡ kept d) (sym may.frame) (named_keeps own may.size may.code may.rest d named a)
 
 -- It stays aside.
 addressed_rests : (own : List ℕ) (code : ℕ) (rest : List ℕ) (d : Device) → IsAside ghosts own d → IsAtRest (stepped_by devices d (addressed own code rest) None)
 addressed_rests own code rest (T2 d) a = a.rests
 addressed_rests own code rest (T4 d) a = a.rests
 addressed_rests own code rest (Peer d) a = a.rests
-addressed_rests own code rest (T5 p) a = five_rests p.lit
-  where
-    five_rests : (lit : Bool) → IsAtRest (if lit then T5 (record { tag = t5_after p.tag (addressed own code rest); lit = true }) else T5 p)
-    five_rests true t = absurd cc
-    five_rests false t = absurd cc
+addressed_rests own code rest (T5 p) a = λ t. absurd cc
+addressed_rests own code rest (T3 p) a = a.rests
 
 step_rests : (own : List ℕ) (t : Tech) (f : Signal) (d : Device) → MayAsk (plain_kind t) own f → IsAside ghosts own d → IsAtRest (stepped_by devices d f None)
 step_rests own A f d may a = subst (λ g. IsAtRest (stepped_by devices d g None)) (sym may) (rest_stays d f.bytes a.rests)
 step_rests own V f d may a = subst (λ g. IsAtRest (stepped_by devices d g None)) (sym may.frame) (addressed_rests own may.code may.rest d a)
-step_rests own F f d may a = subst (λ g. IsAtRest (stepped_by devices d g None)) (sym may.frame) (not_heard_rests own may.size may.code may.rest d a)
+step_rests own F f d may a = subst (λ g. IsAtRest (stepped_by devices d g None)) (sym may.frame) (named_rests own may.size may.code may.rest d a)
 
 -- What leaves each device aside as it is but in its state, and any other what is fixed of it and a store of its kind.
 record IsQuietFor (own : List ℕ) (g : Device → Device) : Type 0 where

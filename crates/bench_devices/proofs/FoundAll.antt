@@ -25,7 +25,7 @@ use Rattle.nfca_poll.proofs.Crowding.{drop-front}
 use Rattle.tag_reader.specs.declared.how.How.{How}
 use Rattle.tag_reader.specs.declared.how.How.TheVariants as hows
 use Rattle.bench_devices.specs.declared.device.Device.{Device}
-use Rattle.bench_devices.specs.declared.device.Device.TheVariants.{T2, T4, Peer, T5}
+use Rattle.bench_devices.specs.declared.device.Device.TheVariants.{T2, T4, Peer, T5, T3}
 use Rattle.bench_devices.specs.Device.{devices, device_id}
 use Rattle.bench_devices.specs.Crowded.{card_if, v_if, crowd_of, inventory_of, others_of}
 use Rattle.bench_devices.specs.Device.{air}
@@ -91,6 +91,7 @@ same_cards (T2 d ∷ ds) = ap (λ cs. record { id = d.id; kind = kinds.T2; front
 same_cards (T4 d ∷ ds) = ap (λ cs. record { id = d.id; kind = kinds.T4; front = d.front } ∷ cs) (same_cards ds)
 same_cards (Peer d ∷ ds) = ap (λ cs. record { id = d.id; kind = kinds.Peer; front = d.front } ∷ cs) (same_cards ds)
 same_cards (T5 p ∷ ds) = same_cards ds
+same_cards (T3 p ∷ ds) = same_cards ds
 
 v_how : How → Option (List ℕ)
 v_how hows.T2 = None
@@ -102,6 +103,7 @@ unfolding v_how
 v_kept [] = refl
 v_kept (T2 d ∷ ds) = v_kept ds
 v_kept (T4 d ∷ ds) = v_kept ds
+v_kept (T3 p ∷ ds) = v_kept ds
 v_kept (Peer d ∷ ds) = v_kept ds
 v_kept (T5 p ∷ ds) = ap (λ is. p.tag.id ∷ is) (v_kept ds)
 

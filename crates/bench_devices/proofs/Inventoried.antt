@@ -27,7 +27,7 @@ use Rattle.t5t_tag.specs.Step.{T5Turn, sent, t5_answer}
 use Rattle.t5t_tag.proofs.Bytes.{equal_bytes}
 use Rattle.t5t_tag.proofs.Inventories.{counted}
 use Rattle.bench_devices.specs.declared.device.Device.{Device}
-use Rattle.bench_devices.specs.declared.device.Device.TheVariants.{T2, T4, Peer, T5}
+use Rattle.bench_devices.specs.declared.device.Device.TheVariants.{T2, T4, Peer, T5, T3}
 use Rattle.bench_devices.specs.Powered.{Powered}
 use Rattle.bench_devices.specs.Device.{devices}
 use Rattle.bench_devices.specs.Crowded.{v_if, inventory_of}
@@ -38,11 +38,13 @@ use Rattle.bench_devices.proofs.Following.{HasEnded, Closes}
 use Rattle.air_core.proofs.Following.{same_asked, light_is_no_request, over_is_no_request, over_is_no_light}
 use Rattle.bench_devices.proofs.Unmoved.{OnlyAsks, AllHeard, all_heard}
 use Rattle.bench_devices.proofs.SelectingKept.{IsHarmless}
+use Rattle.t5t_tag.specs.Store.{T5State}
 
 -- A Type 5 tag in the light that isn't quiet, and in no round. A tag of NFC-A hears no inventory.
 abbrev pub IsAwake : Device → Type 0
 IsAwake (T2 d) = Unit {0}
 IsAwake (T4 d) = Unit {0}
+IsAwake (T3 p) = Unit {0}
 IsAwake (Peer d) = Unit {0}
 IsAwake (T5 p) = (p.lit ≡ true) × (p.tag.quiet ≡ false) × (p.tag.round ≡ None)
 
@@ -52,7 +54,7 @@ says d = answered_by devices d inventory_all None
 abbrev present : List ℕ → Signal
 present id = answer_frame (Present id)
 
-tag_says : (p : Powered) → IsAwake (T5 p) → says (T5 p) ≡ Some (present p.tag.id)
+tag_says : (p : Powered T5State) → IsAwake (T5 p) → says (T5 p) ≡ Some (present p.tag.id)
 tag_says p h = ap (λ v. if v then t5_answer p.tag inventory_all else None) h.0 ∙ ap (λ (r : T5Turn). sent r.answer) (counted p.tag h.1)
 
 -- each of them answers
@@ -60,6 +62,7 @@ all_answer : (ds : List Device) → AllByRecursion IsAwake ds → filter_map say
 all_answer [] h = refl
 all_answer (T2 d ∷ ds) h = all_answer ds h.1
 all_answer (T4 d ∷ ds) h = all_answer ds h.1
+all_answer (T3 p ∷ ds) h = all_answer ds h.1
 all_answer (Peer d ∷ ds) h = all_answer ds h.1
 all_answer (T5 p ∷ ds) h = ap (λ o. cons_option o (filter_map says ds)) (tag_says p h.0) ∙ ap (λ gs. present p.tag.id ∷ gs) (all_answer ds h.1)
 
@@ -80,6 +83,7 @@ others_apart : (k : Kept) (ds : List Device) → AllByRecursion (IsApart k) (map
 others_apart k [] a = tt
 others_apart k (T2 d ∷ ds) a = others_apart k ds a.1
 others_apart k (T4 d ∷ ds) a = others_apart k ds a.1
+others_apart k (T3 p ∷ ds) a = others_apart k ds a.1
 others_apart k (Peer d ∷ ds) a = others_apart k ds a.1
 others_apart k (T5 p ∷ ds) a = (a.0, others_apart k ds a.1)
 
@@ -87,6 +91,7 @@ own_ids : (ds : List Device) → AreSound (map kept ds) → AreOwn (filter_map v
 own_ids [] s = tt
 own_ids (T2 d ∷ ds) s = own_ids ds s.2
 own_ids (T4 d ∷ ds) s = own_ids ds s.2
+own_ids (T3 p ∷ ds) s = own_ids ds s.2
 own_ids (Peer d ∷ ds) s = own_ids ds s.2
 own_ids (T5 p ∷ ds) s = (s.0.1, others_apart (kept (T5 p)) ds s.1, own_ids ds s.2)
 
@@ -238,6 +243,7 @@ inventory_other ns f e = ap (λ (g : Signal). g.tech) (due_only (progress invent
 harmless : IsHarmless inventory_all
 harmless (T2 d) = refl
 harmless (T4 d) = refl
+harmless (T3 p) = refl
 harmless (Peer d) = refl
 harmless (T5 p) = ap kept (stays_at_all p) ∙ kept_unrounded p
 
@@ -247,6 +253,7 @@ inventory_harmless ns f e = subst IsHarmless (sym (due_only (progress inventory 
 stays_at : (d : Device) → IsAwake d → stepped_by devices d inventory_all None ≡ d
 stays_at (T2 d) h = refl
 stays_at (T4 d) h = refl
+stays_at (T3 p) h = refl
 stays_at (Peer d) h = refl
 stays_at (T5 p) h = stays_at_all p ∙ unrounded_same p h.2
 

@@ -13,6 +13,7 @@ pub mod SelectingLinks
 pub mod Unmoved
 pub mod TagTwo
 pub mod TagFive
+pub mod TagThree
 pub mod CardKept
 pub mod EveryFrame
 pub mod StoresFollow

@@ -6,7 +6,7 @@ use Rattle.nfca_poll.specs.Front.{Front, Off, Idle, Sleep, Ready, Active, is_act
 use Rattle.dep_link.specs.Moves.{same_self}
 use Rattle.dep_link.specs.Peers.{IsPeer}
 use Rattle.bench_devices.specs.declared.device.Device.{Device}
-use Rattle.bench_devices.specs.declared.device.Device.TheVariants.{T2, T4, Peer, T5}
+use Rattle.bench_devices.specs.declared.device.Device.TheVariants.{T2, T4, Peer, T5, T3}
 use Rattle.bench_devices.specs.Beside.{PeerAt}
 use Rattle.bench_devices.specs.Device.{device_end, device_linked, device_selected}
 use Rattle.bench_devices.specs.Keeping.{ghosts}
@@ -33,6 +33,7 @@ linked_is (T2 d) a linked = absurd cc
 linked_is (T4 d) a linked = absurd cc
 linked_is (Peer d) a linked = is_peer d.upper.target (Peer d) (open_by d.id d.front d.upper a linked)
 linked_is (T5 p) a linked = absurd cc
+linked_is (T3 p) a linked = absurd cc
 
 beside : (own : List ℕ) (before : List Device) (l : Device) (behind : List Device) (place : ℕ) → PeerAt own place (before ++ l ∷ behind) → length before ≡ place
     → AllByRecursion (IsAside ghosts own) before × AllByRecursion (IsAside ghosts own) behind

@@ -8,7 +8,7 @@ use Rattle.air_core.specs.PlainLinks.{PlainSeen, IsPlainReady, PlainMoves, plain
 use Rattle.tag_reader.specs.declared.how.How.{How}
 use Rattle.tag_reader.specs.Kinds.{IsTag}
 use Rattle.bench_devices.specs.declared.device.Device.{Device}
-use Rattle.bench_devices.specs.Device.{device_store, how_of, size_of, is_tag}
+use Rattle.bench_devices.specs.Device.{device_store, how_of, size_of, may_be_read}
 use Rattle.bench_devices.specs.Linking.{IsPlain, IsPlainHow, IsNew}
 use Rattle.bench_devices.specs.Keeping.{ghosts}
 use Rattle.bench_devices.specs.Phases.{Stands}
@@ -22,7 +22,7 @@ new_is p is =
     ap (λ n. as_seen p.air p.place n None None) (sym is.start) ∙ ap (λ x. as_seen p.air p.place p.start x None) (sym is.last)
     ∙ ap (λ x. as_seen p.air p.place p.start p.last x) (sym is.over)
 
-module _ (p : PlainSeen Device) (is : IsNew p) (how : How) (one : (e : Device) × Stands (moment p.air) p.place e × (how ≡ how_of e) × IsPlainHow how × (is_tag e ≡ true)) where
+module _ (p : PlainSeen Device) (is : IsNew p) (how : How) (one : (e : Device) × Stands (moment p.air) p.place e × (how ≡ how_of e) × IsPlainHow how × (may_be_read e ≡ true)) where
   pub plain_one : IsPlain one.0
   plain_one = (subst IsPlainHow one.2 one.3, one.4)
 

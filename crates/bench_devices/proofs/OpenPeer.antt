@@ -27,7 +27,7 @@ use Rattle.dep_link.specs.Peers.{target_use, answered_with, left_with, IsAskedFr
 use Rattle.dep_link.specs.Activating.{atr_req, atr_frame, sent_times, TakesAtr}
 use Rattle.dep_link.proofs.Wire.{written_read, target_heeds}
 use Rattle.bench_devices.specs.declared.device.Device.{Device}
-use Rattle.bench_devices.specs.declared.device.Device.TheVariants.{T2, T4, Peer, T5}
+use Rattle.bench_devices.specs.declared.device.Device.TheVariants.{T2, T4, Peer, T5, T3}
 use Rattle.bench_devices.specs.Device.{device_end, device_selected, is_tag}
 use Rattle.bench_devices.specs.Keeping.{ghosts, kept, IsSound}
 use Rattle.bench_devices.specs.Peers.{PeerNear, by_target, peer_if, asked_if, takes_frame, peer_machine, id3_of, peer_general, made_near, IsMadePeer}
@@ -326,3 +326,4 @@ takes_atr (T2 d) sound a tag general short = absurd cc
 takes_atr (T4 d) sound a tag general short = absurd cc
 takes_atr (Peer d) sound a tag general short = takes_at d.id d.front d.upper a sound.0 sound.2 general short
 takes_atr (T5 p) sound a tag general short = absurd cc
+takes_atr (T3 p) sound a tag general short = absurd cc

@@ -34,9 +34,8 @@ use Rattle.dep_link.proofs.Wire.{target_heeds}
 use Rattle.nfca_poll.specs.Front.{Front, Off, Idle, Sleep, Ready, Active}
 use Rattle.nfca_poll.specs.Fronted.{Fronted, handed_by}
 use Rattle.bench_devices.specs.declared.device.Device.{Device}
-use Rattle.bench_devices.specs.declared.device.Device.TheVariants.{T2, T4, Peer, T5}
-use Rattle.bench_devices.specs.declared.polling.SeenKind.TheVariants as seen
-use Rattle.bench_devices.specs.Device.{devices, device_id, device_end, device_target, seen_of, is_tag}
+use Rattle.bench_devices.specs.declared.device.Device.TheVariants.{T2, T4, Peer, T5, T3}
+use Rattle.bench_devices.specs.Device.{devices, device_id, device_end, device_target, is_tag}
 use Rattle.bench_devices.specs.Keeping.{Kept, ghosts, kept, IsSound}
 use Rattle.bench_devices.specs.Peers.{PeerNear, IsMadePeer, asked_if, takes_frame, peer_machine}
 use Rattle.bench_devices.specs.Beside.{PeerAt, TalkLeaves}
@@ -48,6 +47,7 @@ use Rattle.bench_devices.proofs.OpenPeer.{atr_range, takes_atr}
 use Rattle.bench_devices.proofs.ReadingTags as reading
 use Rattle.bench_devices.proofs.ReadingTags.{stands_alone}
 use Rattle.bench_devices.proofs.PeerHere.{same_place, in_step}
+use Rattle.bench_devices.proofs.TagOrPeer.{peer_kind}
 
 -- No device hands a payload over at ATR_REQ.
 module _ (general : List ℕ) (short : length general ≤ 48) where
@@ -76,6 +76,7 @@ module _ (general : List ℕ) (short : length general ≤ 48) where
   handed_none (T4 d) payload e = absurd cc
   handed_none (Peer d) payload e = peer_none d.front d payload e
   handed_none (T5 p) payload e = absurd cc
+  handed_none (T3 p) payload e = absurd cc
 
   heard_none : (v : Bool) (l : Device) (payload : List ℕ) → (if v then devices.handed l f else Untouched) ≡ Hands payload → ⊥
   heard_none true l payload e = handed_none l payload e
@@ -101,13 +102,6 @@ module _ (general : List ℕ) (short : length general ≤ 48) where
 pub atr_whole : (general : List ℕ) (ns : List Note) (g : Signal) → atr_next general ns ≡ Asks g → g ≡ whole_a g.bytes
 atr_whole general ns g e = due_all (λ h. h ≡ whole_a h.bytes) (atr_frame general ∷ []) (refl, tt) ns g e
 
--- what is known of a peer that is selected
-peer_kind : (d : Device) → is_tag d ≡ false → seen_of d ≡ seen.Peer
-peer_kind (T2 d) e = absurd cc
-peer_kind (T4 d) e = absurd cc
-peer_kind (Peer d) e = refl
-peer_kind (T5 p) e = absurd cc
-
 -- what it says of itself is what it was made to say
 record SaysAsMade (d : Device) : Type 0 where
   pub made : IsMadePeer (device_id d) (device_target d)
@@ -119,6 +113,7 @@ says_as_made (T2 d) is e = absurd cc
 says_as_made (T4 d) is e = absurd cc
 says_as_made (Peer d) is e = record { made = is.2; code = refl; says = refl }
 says_as_made (T5 p) is e = absurd cc
+says_as_made (T3 p) is e = absurd cc
 
 pub at_peer : (old : Air Device) (place : ℕ) (d : Device) → Stands (moment old) place d → is_tag d ≡ false → PeerAt (device_id d) place old.listeners
 at_peer old place d s tag =

@@ -20,7 +20,7 @@ use Rattle.t5t_tag.specs.Step.{T5Turn, tells, silent, out_of_round, sent, t5_ans
 use Rattle.t5t_tag.specs.Store.{T5State, IsT5Shape}
 use Rattle.t5t_tag.proofs.Inventories.{picked}
 use Rattle.bench_devices.specs.declared.device.Device.{Device}
-use Rattle.bench_devices.specs.declared.device.Device.TheVariants.{T2, T4, Peer, T5}
+use Rattle.bench_devices.specs.declared.device.Device.TheVariants.{T2, T4, Peer, T5, T3}
 use Rattle.bench_devices.specs.Cards.{T4Near}
 use Rattle.bench_devices.specs.Peers.{PeerNear}
 use Rattle.bench_devices.specs.Powered.{Powered}
@@ -33,12 +33,14 @@ device_kind (T2 d) = kinds.T2
 device_kind (T4 d) = kinds.T4
 device_kind (Peer d) = kinds.Peer
 device_kind (T5 p) = kinds.T2
+device_kind (T3 p) = kinds.T2
 
 abbrev pub device_front : Device → Front
 device_front (T2 d) = d.front
 device_front (T4 d) = d.front
 device_front (Peer d) = d.front
 device_front (T5 p) = Off
+device_front (T3 p) = Off
 
 -- an NFC-A device that isn't active steps by its front
 by_front : (front : Front) (id : List ℕ) (u : T2Memory) (f : Signal) → is_active front ≡ false
@@ -70,6 +72,7 @@ steps (T2 d) f t a = by_front d.front d.id d.upper f a
 steps (T4 d) f t a = card_by_front d.front d.id d.upper f a
 steps (Peer d) f t a = peer_by_front d.front d.id d.upper f a
 steps (T5 p) f t a = absurd cc
+steps (T3 p) f t a = absurd cc
 
 -- Whether it answers an inventory of one slot or not, a Type 5 tag stays as it is, but for a round that it was in.
 told_stays : (v : Bool) (t : T5State) → (if v then tells t (Present t.id) else silent t).after ≡ t
@@ -80,7 +83,7 @@ inventory_stays : (t : T5State) (bits : ℕ) (mask : List ℕ) → t5_after t (w
 inventory_stays t bits mask = told_stays ((inventory_code == inventory_code) && not t.quiet && asks_for t.id bits mask) (out_of_round t)
 
 -- the tag out of its round, where it has power
-abbrev pub unrounded : Powered → Powered
+abbrev pub unrounded : Powered T5State → Powered T5State
 unrounded p = record p { tag = if p.lit then out_of_round p.tag else p.tag }
 
 device_stays : (t : T5State) (lit : Bool) (f : Signal) → t5_after t f ≡ out_of_round t → device_after (T5 (record { tag = t; lit = lit })) f None ≡ T5 (unrounded (record { tag = t; lit = lit }))
@@ -88,14 +91,14 @@ device_stays t true f e = ap (λ x. T5 (record { tag = x; lit = true })) e
 device_stays t false f e = refl
 
 -- Nor does an inventory change one else.
-pub stays_at_all : (p : Powered) → device_after (T5 p) inventory_all None ≡ T5 (unrounded p)
+pub stays_at_all : (p : Powered T5State) → device_after (T5 p) inventory_all None ≡ T5 (unrounded p)
 stays_at_all p = device_stays p.tag p.lit inventory_all (inventory_stays p.tag 0 [])
 
-pub stays_at_own : (id : List ℕ) (p : Powered) → device_after (T5 p) (inventory_of id) None ≡ T5 (unrounded p)
+pub stays_at_own : (id : List ℕ) (p : Powered T5State) → device_after (T5 p) (inventory_of id) None ≡ T5 (unrounded p)
 stays_at_own id p = device_stays p.tag p.lit (inventory_of id) (inventory_stays p.tag 64 (reverse id))
 
 -- So nothing that stays of it changes, ...
-pub kept_unrounded : (p : Powered) → kept (T5 (unrounded p)) ≡ kept (T5 p)
+pub kept_unrounded : (p : Powered T5State) → kept (T5 (unrounded p)) ≡ kept (T5 p)
 kept_unrounded p = by_light p.lit
   where
     by_light : (v : Bool) → kept (T5 (record p { tag = if v then out_of_round p.tag else p.tag })) ≡ kept (T5 p)
@@ -103,7 +106,7 @@ kept_unrounded p = by_light p.lit
     by_light false = refl
 
 -- ... and one that is in no round stays as it is.
-pub unrounded_same : (p : Powered) → p.tag.round ≡ None → T5 (unrounded p) ≡ T5 p
+pub unrounded_same : (p : Powered T5State) → p.tag.round ≡ None → T5 (unrounded p) ≡ T5 p
 unrounded_same p none = by_light p.lit
   where
     by_light : (v : Bool) → T5 (record p { tag = if v then out_of_round p.tag else p.tag }) ≡ T5 p
@@ -112,10 +115,10 @@ unrounded_same p none = by_light p.lit
 
 -- an inventory of one slot: it leaves each Type 5 tag as it is but for its round, and is answered whatever the round is
 record IsPlainInventory (f : Signal) : Type 0 where
-  leaves : (p : Powered) → device_after (T5 p) f None ≡ T5 (unrounded p)
-  same : (p : Powered) → device_answer (T5 (unrounded p)) f None ≡ device_answer (T5 p) f None
+  leaves : (p : Powered T5State) → device_after (T5 p) f None ≡ T5 (unrounded p)
+  same : (p : Powered T5State) → device_answer (T5 (unrounded p)) f None ≡ device_answer (T5 p) f None
 
-answer_unrounded : (f : Signal) → ((t : T5State) → t5_answer (out_of_round t) f ≡ t5_answer t f) → (p : Powered) → device_answer (T5 (unrounded p)) f None ≡ device_answer (T5 p) f None
+answer_unrounded : (f : Signal) → ((t : T5State) → t5_answer (out_of_round t) f ≡ t5_answer t f) → (p : Powered T5State) → device_answer (T5 (unrounded p)) f None ≡ device_answer (T5 p) f None
 answer_unrounded f alike p = by_light p.lit
   where
     by_light : (v : Bool) → device_answer (T5 (record { tag = if v then out_of_round p.tag else p.tag; lit = v })) f None ≡ device_answer (T5 (record { tag = p.tag; lit = v })) f None
@@ -129,22 +132,22 @@ at_own : (id : List ℕ) → IsPlainInventory (inventory_of id)
 at_own id = record { leaves = stays_at_own id; same = answer_unrounded (inventory_of id) (λ t. refl) }
 
 -- the devices that a Type 5 tag is at repeated inventories: itself, or itself in no round
-record IsRepeated (p : Powered) (d : Device) (f : Signal) : Type 0 where
-  tag : Powered
+record IsRepeated (p : Powered T5State) (d : Device) (f : Signal) : Type 0 where
+  tag : Powered T5State
   is : d ≡ T5 tag
   answer : device_answer (T5 tag) f None ≡ device_answer (T5 p) f None
 
-again : (f : Signal) → IsPlainInventory f → (p : Powered) (n : ℕ) → IsRepeated p (heard_again devices f (T5 p) n) f
+again : (f : Signal) → IsPlainInventory f → (p : Powered T5State) (n : ℕ) → IsRepeated p (heard_again devices f (T5 p) n) f
 again f plain p zero = record { tag = p; is = refl; answer = refl }
 again f plain p (suc n) =
     let before = again f plain p n in
     subst (λ d. IsRepeated p (stepped_by devices d f None) f) (sym before.is) (by_tech (same_tech V f.tech) before.tag before.answer)
   where
-    by_tech : (v : Bool) (q : Powered) → device_answer (T5 q) f None ≡ device_answer (T5 p) f None → IsRepeated p (if v then device_after (T5 q) f None else T5 q) f
+    by_tech : (v : Bool) (q : Powered T5State) → device_answer (T5 q) f None ≡ device_answer (T5 p) f None → IsRepeated p (if v then device_after (T5 q) f None else T5 q) f
     by_tech true q e = record { tag = unrounded q; is = plain.leaves q; answer = plain.same q ∙ e }
     by_tech false q e = record { tag = q; is = refl; answer = e }
 
-steady_five : (f : Signal) (p : Powered) → IsPlainInventory f → IsSteady devices f (T5 p)
+steady_five : (f : Signal) (p : Powered T5State) → IsPlainInventory f → IsSteady devices f (T5 p)
 steady_five f p plain v n =
     let behind = again f plain p n in (
       ap (λ d. hands_over devices d f) behind.is ∙ none_handed (same_tech V f.tech),
@@ -159,12 +162,14 @@ steady_five f p plain v n =
 pub steady_at_all : (d : Device) → IsSteady devices inventory_all d
 steady_at_all (T2 d) v = absurd cc
 steady_at_all (T4 d) v = absurd cc
+steady_at_all (T3 p) v = absurd cc
 steady_at_all (Peer d) v = absurd cc
 steady_at_all (T5 p) v = steady_five inventory_all p at_all v
 
 pub steady_at : (id : List ℕ) (d : Device) → IsSteady devices (inventory_of id) d
 steady_at id (T2 d) v = absurd cc
 steady_at id (T4 d) v = absurd cc
+steady_at id (T3 p) v = absurd cc
 steady_at id (Peer d) v = absurd cc
 steady_at id (T5 p) v = steady_five (inventory_of id) p (at_own id) v
 

@@ -16,17 +16,17 @@ use Rattle.dep_link.specs.Target.{TargetState, TargetTurn, Frees, stays, framed,
 use Rattle.dep_link.proofs.Wire.{target_heeds}
 use Rattle.peer_air.specs.Aside.{AsideBut}
 use Rattle.bench_devices.specs.declared.device.Device.{Device}
-use Rattle.bench_devices.specs.declared.device.Device.TheVariants.{T2, T4, Peer, T5}
-use Rattle.bench_devices.specs.declared.polling.SeenKind.TheVariants as seen
+use Rattle.bench_devices.specs.declared.device.Device.TheVariants.{T2, T4, Peer, T5, T3}
 use Rattle.bench_devices.specs.Beside.{PeerAt, InStepAt}
-use Rattle.bench_devices.specs.Device.{devices, device_end, device_linked, device_selected, seen_of}
+use Rattle.bench_devices.specs.Kinds.{PeerKind}
+use Rattle.bench_devices.specs.Device.{devices, device_end, device_linked, device_selected, kind_of}
 use Rattle.bench_devices.specs.Keeping.{ghosts}
 use Rattle.bench_devices.specs.LinkLaws.{ReadyInStep, NoneAtRls, InStepTakesRls}
 use Rattle.bench_devices.specs.Peers.{PeerNear, asked_if, takes_frame}
 use Rattle.bench_devices.proofs.BesideLink.{at_aside, only_one}
 use Rattle.bench_devices.proofs.PeerInStep.{linked_peer}
 
-peer_there : (own : List ℕ) (before : List Device) (x : Device) (behind : List Device) (place : ℕ) → PeerAt own place (before ++ x ∷ behind) → length before ≡ place → seen_of x ≡ seen.Peer
+peer_there : (own : List ℕ) (before : List Device) (x : Device) (behind : List Device) (place : ℕ) → PeerAt own place (before ++ x ∷ behind) → length before ≡ place → kind_of x ≡ PeerKind
 peer_there own [] x behind zero a e = a.0
 peer_there own [] x behind (suc n) a e = absurd cc
 peer_there own (b ∷ before) x behind zero a e = absurd cc
@@ -45,7 +45,7 @@ module _ (own : List ℕ) (place : ℕ) (new : Air Device) (at : PeerAt own plac
       let aside = subst (AsideBut ghosts own place) t.alone.split (at_aside own place new.listeners at) in
       sym t.alone.stands ∙ only_one own t.alone.before t.listener t.alone.behind place aside t.is.tech t.selected
 
-  pub here_kind : seen_of t.listener ≡ seen.Peer
+  pub here_kind : kind_of t.listener ≡ PeerKind
   here_kind = peer_there own t.alone.before t.listener t.alone.behind place (subst (PeerAt own place) t.alone.split at) (t.alone.stands ∙ same_place)
 
   abbrev pub in_step : new.lit ≡ true → InStepAt new place i
@@ -83,6 +83,7 @@ rls_asks (Peer d) linked a = by_front d.front d.upper a linked
     by_front (Ready k starred) u b l = absurd cc
     by_front (Active starred) u b l = ap (λ v. asked_if (v || is_atr_req rls_frame) u rls_frame) l
 rls_asks (T5 p) linked a = absurd cc
+rls_asks (T3 p) linked a = absurd cc
 
 pub takes_rls : InStepTakesRls
 takes_rls a place i s =
@@ -114,3 +115,4 @@ none_at_rls (Peer d) = by_front d.front d.upper
     by_front (Ready k starred) u = refl
     by_front (Active starred) u = asked_none (takes_frame u rls_frame) u
 none_at_rls (T5 p) = refl
+none_at_rls (T3 p) = refl

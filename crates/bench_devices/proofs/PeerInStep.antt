@@ -11,9 +11,9 @@ use Rattle.dep_link.specs.Target.{TargetState, TargetTurn, Answers, stays, targe
 use Rattle.dep_link.specs.Peers.{answered_with, IsAsked, IsPeer, StepsByTarget}
 use Rattle.dep_link.proofs.Wire.{written_read, target_heeds}
 use Rattle.bench_devices.specs.declared.device.Device.{Device}
-use Rattle.bench_devices.specs.declared.device.Device.TheVariants.{T2, T4, Peer, T5}
-use Rattle.bench_devices.specs.declared.polling.SeenKind.TheVariants as seen
-use Rattle.bench_devices.specs.Device.{devices, device_end, device_linked, device_selected, seen_of}
+use Rattle.bench_devices.specs.declared.device.Device.TheVariants.{T2, T4, Peer, T5, T3}
+use Rattle.bench_devices.specs.Kinds.{PeerKind}
+use Rattle.bench_devices.specs.Device.{devices, device_end, device_linked, device_selected, kind_of}
 use Rattle.bench_devices.specs.Keeping.{ghosts}
 use Rattle.bench_devices.specs.Peers.{PeerNear, peer_if, asked_if, peer_machine}
 
@@ -58,8 +58,9 @@ linked_by id (Active starred) u a is heeds false e =
     let clash : None ≡ Some (air_frame (Attention true)) = sym (silent_front id starred u e) ∙ one.answer ∙ heard_question u.target heeds in
     absurd cc
 
-pub linked_peer : (x : Device) → seen_of x ≡ seen.Peer → device_selected x ≡ true → IsPeer ghosts device_end x → (device_end x).mute ≡ false → device_linked x ≡ true
+pub linked_peer : (x : Device) → kind_of x ≡ PeerKind → device_selected x ≡ true → IsPeer ghosts device_end x → (device_end x).mute ≡ false → device_linked x ≡ true
 linked_peer (T2 d) kind a is heeds = absurd cc
 linked_peer (T4 d) kind a is heeds = absurd cc
 linked_peer (Peer d) kind a is heeds = ap (λ v. v) (linked_by d.id d.front d.upper a is heeds d.upper.linked refl)
 linked_peer (T5 p) kind a is heeds = absurd cc
+linked_peer (T3 p) kind a is heeds = absurd cc

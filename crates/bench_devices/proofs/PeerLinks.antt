@@ -1,5 +1,5 @@
 -- A peer has a link to its far end from ATR_REQ on: without one it hands over nothing at any other frame, and has none afterwards.
-use Rattle.std.proofs.Common.{◌≡◌, ℕ, List, Bool, true, false, ◌||◌, if◌then◌else◌, Option, Some, None, refl, ◌∙◌, ap, sym}
+use Rattle.std.proofs.Common.{◌≡◌, ℕ, List, Bool, true, false, ◌||◌, Option, Some, None, refl, ◌∙◌, ap, sym}
 use Rattle.nfc_base.specs.Signal.{Signal}
 use Rattle.nfc_base.specs.Far.{Untouched, Restarts, Hands}
 use Rattle.nfca_poll.specs.declared.upper.UpStep.TheVariants as steps
@@ -15,7 +15,7 @@ use Rattle.dep_link.specs.Target.{TargetState, obeyed}
 use Rattle.far_air.specs.FarLaws.{IsLinked}
 use Rattle.far_air.specs.Quietly.{IsCalm}
 use Rattle.bench_devices.specs.declared.device.Device.{Device}
-use Rattle.bench_devices.specs.declared.device.Device.TheVariants.{T2, T4, Peer, T5}
+use Rattle.bench_devices.specs.declared.device.Device.TheVariants.{T2, T4, Peer, T5, T3}
 use Rattle.bench_devices.specs.Device.{devices, device_linked}
 use Rattle.bench_devices.specs.Peers.{PeerNear, PeerDid, peer_if, peer_did, asked_if, takes_frame, peer_machine}
 
@@ -79,6 +79,7 @@ calm_frame f a (T2 d) h = refl
 calm_frame f a (T4 d) h = refl
 calm_frame f a (Peer d) h = free_hands d.front d f a h
 calm_frame f a (T5 p) h = refl
+calm_frame f a (T3 p) h = refl
 
 -- where it handed nothing over, it has none afterwards
 left_unlinked : (front next : Front) (u : PeerNear) → u.linked ≡ false → (left_at peer_machine front next u).linked ≡ false
@@ -118,28 +119,28 @@ hands (T2 d) f payload e = absurd cc
 hands (T4 d) f payload e = absurd cc
 hands (Peer d) f payload e = peer_hands d.front d f payload e
 hands (T5 p) f payload e = absurd cc
-
-powered_free : (v : Bool) (a b : Device) → device_linked a ≡ false → device_linked b ≡ false → device_linked (if v then a else b) ≡ false
-powered_free true a b h k = h
-powered_free false a b h k = k
+hands (T3 p) f payload e = absurd cc
 
 begins : (l : Device) (f : Signal) → device_linked l ≡ false → devices.handed l f ≡ Untouched → device_linked (devices.after l f None) ≡ false
 begins (T2 d) f h e = refl
 begins (T4 d) f h e = refl
 begins (Peer d) f h e = peer_stays d.front d f h e
-begins (T5 p) f h e = powered_free p.lit _ (T5 p) refl refl
+begins (T5 p) f h e = refl
+begins (T3 p) f h e = refl
 
 light : (l : Device) → device_linked l ≡ false → device_linked (devices.woken l) ≡ false
 light (T2 d) h = refl
 light (T4 d) h = refl
 light (Peer d) h = left_unlinked d.front Idle d.upper h
 light (T5 p) h = refl
+light (T3 p) h = refl
 
 dark : (l : Device) → device_linked (devices.darkened l) ≡ false
 dark (T2 d) = refl
 dark (T4 d) = refl
 dark (Peer d) = refl
 dark (T5 p) = refl
+dark (T3 p) = refl
 
 pub devices_link : IsLinked devices device_linked
 devices_link = record { hands = hands; begins = begins; light = light; dark = dark }

@@ -20,7 +20,7 @@ use Rattle.air_core.specs.World.{hears, stepped_by}
 use Rattle.isodep_link.specs.Card as ends
 use Rattle.tag_reader.specs.declared.how.How.TheVariants as hows
 use Rattle.bench_devices.specs.declared.device.Device.TheVariants.{Peer}
-use Rattle.bench_devices.specs.declared.polling.SeenKind.TheVariants as seen
+use Rattle.bench_devices.specs.Kinds.{PeerKind}
 use Rattle.bench_devices.specs.Device.{devices}
 use Rattle.bench_devices.specs.Keeping.{Kept, kept}
 use Rattle.bench_devices.specs.PeerUpper.{peer_upper}
@@ -106,7 +106,7 @@ after_made (Active starred) d f reply = active_made (peer_did d.upper f reply).s
 -- Nothing that stays of a peer changes at any frame, nor by light and dark.
 abbrev keeps_peer : List ℕ → TargetState → Kept
 keeps_peer id made = record {
-  fixed = record { id = id; kind = seen.Peer; how = hows.T2; size = 0; locked = []; code = 0; container = []; made = ends.fresh 0; target = made };
+  fixed = record { id = id; kind = PeerKind; how = hows.T2; size = 0; locked = []; code = 0; container = []; made = ends.fresh 0; target = made };
   store = [];
 }
 

@@ -16,7 +16,7 @@ use Rattle.air_core.specs.Waiting.{front_due, stand_on}
 use Rattle.air_core.specs.PlainLinks.{PlainSeen, PlainMoves, StandsAt, unanswered, answered_in, plain_view}
 use Rattle.tag_reader.specs.Reading.{IsCalm}
 use Rattle.bench_devices.specs.declared.device.Device.{Device}
-use Rattle.bench_devices.specs.declared.device.Device.TheVariants.{T2, T4, Peer, T5}
+use Rattle.bench_devices.specs.declared.device.Device.TheVariants.{T2, T4, Peer, T5, T3}
 use Rattle.bench_devices.specs.Device.{air, devices, seen_of}
 use Rattle.bench_devices.specs.Answering.{TellsStanding, TellsBy, IsUnbroken, GoesOnBy}
 use Rattle.bench_devices.specs.CardAsking.{tag_next}
@@ -45,6 +45,7 @@ module _ {X : Type 0} (what : Changes) (IsAll : List Signal → Type 0) (Shows :
   as_told old new (T4 d) x plain s = absurd plain.0
   as_told old new (Peer d) x plain s = absurd (no_tag plain.1)
   as_told old new (T5 p) x plain s = record { commands = s.commands; asks = s.asks; asked = s.asked; ends = s.ends; lost = s.lost; noisy = s.noisy }
+  as_told old new (T3 p) x plain s = record { commands = s.commands; asks = s.asks; asked = s.asked; ends = s.ends; lost = s.lost; noisy = s.noisy }
 
   abbrev pub AsksPlainSome : Moment (World Device) → Moment (World Device) → Type 0
   AsksPlainSome old new = AsksSome what IsAll waits_next (λ cs ns. IsUnbroken (stand 0 cs ns)) old new
@@ -54,6 +55,7 @@ module _ {X : Type 0} (what : Changes) (IsAll : List Signal → Type 0) (Shows :
   as_cut old new (T4 d) plain s = absurd plain.0
   as_cut old new (Peer d) plain s = absurd (no_tag plain.1)
   as_cut old new (T5 p) plain s = record { commands = s.commands; asks = s.asks; asked = s.asked; unbroken = s.unbroken; unlost = s.unlost }
+  as_cut old new (T3 p) plain s = record { commands = s.commands; asks = s.asks; asked = s.asked; unbroken = s.unbroken; unlost = s.unlost }
 
   module _ (a : Air Device) (place : ℕ) (bright : a.lit ≡ true) (q : PlainSeen Device) (m : PlainMoves ghosts (begun a place) q) where
     abbrev from : LinkView

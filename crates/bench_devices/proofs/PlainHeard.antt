@@ -34,7 +34,7 @@ use Rattle.isodep_link.proofs.Heeding.{AreBytes}
 use Rattle.tag_reader.specs.declared.how.How.{How}
 use Rattle.tag_reader.specs.declared.how.How.TheVariants as hows
 use Rattle.bench_devices.specs.declared.device.Device.{Device}
-use Rattle.bench_devices.specs.declared.device.Device.TheVariants.{T2, T4, Peer, T5}
+use Rattle.bench_devices.specs.declared.device.Device.TheVariants.{T2, T4, Peer, T5, T3}
 use Rattle.bench_devices.specs.Powered.{Powered}
 use Rattle.bench_devices.specs.Device.{BenchWorld, air, devices, device_tech, says_of, t2_machine}
 use Rattle.bench_devices.specs.Keeping.{ghosts}
@@ -57,6 +57,7 @@ IsOwn (hows.T5 id) own = (id ≡ own) × (length own ≡ 8)
 abbrev pub IsOn : How → Device → Type 0
 IsOn how (T2 d) = (how ≡ hows.T2) × (starred : Bool) × (d.front ≡ Active starred)
 IsOn how (T4 d) = ⊥
+IsOn how (T3 p) = ⊥
 IsOn how (Peer d) = ⊥
 IsOn how (T5 p) = (how ≡ hows.T5 p.tag.id) × (p.lit ≡ true) × IsT5Shape p.tag
 
@@ -93,18 +94,19 @@ addressed_tells t is code rest other =
     addressed_turn t is code rest ∙ ap (λ v. if v && (length rest == 0) then hushes u else obeyed u code rest) other in
     subst Tells (sym turn) (obeyed_tells u code rest)
 
-five_replies : (how : How) (p : Powered) (f : Signal) → how ≡ hows.T5 p.tag.id → p.lit ≡ true → IsT5Shape p.tag → Tells (t5_turn p.tag f) → Replies how (T5 p) f
+five_replies : (how : How) (p : Powered T5State) (f : Signal) → how ≡ hows.T5 p.tag.id → p.lit ≡ true → IsT5Shape p.tag → Tells (t5_turn p.tag f) → Replies how (T5 p) f
 five_replies how p f is lit sound tells = record {
   answer = _;
   says = ap (λ v. if v then t5_answer p.tag f else None) lit ∙ ap sent tells.1;
   stays =
-      (let goes : devices.after (T5 p) f None ≡ T5 (record { tag = t5_after p.tag f; lit = true }) = ap (λ v. if v then T5 (record { tag = t5_after p.tag f; lit = true }) else T5 p) lit in
+      (let goes : devices.after (T5 p) f None ≡ T5 (record { tag = t5_after p.tag f; lit = true }) = ap (λ v. T5 (if v then record { tag = t5_after p.tag f; lit = true } else p)) lit in
       subst (IsOn how) (sym goes) (is ∙ ap hows.T5 (sym (same_tag p.tag f).id), refl, stays_shape p.tag sound f));
 }
 
 pub replies : (how : How) (m : Device) (f : Signal) → IsOn how m → IsHeeded how f → Replies how m f
 replies how (T2 d) f on heeded = let h : IsHeeded hows.T2 f = subst (λ k. IsHeeded k f) on.0 heeded in two_replies how d f h.1 on.0 on.1 on.2 h.2
 replies how (T4 d) f on heeded = absurd on
+replies how (T3 p) f on heeded = absurd on
 replies how (Peer d) f on heeded = absurd on
 replies how (T5 p) f on heeded =
     let h : IsHeeded (hows.T5 p.tag.id) f = subst (λ k. IsHeeded k f) on.0 heeded in
@@ -129,6 +131,7 @@ named_by (hows.T5 id) own is = is.1
 tech_is : (how : How) (m : Device) → IsOn how m → device_tech m ≡ tech_by how
 tech_is how (T2 d) on = ap tech_by (sym on.0)
 tech_is how (T4 d) on = absurd on
+tech_is how (T3 p) on = absurd on
 tech_is how (Peer d) on = absurd on
 tech_is how (T5 p) on = ap tech_by (sym on.0)
 

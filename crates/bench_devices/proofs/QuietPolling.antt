@@ -19,7 +19,7 @@ use Rattle.nfca_poll.specs.Muted.{mute_reply, muted}
 use Rattle.nfca_poll.specs.OwnFrames.{BeginsAsCalls}
 use Rattle.nfca_poll.proofs.Eaches.{map_same, said_same}
 use Rattle.bench_devices.specs.declared.device.Device.{Device}
-use Rattle.bench_devices.specs.declared.device.Device.TheVariants.{T2, T4, Peer, T5}
+use Rattle.bench_devices.specs.declared.device.Device.TheVariants.{T2, T4, Peer, T5, T3}
 use Rattle.bench_devices.specs.Device.{air, devices}
 use Rattle.bench_devices.specs.Keeping.{EachAsked}
 use Rattle.bench_devices.proofs.Inventoried.{all_of}
@@ -150,12 +150,14 @@ call_hands_none f h (Peer d) = by_tech (hears devices (Peer d) f)
     by_tech true = none_handed d.front d f h
     by_tech false = refl
 call_hands_none f h (T5 p) = either_none (hears devices (T5 p) f)
+call_hands_none f h (T3 p) = either_none (hears devices (T3 p) f)
 
 pub other_hands_none : (f : Signal) → f.tech ≡ V → HandsNone f
 other_hands_none f h (T2 d) = either_none (hears devices (T2 d) f)
 other_hands_none f h (T4 d) = either_none (hears devices (T4 d) f)
 other_hands_none f h (Peer d) = ap (λ t. if same_tech A t then devices.handed (Peer d) f else Untouched) h
 other_hands_none f h (T5 p) = either_none (hears devices (T5 p) f)
+other_hands_none f h (T3 p) = either_none (hears devices (T3 p) f)
 
 -- Then the far end that answers nothing makes no difference.
 says_same : (l : Device) (f : Signal) (v : Bool) → (if v then devices.handed l f else Untouched) ≡ Untouched

@@ -22,7 +22,7 @@ use Rattle.tag_reader.specs.Kinds.{command, first}
 use Rattle.tag_reader.proofs.Cards.{container_is, store_is}
 use Rattle.tag_reader.proofs.Files.{InFile, in_file}
 use Rattle.bench_devices.specs.declared.device.Device.{Device}
-use Rattle.bench_devices.specs.declared.device.Device.TheVariants.{T2, T4, Peer, T5}
+use Rattle.bench_devices.specs.declared.device.Device.TheVariants.{T2, T4, Peer, T5, T3}
 use Rattle.bench_devices.specs.Device.{device_store, how_of, size_of}
 use Rattle.bench_devices.specs.Keeping.{kept, container_of, IsSound}
 use Rattle.bench_devices.proofs.CardBytes.{cons_bytes}
@@ -126,6 +126,8 @@ asked_heeded aim (T4 d) asked sound bytes is =
     all_asked (IsHeeded hows.T4) aim hows.T4 (size_of (T4 d)) (device_store (T4 d)) asked is (λ k due. four_heeded d.upper.tag tag bytes aim (size_of (T4 d)) k due)
 asked_heeded aim (Peer d) asked sound bytes is =
     all_asked (IsHeeded hows.T2) aim hows.T2 (size_of (Peer d)) (device_store (Peer d)) asked is (λ k due. (refl, t2_command.Read (4 * k), refl))
+asked_heeded aim (T3 p) asked sound bytes is =
+    all_asked (IsHeeded hows.T2) aim hows.T2 (size_of (T3 p)) (device_store (T3 p)) asked is (λ k due. (refl, t2_command.Read (4 * k), refl))
 asked_heeded aim (T5 p) asked sound bytes is =
     all_asked (IsHeeded (hows.T5 p.tag.id)) aim (hows.T5 p.tag.id) (size_of (T5 p)) (device_store (T5 p)) asked is
     (λ k due. five_heeded p.tag.id (ask_at (size_of (T5 p)) (device_store (T5 p)) (progress_at (size_of (T5 p)) (device_store (T5 p)) k)))

@@ -22,7 +22,7 @@ use Rattle.tag_reader.specs.declared.how.How.TheVariants as hows
 use Rattle.tag_reader.specs.Kinds.{command, first}
 use Rattle.bench_devices.specs.Powered.{Powered}
 use Rattle.bench_devices.specs.declared.device.Device.{Device}
-use Rattle.bench_devices.specs.declared.device.Device.TheVariants.{T2, T4, Peer, T5}
+use Rattle.bench_devices.specs.declared.device.Device.TheVariants.{T2, T4, Peer, T5, T3}
 use Rattle.nfc_base.specs.declared.frame.Tech.TheVariants.{A}
 use Rattle.bench_devices.specs.Device.{devices, device_tech, device_after, how_of}
 use Rattle.bench_devices.specs.Linking.{IsPlain}
@@ -32,6 +32,7 @@ use Rattle.bench_devices.proofs.ReadingTags.{no_tag}
 use Rattle.bench_devices.proofs.CardKept.{four_keeps, spells_none}
 use Rattle.air_core.proofs.DueWaits.{due_all}
 use Rattle.bench_devices.proofs.SelectingKept.{IsHarmless}
+use Rattle.t3t_tag.specs.Store.{T3State}
 
 -- what is read leaves a Type 5 tag as it is, but for a round that it was in
 read_leaves_it : (t : T5State) (block : ℕ) → (read_turn t block).after ≡ t
@@ -92,14 +93,14 @@ read_two id Sleep u size store k = refl
 read_two id (Ready level starred) u size store k = refl
 read_two id (Active starred) u size store k = refl
 
-five_keeps : (p : Powered) (f : Signal) → t5_after p.tag f ≡ out_of_round p.tag → kept (device_after (T5 p) f None) ≡ kept (T5 p)
+five_keeps : (p : Powered T5State) (f : Signal) → t5_after p.tag f ≡ out_of_round p.tag → kept (device_after (T5 p) f None) ≡ kept (T5 p)
 five_keeps p f leaves = by_light p.lit
   where
-    by_light : (v : Bool) → kept (if v then T5 (record { tag = t5_after p.tag f; lit = true }) else T5 p) ≡ kept (T5 p)
+    by_light : (v : Bool) → kept (T5 (if v then record { tag = t5_after p.tag f; lit = true } else p)) ≡ kept (T5 p)
     by_light true = ap (λ t. kept (T5 (record { tag = t; lit = true }))) leaves
     by_light false = refl
 
-read_five : (p : Powered) (id : List ℕ) (a : Ask) → kept (stepped_by devices (T5 p) (ask_frame id a) None) ≡ kept (T5 p)
+read_five : (p : Powered T5State) (id : List ℕ) (a : Ask) → kept (stepped_by devices (T5 p) (ask_frame id a) None) ≡ kept (T5 p)
 read_five p id (One block) = by_number (nat_lt block 256)
   where
     by_number : (v : Bool) → kept (stepped_by devices (T5 p) (t5.command_frame (if v then t5_command.Read (Some id) block else t5_command.ReadWide (Some id) block)) None) ≡ kept (T5 p)
@@ -116,16 +117,28 @@ unheard d (One block) id is = by_number (nat_lt block 256)
     by_number false = rw is refl
 unheard d (Many block more) id is = rw is refl
 
+-- nor does one of NFC-F
+unheard_three : (p : Powered T3State) (a : Ask) (id : List ℕ) → kept (stepped_by devices (T3 p) (ask_frame id a) None) ≡ kept (T3 p)
+unheard_three p (One block) id = by_number (nat_lt block 256)
+  where
+    by_number : (v : Bool) → kept (stepped_by devices (T3 p) (t5.command_frame (if v then t5_command.Read (Some id) block else t5_command.ReadWide (Some id) block)) None) ≡ kept (T3 p)
+    by_number true = refl
+    by_number false = refl
+unheard_three p (Many block more) id = refl
+
 read_keeps : (e : Device) → IsPlain e → (size : ℕ) (store : List ℕ) (k : ℕ) (d : Device) → kept (stepped_by devices d (command (how_of e) size store k) None) ≡ kept d
 read_keeps (T2 e) is size store k (T2 d) = read_two d.id d.front d.upper size store k
 read_keeps (T2 e) is size store k (T4 d) = four_keeps d (command hows.T2 size store k) (spells_none (command hows.T2 size store k) refl refl)
 read_keeps (T2 e) is size store k (T5 p) = refl
+read_keeps (T2 e) is size store k (T3 p) = refl
 read_keeps (T2 e) is size store k (Peer d) = peer_kept d (command hows.T2 size store k) None
 read_keeps (T4 e) is size store k d = absurd is.0
 read_keeps (Peer e) is size store k d = absurd (no_tag is.1)
+read_keeps (T3 e) is size store k d = absurd (no_tag is.1)
 read_keeps (T5 e) is size store k (T2 d) = unheard (T2 d) (ask_at size store (progress_at size store k)) e.tag.id refl
 read_keeps (T5 e) is size store k (T4 d) = unheard (T4 d) (ask_at size store (progress_at size store k)) e.tag.id refl
 read_keeps (T5 e) is size store k (Peer d) = peer_kept d (command (hows.T5 e.tag.id) size store k) None
+read_keeps (T5 e) is size store k (T3 p) = unheard_three p (ask_at size store (progress_at size store k)) e.tag.id
 read_keeps (T5 e) is size store k (T5 p) = read_five p e.tag.id (ask_at size store (progress_at size store k))
 
 -- a frame that asks a device for bytes

@@ -15,7 +15,7 @@ use Rattle.tag_reader.specs.Kinds.{first}
 use Rattle.tag_reader.specs.Asked.{ToRead}
 use Rattle.tag_reader.specs.Calls.{HasAsked}
 use Rattle.bench_devices.specs.declared.device.Device.{Device}
-use Rattle.bench_devices.specs.Device.{device_store, how_of, size_of, is_tag}
+use Rattle.bench_devices.specs.Device.{device_store, how_of, size_of, may_be_read}
 use Rattle.bench_devices.specs.Reading.{AsksOf, ShowsOf}
 use Rattle.bench_devices.specs.Linking.{IsPlain, IsPlainHow, IsNew}
 use Rattle.bench_devices.specs.Keeping.{kept, ghosts, NoStore}
@@ -68,7 +68,7 @@ module _ (a : Air Device) (place : ℕ) (d : Device) (s : Stands (moment a) plac
       as_cut NoStore (AsksOf d) (ShowsOf d) FailsRead (moment a) (moment q.air) d plain
       (read_does_some d (some_asked d s.sound plain) from to (shows_store a place d s) m.asked.commands (none_before a place q m) refl (asked_told a place q m) (ends t.order) r starved t)
 
-module _ (p : PlainSeen Device) (is : IsNew p) (how : How) (one : (e : Device) × Stands (moment p.air) p.place e × (how ≡ how_of e) × IsPlainHow how × (is_tag e ≡ true)) (q : PlainSeen Device)
+module _ (p : PlainSeen Device) (is : IsNew p) (how : How) (one : (e : Device) × Stands (moment p.air) p.place e × (how ≡ how_of e) × IsPlainHow how × (may_be_read e ≡ true)) (q : PlainSeen Device)
     (moves : PlainMoves ghosts p q) where
   -- what was told on the link that is new
   here : (r : Result Found ReadFault) → reading.IsRead how (size_of one.0) (plain_view ghosts p) (plain_view ghosts q) r

@@ -13,7 +13,7 @@ use Rattle.tag_reader.specs.Kinds.{IsTag}
 use Rattle.tag_reader.proofs.BlockLists.{blocks_asked}
 use Rattle.tag_reader.proofs.SomeList.{some_list}
 use Rattle.bench_devices.specs.declared.device.Device.{Device}
-use Rattle.bench_devices.specs.declared.device.Device.TheVariants.{T2, T4, Peer, T5}
+use Rattle.bench_devices.specs.declared.device.Device.TheVariants.{T2, T4, Peer, T5, T3}
 use Rattle.bench_devices.specs.Device.{device_tech, device_id, device_store, device_commands, device_selected, how_of, size_of}
 use Rattle.bench_devices.specs.Linking.{IsPlain}
 use Rattle.bench_devices.specs.Keeping.{kept, IsSound, ghosts}
@@ -22,7 +22,7 @@ use Rattle.bench_devices.specs.Reading.{AsksOf}
 use Rattle.bench_devices.proofs.TagTwo.{plain_two}
 use Rattle.bench_devices.proofs.TagFive.{plain_five}
 
--- a peer is no tag
+-- nothing is read of what may not be
 pub no_tag : false ≡ true → ⊥
 no_tag e = cc
 
@@ -31,12 +31,14 @@ plain_device (T2 d) s is = plain_two d s
 plain_device (T4 d) s is = absurd is.0
 plain_device (Peer d) s is = absurd (no_tag is.1)
 plain_device (T5 p) s is = plain_five p
+plain_device (T3 p) s is = absurd (no_tag is.1)
 
 eight_bytes : (d : Device) → IsSound (kept d) → IsNamedIn (device_tech d) (device_id d)
 eight_bytes (T2 d) is = tt
 eight_bytes (T4 d) is = tt
 eight_bytes (Peer d) is = tt
 eight_bytes (T5 p) is = is.1
+eight_bytes (T3 p) is = is.0
 
 pub stands_alone : (a : Air Device) (place : ℕ) (d : Device) → Stands (moment a) place d → IsAlone ghosts (device_id d) a.listeners place d
 stands_alone a place d s = record {
@@ -68,6 +70,7 @@ tag_by v (T2 e) kind named step state is plain = record {
 }
 tag_by v (T4 e) kind named step state is plain = absurd plain.0
 tag_by v (Peer e) kind named step state is plain = absurd (no_tag plain.1)
+tag_by v (T3 p) kind named step state is plain = absurd (no_tag plain.1)
 tag_by v (T5 p) kind named step state is plain = record {
   kind = kind;
   named = (named, is.1, is.2);
@@ -80,6 +83,7 @@ pub some_asked : (d : Device) → IsSound (kept d) → IsPlain d → (commands :
 some_asked (T2 d) is plain = some_list (size_of (T2 d)) (device_store (T2 d)) (refl, is.2)
 some_asked (T4 d) is plain = absurd plain.0
 some_asked (Peer d) is plain = absurd (no_tag plain.1)
+some_asked (T3 p) is plain = absurd (no_tag plain.1)
 some_asked (T5 p) is plain = blocks_asked p.tag.id (size_of (T5 p)) (device_store (T5 p)) is.3
 
 -- the link when it is made

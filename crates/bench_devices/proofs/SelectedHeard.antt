@@ -1,5 +1,5 @@
 -- A command that selects a tag and asks commands of it, where all passes: behind the selection each note is a whole answer.
-use Rattle.std.proofs.Common.{◌≡◌, ◌⊎◌, inl, inr, ℕ, List, [], ◌∷◌, ◌++◌, length, map, Option, None, IsSome, Result, Ok, Err, refl, sym, ◌∙◌, ap, subst, append_assoc, append-nil}
+use Rattle.std.proofs.Common.{◌≡◌, ◌⊎◌, inl, inr, ℕ, List, [], ◌∷◌, ◌++◌, length, map, Option, None, IsSome, Result, Ok, Err, refl, sym, ◌∙◌, ap, subst, append_assoc, append-nil, true}
 use Rattle.std.specs.List.{AllByRecursion}
 use Rattle.std.proofs.lemmas.List.{append_cancel_left, map-append}
 use Rattle.nfc_base.specs.declared.event.Event.{Event}
@@ -27,7 +27,7 @@ use Rattle.bench_devices.specs.declared.polling.SeenKind.{SeenKind}
 use Rattle.bench_devices.specs.declared.polling.SeenKind.TheVariants as seen
 use Rattle.bench_devices.specs.CardAsking.{CardStanding, Activates, Exchanges, card_due, card_stands, tag_next}
 use Rattle.bench_devices.specs.Choosing.{StandsAt}
-use Rattle.bench_devices.specs.Device.{BenchWorld, air, devices, device_id, how_of, seen_of}
+use Rattle.bench_devices.specs.Device.{BenchWorld, air, devices, device_id, how_of, seen_of, may_be_found}
 use Rattle.bench_devices.specs.Hearing.{IsAnswered}
 use Rattle.bench_devices.specs.Keeping.{Kept, kept, AreTame}
 use Rattle.bench_devices.specs.Phases.{AreTidy, Stands, SelectsAt}
@@ -63,6 +63,7 @@ pub record Selected (id : DeviceId) (a b : Moment BenchWorld) (kind : SeenKind) 
   pub device : Device
   pub stands : Stands b place device
   pub named : device_id device ≡ bytes_of id
+  pub found : may_be_found device ≡ true
   pub kind_is : seen_of device ≡ kind
   pub same : map kept b.world.listeners ≡ map kept a.world.listeners
 
@@ -78,6 +79,7 @@ selected_by id a b next hs kind place g told s =
       device = s.device;
       stands = s.stands;
       named = s.named;
+      found = s.found;
       kind_is = same_kind (seen_of s.device) kind (sym s.selects.told ∙ ap (selecting id) notes ∙ told);
       same = s.selects.asked.same;
     }
@@ -128,6 +130,7 @@ selected_v id a mid b hs x eight tame reset p told =
       device = s.device;
       stands = s.stands;
       named = s.named;
+      found = s.found;
       kind_is = five_told id s.selects.asked.notes (seen_of s.device) s.selects.told;
       same = s.selects.asked.same;
     }
@@ -208,7 +211,7 @@ module _ (asked : List Signal) (a : Moment BenchWorld) (tame : AreTame (map kept
         told = told;
         all = tt;
         goes = subst (λ k. TagGoes asked k b []) s.kind_is
-            (begins_heard asked b s.place s.device s.stands (heed s.device (map kept s.stands.before) (map kept s.stands.behind) split s.named));
+            (begins_heard asked b s.place s.device s.stands s.found (heed s.device (map kept s.stands.before) (map kept s.stands.behind) split s.named));
       }
 
   -- a selection of an NFC-A device that is told

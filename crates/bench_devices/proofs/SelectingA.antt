@@ -20,10 +20,10 @@ use Rattle.nfca_poll.specs.RoundEnds.{LeavesActive, PickEnds, SelectsAlone}
 use Rattle.nfca_poll.proofs.Eaches.{each_front, each_back}
 use Rattle.bench_script.specs.declared.command.DeviceId.TheVariants as ids
 use Rattle.bench_devices.specs.declared.device.Device.{Device}
-use Rattle.bench_devices.specs.declared.device.Device.TheVariants.{T2, T4, Peer, T5}
+use Rattle.bench_devices.specs.declared.device.Device.TheVariants.{T2, T4, Peer, T5, T3}
 use Rattle.bench_devices.specs.declared.polling.SeenKind.{SeenKind}
-use Rattle.bench_devices.specs.Device.{devices, device_id, device_selected, seen_of}
-use Rattle.bench_devices.specs.Device.{air}
+use Rattle.bench_devices.specs.Device.{devices, device_id, device_selected, seen_of, may_be_found}
+use Rattle.bench_devices.specs.Device.{air, seen_of}
 use Rattle.bench_devices.specs.Placed.{device_with}
 use Rattle.bench_devices.specs.Answering.{HasPollCause, MissedBy, IsAbsent}
 use Rattle.bench_devices.specs.Noise.{is_call}
@@ -56,6 +56,7 @@ other_ids id (T2 d ∷ ds) h = ((λ e. h.0 e.1), other_ids id ds h.1)
 other_ids id (T4 d ∷ ds) h = ((λ e. h.0 e.1), other_ids id ds h.1)
 other_ids id (Peer d ∷ ds) h = ((λ e. h.0 e.1), other_ids id ds h.1)
 other_ids id (T5 p ∷ ds) h = ((λ e. absurd (let k : techs.V ≡ techs.A = e.0 in cc)), other_ids id ds h)
+other_ids id (T3 p ∷ ds) h = ((λ e. absurd (let k : techs.F ≡ techs.A = e.0 in cc)), other_ids id ds h)
 
 -- the device that has a card
 record CardAt (ds : List Device) (a : List Card) (c : Card) (b : List Card) : Type 0 where
@@ -105,6 +106,9 @@ card_at [] (x ∷ a) c b e = absurd (no_card x (a ++ c ∷ b) e)
 card_at (T5 p ∷ ds) a c b e =
     let r : CardAt ds a c b = card_at ds a c b e in
     record { before = T5 p ∷ r.before; device = r.device; behind = r.behind; split = ap (λ xs. T5 p ∷ xs) r.split; card = r.card; first = r.first; later = r.later }
+card_at (T3 p ∷ ds) a c b e =
+    let r : CardAt ds a c b = card_at ds a c b e in
+    record { before = T3 p ∷ r.before; device = r.device; behind = r.behind; split = ap (λ xs. T3 p ∷ xs) r.split; card = r.card; first = r.first; later = r.later }
 card_at (T2 d ∷ ds) [] c b e = card_here (T2 d) ds c b e
 card_at (T2 d ∷ ds) (x ∷ a) c b e = card_later (T2 d) ds x a c b (λ xs. refl) e (card_at ds a c b (ap tail_of e))
 card_at (T4 d ∷ ds) [] c b e = card_here (T4 d) ds c b e
@@ -116,11 +120,12 @@ card_at (Peer d ∷ ds) (x ∷ a) c b e = card_later (Peer d) ds x a c b (λ xs.
 no_off : Off ≡ Active false → ⊥
 no_off e = cc
 
-told_right : (d : Device) (c : Card) → card_of ours d ≡ c → c.front ≡ Active false → (seen_of d ≡ seen_kind c.kind) × (device_selected d ≡ true)
-told_right (T2 d) c e f = (ap (λ (x : Card). seen_kind x.kind) e, ap (λ (x : Card). is_active x.front) e ∙ ap is_active f)
-told_right (T4 d) c e f = (ap (λ (x : Card). seen_kind x.kind) e, ap (λ (x : Card). is_active x.front) e ∙ ap is_active f)
-told_right (Peer d) c e f = (ap (λ (x : Card). seen_kind x.kind) e, ap (λ (x : Card). is_active x.front) e ∙ ap is_active f)
+told_right : (d : Device) (c : Card) → card_of ours d ≡ c → c.front ≡ Active false → (seen_of d ≡ seen_kind c.kind) × (device_selected d ≡ true) × (may_be_found d ≡ true)
+told_right (T2 d) c e f = (ap (λ (x : Card). seen_kind x.kind) e, ap (λ (x : Card). is_active x.front) e ∙ ap is_active f, refl)
+told_right (T4 d) c e f = (ap (λ (x : Card). seen_kind x.kind) e, ap (λ (x : Card). is_active x.front) e ∙ ap is_active f, refl)
+told_right (Peer d) c e f = (ap (λ (x : Card). seen_kind x.kind) e, ap (λ (x : Card). is_active x.front) e ∙ ap is_active f, refl)
 told_right (T5 p) c e f = absurd (no_off (ap (λ (x : Card). x.front) e ∙ f))
+told_right (T3 p) c e f = absurd (no_off (ap (λ (x : Card). x.front) e ∙ f))
 
 rest_unready : (front : Front) → is_rest front ≡ true → (is_ready front ≡ false) × (is_active front ≡ false)
 rest_unready Off h = (refl, refl)
@@ -136,6 +141,7 @@ all_aside id (T2 d ∷ ds) h o = (record { rests = λ t. rest_unready d.front h.
 all_aside id (T4 d ∷ ds) h o = (record { rests = λ t. rest_unready d.front h.0; other = o.0 }, all_aside id ds h.1 o.1)
 all_aside id (Peer d ∷ ds) h o = (record { rests = λ t. rest_unready d.front h.0; other = o.0 }, all_aside id ds h.1 o.1)
 all_aside id (T5 p ∷ ds) h o = (record { rests = λ t. absurd cc; other = o.0 }, all_aside id ds h o.1)
+all_aside id (T3 p ∷ ds) h o = (record { rests = λ t. absurd cc; other = o.0 }, all_aside id ds h o.1)
 
 -- at its calls nothing is handed over
 pub asks_quietly : (id : List ℕ) → AsksQuietly (picking id)
@@ -243,7 +249,7 @@ module _ (id : List ℕ) (old new : Air Device) (r : Result Kind PollFault) (ide
       not_starved : Ok kind ≡ Err faults.Memory → ⊥
       not_starved e = cc
 
-      right : (seen_of found.device ≡ seen_kind kind) × (device_selected found.device ≡ true)
+      right : (seen_of found.device ≡ seen_kind kind) × (device_selected found.device ≡ true) × (may_be_found found.device ≡ true)
       right = told_right found.device picked found.card refl
 
       -- it began with a reset, so none has a link
@@ -280,5 +286,6 @@ module _ (id : List ℕ) (old new : Air Device) (r : Result Kind PollFault) (ide
             selects = subst (λ k. Selects (ids.A id) (Ok k) (moment old) (moment new)) (sym right.0) (subst P well (selects (λ e. not_starved (sym well ∙ e))));
             device = found.device;
             named = own;
+            found = right.2;
             stands = stands place (at ∙ s.at);
           }

@@ -1,6 +1,6 @@
 -- The bench's devices as a crowd of cards: at a call each steps by its front and keeps what it holds, and no two have one
 -- identifier.
-use Rattle.std.proofs.Common.{◌≡◌, ◌≢◌, ◌⊎◌, ℕ, suc, ◌≤◌, ◌<◌, List, [], ◌∷◌, length, map, filter_map, Bool, true, false, if◌then◌else◌, not, ◌&&◌, Option, Some, None, inl, inr, refl, ◌∙◌, ap, arith}
+use Rattle.std.proofs.Common.{◌≡◌, ◌≢◌, ◌⊎◌, ℕ, suc, ◌≤◌, ◌<◌, List, [], ◌∷◌, length, map, filter_map, Bool, true, false, not, ◌&&◌, Option, Some, None, inl, inr, refl, ◌∙◌, ap, arith}
 use Rattle.std.specs.List.{AllByRecursion, cons_option}
 use Rattle.nfc_base.specs.declared.frame.Tech.TheVariants.{A}
 use Rattle.nfc_base.specs.Signal.{Signal}
@@ -19,8 +19,7 @@ use Rattle.t2t_tag.specs.Spelling.{spelled_command}
 use Rattle.t2t_tag.specs.Store.{T2Memory}
 use Rattle.t2t_tag.specs.Step.{reply_frame, t2_after}
 use Rattle.bench_devices.specs.declared.device.Device.{Device}
-use Rattle.bench_devices.specs.declared.device.Device.TheVariants.{T2, T4, Peer, T5}
-use Rattle.t5t_tag.specs.Step.{t5_after}
+use Rattle.bench_devices.specs.declared.device.Device.TheVariants.{T2, T4, Peer, T5, T3}
 use Rattle.bench_devices.specs.Cards.{T4Near}
 use Rattle.bench_devices.specs.Device.{devices, device_id, says_of, t2_machine, T4Did, t4_did, t4_machine, is_unlinked, is_no_file}
 use Rattle.bench_devices.specs.Phases as bench
@@ -86,6 +85,7 @@ device_unlinked (T2 d) = true
 device_unlinked (T4 d) = is_unlinked d.upper
 device_unlinked (Peer d) = no_link d.upper
 device_unlinked (T5 p) = true
+device_unlinked (T3 p) = true
 
 -- to a Type 4 tag without a link each call is foreign
 says_foreign : (linked v w : Bool) → (not linked && v && w) ≡ true → says_at linked ≡ ups.Foreign
@@ -133,17 +133,15 @@ pub stays_unlinked : (d : Device) (f : Signal) → BeginsAsCalls f → device_un
 stays_unlinked (T2 d) f h n = refl
 stays_unlinked (T4 d) f h n = card_unlinked d.front d.id d.upper f h n
 stays_unlinked (Peer d) f h n = peer_free d.front d.id d.upper f h n
-stays_unlinked (T5 p) f h n = powered_unlinked p.lit (T5 (record { tag = t5_after p.tag f; lit = true })) (T5 p) refl refl
-  where
-    powered_unlinked : (v : Bool) (a b : Device) → device_unlinked a ≡ true → device_unlinked b ≡ true → device_unlinked (if v then a else b) ≡ true
-    powered_unlinked true a b h k = h
-    powered_unlinked false a b h k = k
+stays_unlinked (T5 p) f h n = refl
+stays_unlinked (T3 p) f h n = refl
 
 pub same_tech_woken : (l : Device) → devices.tech (devices.woken (devices.darkened l)) ≡ devices.tech l
 same_tech_woken (T2 d) = refl
 same_tech_woken (T4 d) = refl
 same_tech_woken (Peer d) = refl
 same_tech_woken (T5 p) = refl
+same_tech_woken (T3 p) = refl
 
 pub leaves : LeavesAtCalls ours device_unlinked
 leaves (T2 d) f c t u e = ((λ a. step_at_call d f (no_command f (call_begins f c e))), refl)
@@ -151,6 +149,7 @@ leaves (T4 d) f c t u e = ((λ a. card_steps d.front d.id d.upper f (foreign_to 
 leaves (Peer d) f c t u e =
     ((λ a. peer_steps d.front d.id d.upper f (call_begins f c e) (foreign_peer d.upper f None (call_begins f c e) u)), stays_unlinked (Peer d) f (call_begins f c e) u)
 leaves (T5 p) f c t u e = absurd cc
+leaves (T3 p) f c t u e = absurd cc
 
 -- a reset takes the link
 unlinked_off : (u : T4Near) → (is_active Off ≡ true) ⊎ (is_unlinked u ≡ true) → is_unlinked u ≡ true
@@ -162,12 +161,14 @@ reset_unlinked (T2 d) t = refl
 reset_unlinked (T4 d) t = unlinked_off (left_at t4_machine d.front Off d.upper) (left_tidy t4_machine is_unlinked four_gives_up d.front Off d.upper t)
 reset_unlinked (Peer d) t = refl
 reset_unlinked (T5 p) t = refl
+reset_unlinked (T3 p) t = refl
 
 pub wakes_idle : (l : Device) → devices.tech l ≡ A → Tidy device_front device_unlinked l → WakesIdle devices device_id device_kind device_front device_unlinked l
 wakes_idle (T2 d) t h = record { idle = refl; no_link = refl; same_id = refl; same_kind = refl }
 wakes_idle (T4 d) t h = record { idle = refl; no_link = reset_unlinked (T4 d) h; same_id = refl; same_kind = refl }
 wakes_idle (Peer d) t h = record { idle = refl; no_link = refl; same_id = refl; same_kind = refl }
 wakes_idle (T5 p) t h = absurd cc
+wakes_idle (T3 p) t h = absurd cc
 
 -- at a call an active device leaves the state Active, but for a Type 4 tag with a link, which stays in it
 silent_near : (id : List ℕ) (starred : Bool) (u : T4Near) (linked : Bool) (f : Signal) → BeginsAsCalls f → u.linked ≡ linked
@@ -199,6 +200,7 @@ yields (T2 d) f c t a e = inl (step_at_call d f (no_command f (call_begins f c e
 yields (T4 d) f c t a e = yields_near d.front d.id d.upper f (call_begins f c e) a
 yields (Peer d) f c t a e = peer_yields d.front d.id d.upper f (call_begins f c e) a
 yields (T5 p) f c t a e = absurd cc
+yields (T3 p) f c t a e = absurd cc
 
 abbrev pub polled : ArePolled devices device_id
 polled = record { ours = ours; yields = yields; unlinked = device_unlinked; leaves = leaves; same_tech = same_tech_woken; wakes = wakes_idle }
@@ -209,6 +211,7 @@ tidy (T2 d ∷ ds) h = ((λ t. inr refl), tidy ds h.1)
 tidy (T4 d ∷ ds) h = ((λ t. h.0), tidy ds h.1)
 tidy (Peer d ∷ ds) h = ((λ t. h.0), tidy ds h.1)
 tidy (T5 p ∷ ds) h = ((λ t. inr refl), tidy ds h.1)
+tidy (T3 p ∷ ds) h = ((λ t. inr refl), tidy ds h.1)
 
 -- the cards of the devices
 abbrev pub cards_of : List Device → List Card
@@ -233,6 +236,7 @@ cards_idents (T2 d ∷ ds) s = (s.0.0, cards_idents ds s.2)
 cards_idents (T4 d ∷ ds) s = (s.0.0, cards_idents ds s.2)
 cards_idents (Peer d ∷ ds) s = (s.0.0, cards_idents ds s.2)
 cards_idents (T5 p ∷ ds) s = cards_idents ds s.2
+cards_idents (T3 p ∷ ds) s = cards_idents ds s.2
 
 cards_apart : (k : Kept) (ds : List Device) → AllByRecursion (IsApart k) (map kept ds) → Each (λ c. c.id ≢ k.fixed.id) (cards_of ds)
 cards_apart k [] a = tt
@@ -240,6 +244,7 @@ cards_apart k (T2 d ∷ ds) a = (a.0, cards_apart k ds a.1)
 cards_apart k (T4 d ∷ ds) a = (a.0, cards_apart k ds a.1)
 cards_apart k (Peer d ∷ ds) a = (a.0, cards_apart k ds a.1)
 cards_apart k (T5 p ∷ ds) a = cards_apart k ds a.1
+cards_apart k (T3 p ∷ ds) a = cards_apart k ds a.1
 
 cards_distinct : (ds : List Device) → AreSound (map kept ds) → AreDistinct (cards_of ds)
 cards_distinct [] s = tt
@@ -247,6 +252,7 @@ cards_distinct (T2 d ∷ ds) s = (cards_apart (kept (T2 d)) ds s.1, cards_distin
 cards_distinct (T4 d ∷ ds) s = (cards_apart (kept (T4 d)) ds s.1, cards_distinct ds s.2)
 cards_distinct (Peer d ∷ ds) s = (cards_apart (kept (Peer d)) ds s.1, cards_distinct ds s.2)
 cards_distinct (T5 p ∷ ds) s = cards_distinct ds s.2
+cards_distinct (T3 p ∷ ds) s = cards_distinct ds s.2
 
 pub own_idents : (ds : List Device) → AreTame (map kept ds) → HaveOwnIdents (cards_of ds)
 own_idents ds tame = record { idents = cards_idents ds tame.sound; distinct = cards_distinct ds tame.sound }

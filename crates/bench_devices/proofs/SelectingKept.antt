@@ -1,6 +1,6 @@
 -- What stays of the devices while a reader polls: resets, calls, inventories and the dark change no device but in its state.
 use Rattle.std.proofs.Common.{◌≡◌, ℕ, List, [], ◌∷◌, ◌++◌, map, Bool, true, false, if◌then◌else◌, None, refl, ◌∙◌, ap}
-use Rattle.nfc_base.specs.declared.frame.Tech.TheVariants.{A, V}
+use Rattle.nfc_base.specs.declared.frame.Tech.TheVariants.{A, V, F}
 use Rattle.nfc_base.specs.declared.event.Event.{Event}
 use Rattle.nfc_base.specs.declared.event.Event.TheVariants.{Reset, Request, Answer, Clash}
 use Rattle.nfc_base.specs.declared.event.Fate.{Fate}
@@ -15,7 +15,7 @@ use Rattle.nfca_poll.specs.Front.{Front, Off, Idle, Sleep, Ready, Active, front_
 use Rattle.nfca_poll.specs.Fronted.{left_at, active_after, after_by}
 use Rattle.t2t_tag.specs.Store.{T2Memory}
 use Rattle.bench_devices.specs.declared.device.Device.{Device}
-use Rattle.bench_devices.specs.declared.device.Device.TheVariants.{T2, T4, Peer, T5}
+use Rattle.bench_devices.specs.declared.device.Device.TheVariants.{T2, T4, Peer, T5, T3}
 use Rattle.bench_devices.specs.Cards.{T4Near}
 use Rattle.bench_devices.specs.Device.{devices, t2_machine, t4_machine, T4Did}
 use Rattle.bench_devices.specs.Device.{air}
@@ -60,6 +60,7 @@ harmless_call f a h (T2 d) =
 harmless_call f a h (T4 d) = ap (λ t. kept (if same_tech A t then devices.after (T4 d) f None else T4 d)) a ∙ kept_card d.front d.id d.upper f h
 harmless_call f a h (Peer d) = peer_kept d f None
 harmless_call f a h (T5 p) = ap (λ t. kept (if same_tech V t then devices.after (T5 p) f None else T5 p)) a
+harmless_call f a h (T3 p) = ap (λ t. kept (if same_tech F t then devices.after (T3 p) f None else T3 p)) a
 
 dark_stays : (front next : Front) (u : T2Memory) → left_at t2_machine front next u ≡ u
 dark_stays Off next u = refl
@@ -77,12 +78,14 @@ kept_dark (T2 d) = ap (λ u. kept (T2 (carded d.id d.front u))) (dark_stays d.fr
 kept_dark (T4 d) = kept_left d.front Off Off d.id d.upper
 kept_dark (Peer d) = refl
 kept_dark (T5 p) = refl
+kept_dark (T3 p) = refl
 
 pub kept_lit : (d : Device) → kept (devices.woken d) ≡ kept d
 kept_lit (T2 d) = ap (λ u. kept (T2 (carded d.id d.front u))) (dark_stays d.front Idle d.upper)
 kept_lit (T4 d) = kept_left d.front Idle Idle d.id d.upper
 kept_lit (Peer d) = peer_lit d
 kept_lit (T5 p) = refl
+kept_lit (T3 p) = refl
 
 map_kept : (g : Device → Device) → ((d : Device) → kept (g d) ≡ kept d) → (ds : List Device) → map kept (map g ds) ≡ map kept ds
 map_kept g h [] = refl

@@ -14,7 +14,7 @@ use Rattle.nfca_poll.specs.Enquiry.{enquiring}
 use Rattle.nfca_poll.specs.Front.{Off, Idle}
 use Rattle.nfca_poll.specs.Rounds.{device_of, picking}
 use Rattle.bench_devices.specs.declared.device.Device.{Device}
-use Rattle.bench_devices.specs.declared.device.Device.TheVariants.{T2, T4, Peer, T5}
+use Rattle.bench_devices.specs.declared.device.Device.TheVariants.{T2, T4, Peer, T5, T3}
 use Rattle.bench_devices.specs.Device.{devices}
 use Rattle.bench_devices.specs.Device.{air}
 use Rattle.bench_devices.specs.Phases.{IsTidy, AreTidy, IsUnasked}
@@ -39,6 +39,7 @@ unasked (T2 d) u = tt
 unasked (T4 d) u = u
 unasked (Peer d) u = u
 unasked (T5 p) u = tt
+unasked (T3 p) u = tt
 
 pub unlinked_amid : (before : List Device) (d : Device) (behind : List Device) → AreUnlinked (before ++ d ∷ behind) → IsUnlinked d
 unlinked_amid [] d behind u = u.0
@@ -57,12 +58,14 @@ dark_unlinked (T2 d) u = refl
 dark_unlinked (T4 d) u = left_unlinked d.front Off d.upper u
 dark_unlinked (Peer d) u = refl
 dark_unlinked (T5 p) u = refl
+dark_unlinked (T3 p) u = refl
 
 woken_unlinked : (d : Device) → IsUnlinked d → IsUnlinked (devices.woken d)
 woken_unlinked (T2 d) u = refl
 woken_unlinked (T4 d) u = left_unlinked d.front Idle d.upper u
 woken_unlinked (Peer d) u = left_free peer_machine no_link peer_gives_up d.front Idle d.upper u
 woken_unlinked (T5 p) u = refl
+woken_unlinked (T3 p) u = refl
 
 all_map : (P Q : Device → Type 0) (g : Device → Device) → ((d : Device) → P d → Q (g d)) → (ds : List Device) → AllByRecursion P ds → AllByRecursion Q (map g ds)
 all_map P Q g h [] t = tt

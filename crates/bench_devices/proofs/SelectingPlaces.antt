@@ -125,3 +125,15 @@ same_place [] d behind (x ∷ xs) d' behind' s e same =
     absurd (amid (IsApart (kept d)) xs d' behind' (subst P rest s.1) (sym same))
 same_place (x ∷ xs) d behind [] d' behind' s e same = let first : x ≡ d' = ap (head_or x) e in absurd (amid (IsApart (kept x)) xs d behind s.1 (same ∙ sym (ap device_id first)))
 same_place (x ∷ xs) d behind (y ∷ ys) d' behind' s e same = ap suc (same_place xs d behind ys d' behind' s.2 (ap tail_of e) same)
+
+-- and one device stands there
+pub same_device : (before : List Device) (d : Device) (behind before' : List Device) (d' : Device) (behind' : List Device) → AreSound (map kept (before ++ d ∷ behind))
+    → before ++ d ∷ behind ≡ before' ++ d' ∷ behind' → device_id d ≡ device_id d' → d ≡ d'
+unfolding head_or tail_of
+same_device [] d behind [] d' behind' s e same = ap (head_or d) e
+same_device [] d behind (x ∷ xs) d' behind' s e same =
+    let P : List Device → Type 0 = λ ls. AllByRecursion (IsApart (kept d)) (map kept ls) in
+    let rest : behind ≡ xs ++ d' ∷ behind' = ap tail_of e in
+    absurd (amid (IsApart (kept d)) xs d' behind' (subst P rest s.1) (sym same))
+same_device (x ∷ xs) d behind [] d' behind' s e same = let first : x ≡ d' = ap (head_or x) e in absurd (amid (IsApart (kept x)) xs d behind s.1 (same ∙ sym (ap device_id first)))
+same_device (x ∷ xs) d behind (y ∷ ys) d' behind' s e same = same_device xs d behind ys d' behind' s.2 (ap tail_of e) same

@@ -4,6 +4,7 @@ use Rattle.std.specs.List.{AllByRecursion, cons_option}
 use Rattle.std.specs.Cmp.Lexicographic.{pointwise}
 use Rattle.nfca_poll.proofs.OneLevel.{pointwise_self}
 use Rattle.std.specs.Result.{OnOk, is_err}
+use Rattle.nfc_base.specs.declared.frame.Tech.TheVariants as techs
 use Rattle.nfc_base.specs.declared.event.Event.{Event}
 use Rattle.nfc_base.specs.declared.event.Event.TheVariants.{Reset, Request, Answer, Clash}
 use Rattle.nfc_base.specs.declared.event.Heard.{Heard}
@@ -25,20 +26,20 @@ use Rattle.nfca_poll.specs.Inventory.{Inventory, Tries, Told, tries, inventory_o
 use Rattle.nfca_poll.proofs.Crowding.{drop-front}
 use Rattle.nfca_poll.proofs.Eaches.{said_none}
 use Rattle.t5t_tag.specs.declared.answer.T5Answer.TheVariants.{Present}
-use Rattle.t5t_tag.specs.Store.{IsT5Shape, darkened}
+use Rattle.t5t_tag.specs.Store.{IsT5Shape, darkened, T5State}
 use Rattle.t5t_tag.specs.Spelling.{answer_frame}
 use Rattle.t5t_tag.specs.Step.{T5Turn, sent}
 use Rattle.t5t_tag.proofs.Inventories.{unpicked}
 use Rattle.bench_script.specs.declared.command.DeviceId.TheVariants as ids
 use Rattle.bench_devices.specs.declared.device.Device.{Device}
-use Rattle.bench_devices.specs.declared.device.Device.TheVariants.{T2, T4, Peer, T5}
+use Rattle.bench_devices.specs.declared.device.Device.TheVariants.{T2, T4, Peer, T5, T3}
 use Rattle.bench_devices.specs.declared.polling.SeenKind.{SeenKind}
 use Rattle.bench_devices.specs.declared.polling.SeenKind.TheVariants as seen
 use Rattle.bench_devices.specs.Powered.{Powered}
-use Rattle.bench_devices.specs.Device.{devices, device_id, device_selected, seen_of}
-use Rattle.bench_devices.specs.Device.{air}
+use Rattle.bench_devices.specs.Device.{devices, device_id, device_selected, seen_of, may_be_found}
+use Rattle.bench_devices.specs.Device.{air, seen_of}
 use Rattle.bench_devices.specs.Placed.{device_with}
-use Rattle.bench_devices.specs.Answering.{HasPollCause, MissedBy, IsAbsent}
+use Rattle.bench_devices.specs.Answering.{HasPollCause, MissedBy, IsAbsent, IsNamed}
 use Rattle.bench_devices.specs.Noise.{noisy_tries}
 use Rattle.bench_devices.specs.Choosing.{StandsAt}
 use Rattle.bench_devices.specs.Keeping.{kept, IsSound, AreSound, AreTame, ghosts, NoStore}
@@ -55,7 +56,8 @@ use Rattle.bench_devices.proofs.SelectingAir.{events_are, loses, stays_lit}
 use Rattle.air_core.proofs.LostField.{lit_by, HasLost, going_lit, going_lost}
 use Rattle.bench_devices.proofs.QuietPolling.{AsksQuietly, PollsQuietly, other_hands_none, quietly}
 use Rattle.bench_devices.proofs.SelectingKept.{IsHarmless, going_keeps}
-use Rattle.bench_devices.proofs.SelectingPlaces.{not_eight, some_named, Amid, none_or_amid, each_other, sound_amid, sound_front, sound_back, others_before, others_behind}
+use Rattle.bench_devices.proofs.SelectingPlaces.{not_eight, some_named, same_device, sound_amid, sound_front, sound_back, others_before, others_behind}
+use Rattle.t5t_tag.proofs.Bytes.{equal_bytes}
 
 -- a device behind a reset
 abbrev pub relit : Device → Device
@@ -160,6 +162,7 @@ module _ (id : List ℕ) where
   harmless : IsHarmless inventory
   harmless (T2 d) = refl
   harmless (T4 d) = refl
+  harmless (T3 p) = refl
   harmless (Peer d) = refl
   harmless (T5 p) = ap kept (stays_at_own id p) ∙ kept_unrounded p
 
@@ -209,6 +212,33 @@ module _ (id : List ℕ) where
   tries_vain (Got Silent ∷ ns) n d h = tries_vain ns (n + 1) d h.1
   tries_vain (Lost ∷ ns) n d h = tt
 
+-- Either there is no Type 5 tag of an identifier, or one of the devices is it.
+record FiveAmid (id : List ℕ) (ds : List Device) : Type 0 where
+  pub before : List Device
+  pub tag : Powered T5State
+  pub behind : List Device
+  pub split : ds ≡ before ++ T5 tag ∷ behind
+  pub named : tag.tag.id ≡ id
+
+five_later : (id : List ℕ) (d : Device) (ds : List Device) → (IsNamed (ids.V id) d → ⊥) → IsAbsent (ids.V id) ds ⊎ FiveAmid id ds → IsAbsent (ids.V id) (d ∷ ds) ⊎ FiveAmid id (d ∷ ds)
+five_later id d ds other (inl none) = inl (other, none)
+five_later id d ds other (inr r) = inr (record { before = d ∷ r.before; tag = r.tag; behind = r.behind; split = ap (λ xs. d ∷ xs) r.split; named = r.named })
+
+none_or_five : (id : List ℕ) (ds : List Device) → IsAbsent (ids.V id) ds ⊎ FiveAmid id ds
+none_or_five id [] = inl tt
+none_or_five id (T2 d ∷ ds) = five_later id (T2 d) ds (λ e. absurd (let k : techs.A ≡ techs.V = e.0 in cc)) (none_or_five id ds)
+none_or_five id (T4 d ∷ ds) = five_later id (T4 d) ds (λ e. absurd (let k : techs.A ≡ techs.V = e.0 in cc)) (none_or_five id ds)
+none_or_five id (Peer d ∷ ds) = five_later id (Peer d) ds (λ e. absurd (let k : techs.A ≡ techs.V = e.0 in cc)) (none_or_five id ds)
+none_or_five id (T3 p ∷ ds) = five_later id (T3 p) ds (λ e. absurd (let k : techs.F ≡ techs.V = e.0 in cc)) (none_or_five id ds)
+none_or_five id (T5 p ∷ ds) = by_first (pointwise nat_eq p.tag.id id) refl (none_or_five id ds)
+  where
+    by_first : (v : Bool) → pointwise nat_eq p.tag.id id ≡ v → IsAbsent (ids.V id) ds ⊎ FiveAmid id ds → IsAbsent (ids.V id) (T5 p ∷ ds) ⊎ FiveAmid id (T5 p ∷ ds)
+    by_first true h rest = inr (record { before = []; tag = p; behind = ds; split = refl; named = equal_bytes p.tag.id id h })
+    by_first false h rest =
+        five_later id (T5 p) ds
+        (λ e. absurd (let same : pointwise nat_eq p.tag.id id ≡ true = ap (λ x. pointwise nat_eq x id) e.1 ∙ pointwise_self id in let other : pointwise nat_eq p.tag.id id ≡ false = h in cc))
+        rest
+
 -- What the devices answer behind a reset to an inventory of one identifier.
 module _ (id : List ℕ) where
   abbrev says : Device → Option Signal
@@ -218,20 +248,26 @@ module _ (id : List ℕ) where
   answers_in ls = filter_map says ls
 
   -- a tag in the light that isn't quiet
-  state_of : (p : Powered) → IsSound (kept (T5 p)) → IsT5Shape (darkened p.tag)
+  state_of : (p : Powered T5State) → IsSound (kept (T5 p)) → IsT5Shape (darkened p.tag)
   state_of p s = record { id = s.1; bytes = s.2; store = s.3 }
 
-  other_silent : (l : Device) → IsSound (kept l) → (id ≡ device_id l → ⊥) → says (relit l) ≡ None
+  other_silent : (l : Device) → IsSound (kept l) → (IsNamed (ids.V id) l → ⊥) → says (relit l) ≡ None
   other_silent (T2 d) s o = refl
   other_silent (T4 d) s o = refl
   other_silent (Peer d) s o = refl
-  other_silent (T5 p) s o = ap (λ (x : T5Turn). sent x.answer) (unpicked (darkened p.tag) (state_of p s) id o)
+  other_silent (T3 p) s o = refl
+  other_silent (T5 p) s o = ap (λ (x : T5Turn). sent x.answer) (unpicked (darkened p.tag) (state_of p s) id (λ e. o (refl, sym e)))
 
-  others_silent : (ls : List Device) → AreSound (map kept ls) → AllByRecursion (λ l. id ≡ device_id l → ⊥) ls → Each (λ l. says l ≡ None) (map relit ls)
+  others_silent : (ls : List Device) → AreSound (map kept ls) → IsAbsent (ids.V id) ls → Each (λ l. says l ≡ None) (map relit ls)
   others_silent [] s o = tt
   others_silent (l ∷ ls) s o = (other_silent l s.0 o.0, others_silent ls s.2 o.1)
 
-  own_answer : (p : Powered) → IsSound (kept (T5 p)) → p.tag.id ≡ id → says (relit (T5 p)) ≡ Some (answer_frame (Present p.tag.id))
+  -- devices of other identifiers
+  absent_of : (ls : List Device) → AllByRecursion (λ l. id ≡ device_id l → ⊥) ls → IsAbsent (ids.V id) ls
+  absent_of [] o = tt
+  absent_of (l ∷ ls) o = ((λ e. o.0 (sym e.1)), absent_of ls o.1)
+
+  own_answer : (p : Powered T5State) → IsSound (kept (T5 p)) → p.tag.id ≡ id → says (relit (T5 p)) ≡ Some (answer_frame (Present p.tag.id))
   own_answer p s named = ap (λ i. answered_by devices (relit (T5 p)) (inventory_of i) None) (sym named) ∙ answers_own (darkened p.tag) (state_of p s) refl
 
   one_answer : (before : List Device) (d : Device) (behind : List Device) (g : Signal) → Each (λ l. says l ≡ None) (map relit before) → says (relit d) ≡ Some g → Each (λ l. says l ≡ None) (map relit behind)
@@ -245,72 +281,49 @@ module _ (id : List ℕ) where
     pub one : answers_in (map relit ls) ≡ answer ∷ []
     pub present : is_present answer ≡ true
 
-  amid_answers : (ls : List Device) → length id ≡ 8 → AreSound (map kept ls) → Amid id ls → Answered ls
-  amid_answers ls eight s a =
-      by_kind a.device a.split a.named
-    where
-      by_kind : (d : Device) → ls ≡ a.before ++ d ∷ a.behind → device_id d ≡ id → Answered ls
-      by_kind (T2 d) split named =
-          let sound : AreSound (map kept (a.before ++ T2 d ∷ a.behind)) = subst (λ ds. AreSound (map kept ds)) split s in
-          let own : IsSound (kept (T2 d)) = sound_amid a.before (T2 d) a.behind sound in
-          absurd (not_eight (length d.id) own.0.size (ap length named ∙ eight))
-      by_kind (T4 d) split named =
-          let sound : AreSound (map kept (a.before ++ T4 d ∷ a.behind)) = subst (λ ds. AreSound (map kept ds)) split s in
-          let own : IsSound (kept (T4 d)) = sound_amid a.before (T4 d) a.behind sound in
-          absurd (not_eight (length d.id) own.0.size (ap length named ∙ eight))
-      by_kind (Peer d) split named =
-          let sound : AreSound (map kept (a.before ++ Peer d ∷ a.behind)) = subst (λ ds. AreSound (map kept ds)) split s in
-          let own : IsSound (kept (Peer d)) = sound_amid a.before (Peer d) a.behind sound in
-          absurd (not_eight (length d.id) own.0.size (ap length named ∙ eight))
-      by_kind (T5 p) split named =
-          let sound : AreSound (map kept (a.before ++ T5 p ∷ a.behind)) = subst (λ ds. AreSound (map kept ds)) split s in
-          let own : IsSound (kept (T5 p)) = sound_amid a.before (T5 p) a.behind sound in
-          let O : List Device → Type 0 = λ ds. AllByRecursion (λ l. id ≡ device_id l → ⊥) ds in
-          let first : O a.before = subst (λ i. AllByRecursion (λ l. i ≡ device_id l → ⊥) a.before) named (others_before a.before (T5 p) a.behind sound) in
-          let later : O a.behind = subst (λ i. AllByRecursion (λ l. i ≡ device_id l → ⊥) a.behind) named (others_behind a.before (T5 p) a.behind sound) in
-          let around : AreSound (map kept (T5 p ∷ a.behind)) = sound_back a.before (T5 p ∷ a.behind) sound in
-          record {
-            answer = answer_frame (Present p.tag.id);
-            one = ap (λ ds. answers_in (map relit ds)) split
-                ∙ one_answer a.before (T5 p) a.behind (answer_frame (Present p.tag.id)) (others_silent a.before (sound_front a.before (T5 p ∷ a.behind) sound) first) (own_answer p own named)
-                (others_silent a.behind around.2 later);
-            present = is_whole p.tag.id own.1;
-          }
+  amid_answers : (ls : List Device) → AreSound (map kept ls) → FiveAmid id ls → Answered ls
+  amid_answers ls s a =
+      let p : Powered T5State = a.tag in
+      let sound : AreSound (map kept (a.before ++ T5 p ∷ a.behind)) = subst (λ ds. AreSound (map kept ds)) a.split s in
+      let own : IsSound (kept (T5 p)) = sound_amid a.before (T5 p) a.behind sound in
+      let O : List Device → Type 0 = λ ds. AllByRecursion (λ l. id ≡ device_id l → ⊥) ds in
+      let first : O a.before = subst (λ i. AllByRecursion (λ l. i ≡ device_id l → ⊥) a.before) a.named (others_before a.before (T5 p) a.behind sound) in
+      let later : O a.behind = subst (λ i. AllByRecursion (λ l. i ≡ device_id l → ⊥) a.behind) a.named (others_behind a.before (T5 p) a.behind sound) in
+      let around : AreSound (map kept (T5 p ∷ a.behind)) = sound_back a.before (T5 p ∷ a.behind) sound in
+      record {
+        answer = answer_frame (Present p.tag.id);
+        one = ap (λ ds. answers_in (map relit ds)) a.split
+            ∙ one_answer a.before (T5 p) a.behind (answer_frame (Present p.tag.id)) (others_silent a.before (sound_front a.before (T5 p ∷ a.behind) sound) (absent_of a.before first)) (own_answer p own a.named)
+            (others_silent a.behind around.2 (absent_of a.behind later));
+        present = is_whole p.tag.id own.1;
+      }
 
-  none_answers : (ls : List Device) → AreSound (map kept ls) → device_with id ls ≡ None → answers_in (map relit ls) ≡ []
-  none_answers ls s none = said_none says (map relit ls) (others_silent ls s (each_other id ls none))
+  none_answers : (ls : List Device) → AreSound (map kept ls) → IsAbsent (ids.V id) ls → answers_in (map relit ls) ≡ []
+  none_answers ls s none = said_none says (map relit ls) (others_silent ls s none)
 
-  presented : (ls : List Device) → length id ≡ 8 → AreSound (map kept ls) → IsPresented (joint (answers_in (map relit ls)))
-  presented ls eight s = by_one (none_or_amid id ls)
+  presented : (ls : List Device) → AreSound (map kept ls) → IsPresented (joint (answers_in (map relit ls)))
+  presented ls s = by_one (none_or_five id ls)
     where
-      by_one : (device_with id ls ≡ None) ⊎ Amid id ls → IsPresented (joint (answers_in (map relit ls)))
+      by_one : IsAbsent (ids.V id) ls ⊎ FiveAmid id ls → IsPresented (joint (answers_in (map relit ls)))
       by_one (inl none) = subst (λ gs. IsPresented (joint gs)) (sym (none_answers ls s none)) tt
-      by_one (inr a) = let r : Answered ls = amid_answers ls eight s a in subst (λ gs. IsPresented (joint gs)) (sym r.one) r.present
+      by_one (inr a) = let r : Answered ls = amid_answers ls s a in subst (λ gs. IsPresented (joint gs)) (sym r.one) r.present
 
   no_answers : (g : Signal) → g ∷ [] ≡ [] → ⊥
   no_answers g e = cc
 
-  -- where nobody answers, no device of this identifier is there
-  silence_tells : (ls : List Device) → length id ≡ 8 → AreSound (map kept ls) → NoneAnswers devices (inventory_of id) (map relit ls) → device_with id ls ≡ None
-  silence_tells ls eight s n = by_one (none_or_amid id ls)
+  -- where nobody answers, no Type 5 tag of this identifier is there
+  silence_tells : (ls : List Device) → AreSound (map kept ls) → NoneAnswers devices (inventory_of id) (map relit ls) → IsAbsent (ids.V id) ls
+  silence_tells ls s n = by_one (none_or_five id ls)
     where
-      by_one : (device_with id ls ≡ None) ⊎ Amid id ls → device_with id ls ≡ None
+      by_one : IsAbsent (ids.V id) ls ⊎ FiveAmid id ls → IsAbsent (ids.V id) ls
       by_one (inl none) = none
-      by_one (inr a) = let r : Answered ls = amid_answers ls eight s a in absurd (no_answers r.answer (sym r.one ∙ said_none says (map relit ls) n))
-
--- no device has the identifier
-none_named : (id : List ℕ) (ds : List Device) → device_with id ds ≡ None → IsAbsent (ids.V id) ds
-none_named id [] none = tt
-none_named id (d ∷ ds) none = by_name (pointwise nat_eq (device_id d) id) refl none (λ more. none_named id ds more)
-  where
-    by_name : (v : Bool) → pointwise nat_eq (device_id d) id ≡ v → (if v then Some d else device_with id ds) ≡ None → (device_with id ds ≡ None → IsAbsent (ids.V id) ds) → IsAbsent (ids.V id) (d ∷ ds)
-    by_name true is e more = absurd cc
-    by_name false is e more = ((λ h. (let k : true ≡ false = sym (pointwise_self id) ∙ ap (λ x. pointwise nat_eq x id) (sym h.1) ∙ is in cc)), more e)
+      by_one (inr a) = let r : Answered ls = amid_answers ls s a in absurd (no_answers r.answer (sym r.one ∙ said_none says (map relit ls) n))
 
 -- a device of either kind stays as a reset left it at an inventory
 stays_at : (id : List ℕ) (d : Device) → stepped_by devices (relit d) (inventory_of id) None ≡ relit d
 stays_at id (T2 d) = refl
 stays_at id (T4 d) = refl
+stays_at id (T3 p) = refl
 stays_at id (Peer d) = refl
 stays_at id (T5 p) = stays_at_own id (record { tag = darkened p.tag; lit = true })
 
@@ -324,6 +337,7 @@ IsRelit (T2 d) = d.front ≡ Idle
 IsRelit (T4 d) = d.front ≡ Idle
 IsRelit (Peer d) = d.front ≡ Idle
 IsRelit (T5 p) = p.lit ≡ true
+IsRelit (T3 p) = p.lit ≡ true
 
 are_relit : (ls : List Device) → AllByRecursion IsRelit (map relit ls)
 are_relit [] = tt
@@ -331,6 +345,7 @@ are_relit (T2 d ∷ ls) = (refl, are_relit ls)
 are_relit (T4 d ∷ ls) = (refl, are_relit ls)
 are_relit (Peer d ∷ ls) = (refl, are_relit ls)
 are_relit (T5 p ∷ ls) = (refl, are_relit ls)
+are_relit (T3 p ∷ ls) = (refl, are_relit ls)
 
 relit_front : (before behind : List Device) → AllByRecursion IsRelit (before ++ behind) → AllByRecursion IsRelit before
 relit_front [] behind h = tt
@@ -346,12 +361,14 @@ relit_aside id (T2 d ∷ ls) h o = (record { rests = λ t. (ap is_ready h.0, ap 
 relit_aside id (T4 d ∷ ls) h o = (record { rests = λ t. (ap is_ready h.0, ap is_active h.0); other = o.0 }, relit_aside id ls h.1 o.1)
 relit_aside id (Peer d ∷ ls) h o = (record { rests = λ t. (ap is_ready h.0, ap is_active h.0); other = o.0 }, relit_aside id ls h.1 o.1)
 relit_aside id (T5 p ∷ ls) h o = (record { rests = λ t. absurd cc; other = o.0 }, relit_aside id ls h.1 o.1)
+relit_aside id (T3 p ∷ ls) h o = (record { rests = λ t. absurd cc; other = o.0 }, relit_aside id ls h.1 o.1)
 
 relit_id : (l : Device) → device_id (relit l) ≡ device_id l
 relit_id (T2 d) = refl
 relit_id (T4 d) = refl
 relit_id (Peer d) = refl
 relit_id (T5 p) = refl
+relit_id (T3 p) = refl
 
 relit_among : (before : List Device) (d : Device) (behind : List Device) → map relit (before ++ d ∷ behind) ≡ map relit before ++ relit d ∷ map relit behind
 relit_among [] d behind = refl
@@ -434,7 +451,7 @@ module _ (id : List ℕ) (eight : length id ≡ 8) (old mid new : Air Device) (r
       (all_heard (inventory_of id) (map relit old.listeners) stay turns.going.turns.moves (moment mid).world relit_at (subst O made only))
 
   may : MayCome r
-  may = subst MayCome (sym turns.comes) (tries_may id heard_joint (presented id old.listeners eight tame.sound) notes 0 false heard)
+  may = subst MayCome (sym turns.comes) (tries_may id heard_joint (presented id old.listeners tame.sound) notes 0 false heard)
 
   module _ (lost : LosesByBreak mid r new) (misses : Each (IsSteady devices (inventory_of id)) mid.listeners → MissesV devices id mid r new) where
     dark_lit : mid.lit ≡ false → ⊥
@@ -456,7 +473,7 @@ module _ (id : List ℕ) (eight : length id ≡ 8) (old mid new : Air Device) (r
     missed_by e = by_miss ((misses (all_of (IsSteady devices (inventory_of id)) (steady_at id) mid.listeners)).not_found e)
       where
         by_miss : NoneAnswers devices (inventory_of id) mid.listeners ⊎ (tries ≤ noise (drop (length mid.trace) new.trace)) → MissedBy (ids.V id) old.listeners whole.events
-        by_miss (inl n) = inl (none_named id old.listeners (silence_tells id old.listeners eight tame.sound (subst (NoneAnswers devices (inventory_of id)) relit_at n)))
+        by_miss (inl n) = inl (silence_tells id old.listeners tame.sound (subst (NoneAnswers devices (inventory_of id)) relit_at n))
         by_miss (inr n) =
             let L : List Event → Type 0 = λ es. tries ≤ noise es in
             let same : noise later ≡ noisy_tries (inventory_of id) later = tries_same air (moment mid).world (inventory_of id) later refl turns.going.turns only in
@@ -498,21 +515,24 @@ module _ (id : List ℕ) (eight : length id ≡ 8) (old mid new : Air Device) (r
           ap (λ (m : Moment (World Device)). m.world.listeners) turns.going.moment
           ∙ all_stay (inventory_of id) later (moment mid).world only (subst (AllStay (inventory_of id)) (sym relit_at) stay) unbroken ∙ relit_at
 
-      there : Amid id old.listeners
-      there = by_one (none_or_amid id old.listeners)
+      there : FiveAmid id old.listeners
+      there = by_one (none_or_five id old.listeners)
         where
-          by_one : (device_with id old.listeners ≡ None) ⊎ Amid id old.listeners → Amid id old.listeners
+          by_one : IsAbsent (ids.V id) old.listeners ⊎ FiveAmid id old.listeners → FiveAmid id old.listeners
           by_one (inr a) = a
           by_one (inl none) =
               let silent : AllHeard Nothing notes = subst (λ gs. AllHeard (joint gs) notes) (none_answers id old.listeners tame.sound none) heard in
               absurd (subst IsVain (sym turns.comes ∙ well) (tries_vain id notes 0 false silent))
 
+      abbrev tag_there : Device
+      tag_there = relit (T5 there.tag)
+
+      split_there : new.listeners ≡ map relit there.before ++ tag_there ∷ map relit there.behind
+      split_there = listeners_are ∙ ap (map relit) there.split ∙ relit_among there.before (T5 there.tag) there.behind
+
       -- there is a device of this identifier
       pub placed : IsSome (device_with id new.listeners)
-      placed =
-          let a : Amid id old.listeners = there in
-          let all : new.listeners ≡ map relit a.before ++ relit a.device ∷ map relit a.behind = listeners_are ∙ ap (map relit) a.split ∙ relit_among a.before a.device a.behind in
-          subst (λ ls. IsSome (device_with id ls)) (sym all) (some_named id (map relit a.before) (relit a.device) (map relit a.behind) (relit_id a.device ∙ a.named))
+      placed = subst (λ ls. IsSome (device_with id ls)) (sym split_there) (some_named id (map relit there.before) tag_there (map relit there.behind) there.named)
 
       no_loss : (p : Progress (Inventory (Unit {0}))) → Ok tt ≡ answer_of (picking_v id) p → ◌≡◌ {A = Progress (Inventory (Unit {0}))} Loses p → ⊥
       no_loss p e h = let k : Ok tt ≡ Err faults.FieldLost = e ∙ ap (answer_of (picking_v id)) (sym h) in cc
@@ -538,12 +558,18 @@ module _ (id : List ℕ) (eight : length id ≡ 8) (old mid new : Air Device) (r
       selected_if (T4 d) h s named = absurd (not_eight (length d.id) s.0.size (ap length named ∙ eight))
       selected_if (Peer d) h s named = absurd (not_eight (length d.id) s.0.size (ap length named ∙ eight))
       selected_if (T5 p) h s named = h
+      selected_if (T3 p) h s named = h
 
-      five_if : (d : Device) → IsSound (kept d) → device_id d ≡ id → (seen_of d ≡ seen.T5) × IsUnasked d
-      five_if (T2 d) s named = absurd (not_eight (length d.id) s.0.size (ap length named ∙ eight))
-      five_if (T4 d) s named = absurd (not_eight (length d.id) s.0.size (ap length named ∙ eight))
-      five_if (Peer d) s named = absurd (not_eight (length d.id) s.0.size (ap length named ∙ eight))
-      five_if (T5 p) s named = (refl, tt)
+      -- what stands there is this tag
+      abbrev IsFive : Device → Type 0
+      IsFive d = (seen_of d ≡ seen.T5) × (may_be_found d ≡ true) × IsUnasked d
+
+      five_if : (place : ℕ) (s : StandsAt id new.listeners place) → IsFive s.device
+      five_if place s =
+          let whole_sound : AreSound (map kept (s.before ++ s.device ∷ s.behind)) = subst (λ ls. AreSound (map kept ls)) s.split sound in
+          let same : s.device ≡ tag_there =
+          same_device s.before s.device s.behind (map relit there.before) tag_there (map relit there.behind) whole_sound (sym s.split ∙ split_there) (s.named ∙ sym there.named) in
+          subst IsFive (sym same) (refl, refl, tt)
 
       -- it is selected, and stands at the place that was found
       pub selects_at : (place : ℕ) → StandsAt id new.listeners place → SelectsAt (ids.V id) place (moment old) (moment new)
@@ -551,12 +577,13 @@ module _ (id : List ℕ) (eight : length id ≡ 8) (old mid new : Air Device) (r
           let whole_sound : AreSound (map kept (s.before ++ s.device ∷ s.behind)) = subst (λ ls. AreSound (map kept ls)) s.split sound in
           let all : AllByRecursion IsRelit (s.before ++ s.device ∷ s.behind) = subst (AllByRecursion IsRelit) s.split relit_all in
           let own : IsSound (kept s.device) = sound_amid s.before s.device s.behind whole_sound in
-          let is : (seen_of s.device ≡ seen.T5) × IsUnasked s.device = five_if s.device own s.named in
+          let is : IsFive s.device = five_if place s in
           let behind : AllByRecursion IsRelit (s.device ∷ s.behind) = relit_back s.before (s.device ∷ s.behind) all in
           record {
             selects = subst (λ k. Selects (ids.V id) (Ok k) (moment old) (moment new)) (sym is.0) (subst (λ q. Selects (ids.V id) (five q) (moment old) (moment new)) well (selects not_starving));
             device = s.device;
             named = s.named;
+            found = is.1;
             stands = record {
               before = s.before;
               behind = s.behind;
@@ -564,7 +591,7 @@ module _ (id : List ℕ) (eight : length id ≡ 8) (old mid new : Air Device) (r
               at = s.at;
               sound = own;
               selected = selected_if s.device behind.0 own s.named;
-              unasked = is.1;
+              unasked = is.2;
               first = relit_aside (device_id s.device) s.before (relit_front s.before (s.device ∷ s.behind) all) (others_before s.before s.device s.behind whole_sound);
               later = relit_aside (device_id s.device) s.behind behind.1 (others_behind s.before s.device s.behind whole_sound);
             };

@@ -18,7 +18,7 @@ use Rattle.t5t_tag.proofs.Again.{heard_again}
 use Rattle.t5t_tag.proofs.Hushed.{in_state, IsAlike, addressed_alike, frame_alike}
 use Rattle.bench_devices.specs.Powered.{Powered}
 use Rattle.bench_devices.specs.declared.device.Device.{Device}
-use Rattle.bench_devices.specs.declared.device.Device.TheVariants.{T2, T4, Peer, T5}
+use Rattle.bench_devices.specs.declared.device.Device.TheVariants.{T2, T4, Peer, T5, T3}
 use Rattle.bench_devices.specs.Device.{device_after, device_store, device_selected}
 use Rattle.bench_devices.specs.Keeping.{ghosts}
 
@@ -219,8 +219,9 @@ is_five (T2 d) = false
 is_five (T4 d) = false
 is_five (Peer d) = false
 is_five (T5 p) = true
+is_five (T3 p) = false
 
-module _ (p : Powered) (own : List ℕ) (code : ℕ) (rest : List ℕ) where
+module _ (p : Powered T5State) (own : List ℕ) (code : ℕ) (rest : List ℕ) where
   abbrev t : T5State
   t = unhushed p.tag
 
@@ -240,7 +241,7 @@ module _ (p : Powered) (own : List ℕ) (code : ℕ) (rest : List ℕ) where
   takes_five : p.lit ≡ true → Takes ghosts (T5 p) f
   takes_five lit =
       let goes : device_after (T5 p) f None ≡ T5 (record { tag = t5_after p.tag f; lit = true }) =
-      ap (λ v. if v then T5 (record { tag = t5_after p.tag f; lit = true }) else T5 p) lit in
+      ap (λ v. T5 (if v then record { tag = t5_after p.tag f; lit = true } else p)) lit in
       record {
         quiet = refl;
         answer = ap (λ v. if v then t5_answer p.tag f else None) lit ∙ heard_says t own code rest p.tag now_heard;
@@ -251,10 +252,10 @@ module _ (p : Powered) (own : List ℕ) (code : ℕ) (rest : List ℕ) where
         selected = λ g says. ap device_selected goes;
       }
 
-passes_five : (p : Powered) (f : Signal) (lit : Bool) → p.lit ≡ lit → lit ≡ false → PassesOver ghosts (T5 p) f
+passes_five : (p : Powered T5State) (f : Signal) (lit : Bool) → p.lit ≡ lit → lit ≡ false → PassesOver ghosts (T5 p) f
 passes_five p f true e h = absurd cc
 passes_five p f false e h =
-    let goes : device_after (T5 p) f None ≡ T5 p = ap (λ v. if v then T5 (record { tag = t5_after p.tag f; lit = true }) else T5 p) e in
+    let goes : device_after (T5 p) f None ≡ T5 p = ap (λ v. T5 (if v then record { tag = t5_after p.tag f; lit = true } else p)) e in
     record {
       quiet = refl;
       silent = ap (λ v. if v then t5_answer p.tag f else None) e;
@@ -262,27 +263,26 @@ passes_five p f false e h =
       rests = ap device_selected goes ∙ e;
     }
 
-pub plain_five : (p : Powered) → IsPlainTag ghosts Type5 p.tag.id (T5 p)
+pub plain_five : (p : Powered T5State) → IsPlainTag ghosts Type5 p.tag.id (T5 p)
 plain_five p = record { holds = is_five; now = refl; kept = kept; takes = takes; passes = passes }
   where
-    by_light : (v : Bool) (q : Powered) (f : Signal) → is_five (if v then T5 (record { tag = t5_after q.tag f; lit = true }) else T5 q) ≡ true
-    by_light true q f = refl
-    by_light false q f = refl
-
     kept : (m : Device) (f : Signal) → MayAsk Type5 p.tag.id f → is_five m ≡ true → is_five (device_after m f None) ≡ true
     kept (T2 d) f may h = absurd cc
     kept (T4 d) f may h = absurd cc
     kept (Peer d) f may h = absurd cc
-    kept (T5 q) f may h = by_light q.lit q f
+    kept (T5 q) f may h = refl
+    kept (T3 q) f may h = absurd cc
 
     takes : (m : Device) (f : Signal) → MayAsk Type5 p.tag.id f → is_five m ≡ true → device_selected m ≡ true → Takes ghosts m f
     takes (T2 d) f may h s = absurd cc
     takes (T4 d) f may h s = absurd cc
     takes (Peer d) f may h s = absurd cc
+    takes (T3 q) f may h s = absurd cc
     takes (T5 q) f may h s = subst (Takes ghosts (T5 q)) (sym may.frame) (takes_five q p.tag.id may.code may.rest s)
 
     passes : (m : Device) (f : Signal) → MayAsk Type5 p.tag.id f → is_five m ≡ true → device_selected m ≡ false → PassesOver ghosts m f
     passes (T2 d) f may h s = absurd cc
     passes (T4 d) f may h s = absurd cc
     passes (Peer d) f may h s = absurd cc
+    passes (T3 q) f may h s = absurd cc
     passes (T5 q) f may h s = passes_five q f q.lit refl s

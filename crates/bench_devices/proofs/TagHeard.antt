@@ -14,11 +14,11 @@ use Rattle.isodep_link.specs.IsoLinks.{bytes_of}
 use Rattle.tag_reader.specs.declared.how.How.{How}
 use Rattle.tag_reader.specs.declared.how.How.TheVariants as hows
 use Rattle.bench_devices.specs.declared.device.Device.{Device}
-use Rattle.bench_devices.specs.declared.device.Device.TheVariants.{T2, T4, Peer, T5}
+use Rattle.bench_devices.specs.declared.device.Device.TheVariants.{T2, T4, Peer, T5, T3}
 use Rattle.bench_devices.specs.declared.polling.SeenKind.{SeenKind}
 use Rattle.bench_devices.specs.declared.polling.SeenKind.TheVariants as seen
 use Rattle.bench_devices.specs.CardAsking.{tag_next}
-use Rattle.bench_devices.specs.Device.{BenchWorld, air, device_card, device_tag, how_of, seen_of}
+use Rattle.bench_devices.specs.Device.{BenchWorld, air, device_card, device_tag, how_of, seen_of, may_be_found}
 use Rattle.bench_devices.specs.Keeping.{ghosts}
 use Rattle.bench_devices.specs.Phases.{Stands}
 use Rattle.bench_devices.proofs.CardHeard.{CardGoes, CardHeard, IsSent, card_heard, rats_heard, has_fresh, field_of, same_frame}
@@ -114,8 +114,8 @@ all_sent : (asked : List Signal) → AllByRecursion (IsHeeded hows.T4) asked →
 all_sent [] h = tt
 all_sent (f ∷ fs) h = (h.0, all_sent fs h.1)
 
-pub begins_heard : (asked : List Signal) (b : Moment BenchWorld) (place : ℕ) (d : Device) → Stands b place d → AllByRecursion (IsHeeded (how_of d)) asked → TagGoes asked (seen_of d) b []
-begins_heard asked b place (T2 d) s heeded = inl (record {
+pub begins_heard : (asked : List Signal) (b : Moment BenchWorld) (place : ℕ) (d : Device) → Stands b place d → may_be_found d ≡ true → AllByRecursion (IsHeeded (how_of d)) asked → TagGoes asked (seen_of d) b []
+begins_heard asked b place (T2 d) s found heeded = inl (record {
   how = hows.T2;
   own = d.id;
   place = place;
@@ -125,10 +125,11 @@ begins_heard asked b place (T2 d) s heeded = inl (record {
   heeded = heeded;
   next = λ ms. refl;
 })
-begins_heard asked b place (T4 d) s heeded =
+begins_heard asked b place (T4 d) s found heeded =
     inr (inl (record { four = refl; first = refl; place = place; fresh = has_fresh (field_of b) place (T4 d) s refl; sent = all_sent asked heeded }))
-begins_heard asked b place (Peer d) s heeded = inr (inr (inr refl))
-begins_heard asked b place (T5 p) s heeded = inl (record {
+begins_heard asked b place (Peer d) s found heeded = inr (inr (inr refl))
+begins_heard asked b place (T3 p) s found heeded = absurd cc
+begins_heard asked b place (T5 p) s found heeded = inl (record {
   how = hows.T5 p.tag.id;
   own = p.tag.id;
   place = place;

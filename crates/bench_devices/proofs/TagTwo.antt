@@ -17,7 +17,7 @@ use Rattle.t2t_tag.specs.Step.{is_writable, t2_reply, t2_obeyed, reply_frame, he
 use Rattle.t2t_tag.proofs.Spellings.{exact_by}
 use Rattle.t5t_tag.proofs.Stores.{length_with_block, with_block_again}
 use Rattle.bench_devices.specs.declared.device.Device.{Device}
-use Rattle.bench_devices.specs.declared.device.Device.TheVariants.{T2, T4, Peer, T5}
+use Rattle.bench_devices.specs.declared.device.Device.TheVariants.{T2, T4, Peer, T5, T3}
 use Rattle.bench_devices.specs.Device.{says_of, t2_machine, device_after, device_selected}
 use Rattle.bench_devices.specs.Uppers.{t2_commands, t2_upper}
 use Rattle.bench_devices.specs.Keeping.{ghosts}
@@ -124,6 +124,7 @@ of_two holds (T2 d) = holds d
 of_two holds (T4 d) = false
 of_two holds (Peer d) = false
 of_two holds (T5 p) = false
+of_two holds (T3 p) = false
 
 pub plain_two : (d : Fronted T2Memory) → is_active d.front ≡ true → IsPlainTag ghosts Type2 d.id (T2 d)
 plain_two d a = lifted (plain_front t2_upper (λ u f kind may. obeys u f) d refl (unready d.front a))
@@ -142,6 +143,7 @@ plain_two d a = lifted (plain_front t2_upper (λ u f kind may. obeys u f) d refl
         kept (T4 e) f may h = absurd cc
         kept (Peer e) f may h = absurd cc
         kept (T5 e) f may h = absurd cc
+        kept (T3 e) f may h = absurd cc
 
         takes : (m : Device) (f : Signal) → MayAsk Type2 d.id f → of_two p.holds m ≡ true → device_selected m ≡ true → Takes ghosts m f
         takes (T2 e) f may h s =
@@ -150,6 +152,7 @@ plain_two d a = lifted (plain_front t2_upper (λ u f kind may. obeys u f) d refl
         takes (T4 e) f may h s = absurd cc
         takes (Peer e) f may h s = absurd cc
         takes (T5 e) f may h s = absurd cc
+        takes (T3 e) f may h s = absurd cc
 
         passes : (m : Device) (f : Signal) → MayAsk Type2 d.id f → of_two p.holds m ≡ true → device_selected m ≡ false → PassesOver ghosts m f
         passes (T2 e) f may h s =
@@ -158,3 +161,4 @@ plain_two d a = lifted (plain_front t2_upper (λ u f kind may. obeys u f) d refl
         passes (T4 e) f may h s = absurd cc
         passes (Peer e) f may h s = absurd cc
         passes (T5 e) f may h s = absurd cc
+        passes (T3 e) f may h s = absurd cc

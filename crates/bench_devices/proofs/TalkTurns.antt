@@ -20,10 +20,10 @@ use Rattle.air_core.proofs.PlainAside.{aside_silent}
 use Rattle.dep_link.specs.Releasing.{rls_frame, ReleaseFails, Releases}
 use Rattle.dep_link.specs.Stopping.{HeardUpTo}
 use Rattle.bench_devices.specs.declared.device.Device.{Device}
-use Rattle.bench_devices.specs.declared.device.Device.TheVariants.{T2, T4, Peer, T5}
-use Rattle.bench_devices.specs.declared.polling.SeenKind.TheVariants as seen
+use Rattle.bench_devices.specs.declared.device.Device.TheVariants.{T2, T4, Peer, T5, T3}
 use Rattle.bench_devices.specs.Beside.{PeerAt, TalkLeaves}
-use Rattle.bench_devices.specs.Device.{devices, seen_of}
+use Rattle.bench_devices.specs.Kinds.{PeerKind}
+use Rattle.bench_devices.specs.Device.{devices, kind_of}
 use Rattle.bench_devices.specs.Keeping.{Kept, ghosts, kept}
 use Rattle.bench_devices.specs.LinkLaws.{TurnLeaves, ReleaseLeaves}
 use Rattle.bench_devices.specs.Phases.{IsTidy, AreTidy}
@@ -42,11 +42,12 @@ module _ (own : List ℕ) (f : Signal) (whole : f ≡ whole_a f.bytes) where
   pub aside_left : (l : Device) → IsAside ghosts own l → OneLeaves l (stepped_by devices l f None) × IsAside ghosts own (stepped_by devices l f None)
   aside_left l a = (record { same = aside_keeps own A f l whole tt a; tidy = stepped_tidy f None l }, (aside_silent ghosts laws own A f whole tt l a).aside)
 
-  pub peer_left : (l : Device) (reply : Option (List ℕ)) → seen_of l ≡ seen.Peer → OneLeaves l (stepped_by devices l f reply)
+  pub peer_left : (l : Device) (reply : Option (List ℕ)) → kind_of l ≡ PeerKind → OneLeaves l (stepped_by devices l f reply)
   peer_left (T2 d) reply is = absurd cc
   peer_left (T4 d) reply is = absurd cc
   peer_left (Peer d) reply is = record { same = peer_kept d f reply; tidy = stepped_tidy f reply (Peer d) }
   peer_left (T5 p) reply is = absurd cc
+  peer_left (T3 p) reply is = absurd cc
 
   -- all beside the peer
   pub record AllLeave (old new : List Device) : Type 0 where
@@ -66,7 +67,7 @@ module _ (own : List ℕ) (f : Signal) (whole : f ≡ whole_a f.bytes) where
   pub at_more : (l m : Device) (place : ℕ) (ls ms : List Device) → OneLeaves l m × IsAside ghosts own m → TalkLeaves own place ls ms → TalkLeaves own (suc place) (l ∷ ls) (m ∷ ms)
   at_more l m place ls ms one all = record { same = one_more l m ls ms one.0 all.same; at = (one.1, all.at); tidy = λ t. (one.0.tidy t.0, all.tidy t.1) }
 
-  pub at_first : (l m : Device) (ls ms : List Device) → seen_of l ≡ seen.Peer → OneLeaves l m → AllLeave ls ms → TalkLeaves own zero (l ∷ ls) (m ∷ ms)
+  pub at_first : (l m : Device) (ls ms : List Device) → kind_of l ≡ PeerKind → OneLeaves l m → AllLeave ls ms → TalkLeaves own zero (l ∷ ls) (m ∷ ms)
   at_first l m ls ms is one all = record {
     same = one_more l m ls ms one all.same;
     at = (ap (λ (k : Kept). k.fixed.kind) one.same ∙ is, all.aside);
@@ -104,7 +105,7 @@ module _ (own : List ℕ) (f : Signal) (whole : f ≡ whole_a f.bytes) where
         let left : m ≡ stepped_by devices l f None = step.left ∙ ap (stepped_by devices l f) none in
         subst (λ x. OneLeaves l x × IsAside ghosts own x) (sym left) (aside_left l a)
 
-    peer_met : (l : Device) (far : F) (answer : Option Signal) (m : Device) (mid : F) → seen_of l ≡ seen.Peer → Meets devices restarts steps f l far answer m mid → OneLeaves l m
+    peer_met : (l : Device) (far : F) (answer : Option Signal) (m : Device) (mid : F) → kind_of l ≡ PeerKind → Meets devices restarts steps f l far answer m mid → OneLeaves l m
     peer_met l far answer m mid is step = subst (OneLeaves l) (sym step.left) (peer_left l step.reply is)
 
     all_met : (ls : List Device) (far : F) (said : List Signal) (ms : List Device) (after : F) → AllByRecursion (IsAside ghosts own) ls → HearAll devices restarts steps f ls far said ms after → AllLeave ls ms

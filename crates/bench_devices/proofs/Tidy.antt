@@ -14,11 +14,10 @@ use Rattle.nfca_poll.specs.Calls.{call_of}
 use Rattle.nfca_poll.specs.Front.{Front, Off, Idle, Sleep, Ready, Active, front_next, is_active}
 use Rattle.nfca_poll.specs.Fronted.{Fronted, left_at, active_after, after_by}
 use Rattle.nfca_poll.specs.Upper.{UpperMachine}
-use Rattle.t5t_tag.specs.Step.{t5_after}
 use Rattle.bench_devices.specs.Cards.{T4Near}
 use Rattle.bench_devices.specs.Peers.{PeerNear, peer_machine, no_link}
 use Rattle.bench_devices.specs.declared.device.Device.{Device}
-use Rattle.bench_devices.specs.declared.device.Device.TheVariants.{T2, T4, Peer, T5}
+use Rattle.bench_devices.specs.declared.device.Device.TheVariants.{T2, T4, Peer, T5, T3}
 use Rattle.bench_devices.specs.Device.{devices, t4_machine, is_unlinked}
 use Rattle.bench_devices.specs.Device.{air}
 use Rattle.bench_devices.specs.Phases.{IsTidy, AreTidy}
@@ -90,8 +89,8 @@ stepped_tidy f reply (T2 d) t = either_tidy (hears devices (T2 d) f) (devices.af
 stepped_tidy f reply (T4 d) t = either_tidy (hears devices (T4 d) f) (devices.after (T4 d) f reply) (T4 d) (after_tidy t4_machine is_unlinked four_gives_up d.front d.id d.upper f None t) t
 stepped_tidy f reply (Peer d) t =
     either_tidy (hears devices (Peer d) f) (devices.after (Peer d) f reply) (Peer d) (after_tidy peer_machine no_link peer_gives_up d.front d.id d.upper f reply t) t
-stepped_tidy f reply (T5 p) t =
-    either_tidy (hears devices (T5 p) f) (devices.after (T5 p) f reply) (T5 p) (either_tidy p.lit (T5 (record { tag = t5_after p.tag f; lit = true })) (T5 p) tt tt) tt
+stepped_tidy f reply (T5 p) t = either_tidy (hears devices (T5 p) f) (devices.after (T5 p) f reply) (T5 p) tt tt
+stepped_tidy f reply (T3 p) t = either_tidy (hears devices (T3 p) f) (devices.after (T3 p) f reply) (T3 p) tt tt
 
 -- and where light comes and goes
 pub dark_tidy : (d : Device) → IsTidy d → IsTidy (devices.darkened d)
@@ -99,12 +98,14 @@ dark_tidy (T2 d) t = tt
 dark_tidy (T4 d) t = left_tidy t4_machine is_unlinked four_gives_up d.front Off d.upper t
 dark_tidy (Peer d) t = inr refl
 dark_tidy (T5 p) t = tt
+dark_tidy (T3 p) t = tt
 
 pub woken_tidy : (d : Device) → IsTidy d → IsTidy (devices.woken d)
 woken_tidy (T2 d) t = tt
 woken_tidy (T4 d) t = left_tidy t4_machine is_unlinked four_gives_up d.front Idle d.upper t
 woken_tidy (Peer d) t = left_tidy peer_machine no_link peer_gives_up d.front Idle d.upper t
 woken_tidy (T5 p) t = tt
+woken_tidy (T3 p) t = tt
 
 pub all_tidy : (g : Device → Device) → ((d : Device) → IsTidy d → IsTidy (g d)) → (ds : List Device) → AreTidy ds → AreTidy (map g ds)
 all_tidy g h [] t = tt

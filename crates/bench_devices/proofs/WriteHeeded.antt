@@ -34,8 +34,8 @@ use Rattle.tag_writer.proofs.Addresses.{all_run}
 use Rattle.tag_writer.proofs.DoablePuts.{doable_puts, room_for, file_puts}
 use Rattle.tag_writer.proofs.FileJobs.{file_serves}
 use Rattle.bench_devices.specs.declared.device.Device.{Device}
-use Rattle.bench_devices.specs.declared.device.Device.TheVariants.{T2, T4, Peer, T5}
-use Rattle.bench_devices.specs.Device.{device_store, device_commands, how_of, size_of, is_tag}
+use Rattle.bench_devices.specs.declared.device.Device.TheVariants.{T2, T4, Peer, T5, T3}
+use Rattle.bench_devices.specs.Device.{device_store, device_commands, how_of, size_of, may_be_read}
 use Rattle.bench_devices.specs.Keeping.{kept, container_of, IsSound}
 use Rattle.bench_devices.specs.Writing.{AsksWriteOf}
 use Rattle.bench_devices.proofs.CardBytes.{cons_bytes, front_bytes, behind_bytes}
@@ -130,7 +130,7 @@ module _ (size : ℕ) (store message : List ℕ) (is : IsFileStore store) (place
       subst (λ ps. AllByRecursion (IsHeeded hows.T4) (commands_of ps)) (sym (file_puts store message p are)) (each_heeded (all_puts (file_parts store message)) (file_serves size store message (room_for size store message is place takes)).puts (contents bytes))
 
 -- So each tag heeds the writes of a message of bytes that it takes.
-puts_heeded : (message : List ℕ) (d : Device) → is_tag d ≡ true → IsSound (kept d) → AreBytes message → (p : Parts) (place : Place) → Takes (how_of d) (size_of d) (device_store d) message place
+puts_heeded : (message : List ℕ) (d : Device) → may_be_read d ≡ true → IsSound (kept d) → AreBytes message → (p : Parts) (place : Place) → Takes (how_of d) (size_of d) (device_store d) message place
     → ArePuts (how_of d) (size_of d) (device_store d) message p → AllByRecursion (IsHeeded (how_of d)) (commands_of (all_puts p))
 puts_heeded message (T2 d) tagged sound bytes p place takes are =
     two_heeded (size_of (T2 d)) 4 d.upper.store (all_puts p) (doable_puts hows.T2 (size_of (T2 d)) d.upper.store message place p (refl, sound.2) takes are)
@@ -138,12 +138,13 @@ puts_heeded message (T4 d) tagged sound bytes p place takes are =
     let tag : IsT4State d.upper.tag = sound_tag d.upper.tag sound.1 sound.2 sound.3 in
     four_heeded (size_of (T4 d)) (store_of d.upper.tag) message (store_is d.upper.tag tag) place takes bytes p are
 puts_heeded message (Peer d) tagged sound bytes p place takes are = absurd cc
+puts_heeded message (T3 q) tagged sound bytes p place takes are = absurd cc
 puts_heeded message (T5 q) tagged sound bytes p place takes are =
     let how : How = hows.T5 q.tag.id in
     area_all (IsHeeded how) how q.tag.size are.0 q.tag.store message p are.2 (always (λ s. IsHeeded how (block_command how s)) (five_heeded q.tag.id) (steps_of are.2.plan))
 
 -- And so all that a write asks, of a tag whose container has bytes.
-pub write_heeded : (message : List ℕ) (d : Device) (asked : List Signal) → is_tag d ≡ true → IsSound (kept d) → AreBytes (container_of d) → AreBytes message → AsksWriteOf message d asked → AllByRecursion (IsHeeded (how_of d)) asked
+pub write_heeded : (message : List ℕ) (d : Device) (asked : List Signal) → may_be_read d ≡ true → IsSound (kept d) → AreBytes (container_of d) → AreBytes message → AsksWriteOf message d asked → AllByRecursion (IsHeeded (how_of d)) asked
 write_heeded message d asked tagged sound container bytes is =
     let P : Signal → Type 0 = IsHeeded (how_of d) in
     let store : List ℕ = device_store d in

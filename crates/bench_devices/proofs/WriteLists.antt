@@ -21,8 +21,8 @@ use Rattle.tag_writer.specs.WriteAsked.{Parts, all_puts, AreAreaPuts, ArePuts, A
 use Rattle.tag_writer.proofs.Doing.{t2_may, t5_may}
 use Rattle.tag_writer.proofs.Jobs.{all_rest}
 use Rattle.bench_devices.specs.declared.device.Device.{Device}
-use Rattle.bench_devices.specs.declared.device.Device.TheVariants.{T2, T4, Peer, T5}
-use Rattle.bench_devices.specs.Device.{device_tech, device_id, device_store, device_commands, how_of, size_of, is_tag}
+use Rattle.bench_devices.specs.declared.device.Device.TheVariants.{T2, T4, Peer, T5, T3}
+use Rattle.bench_devices.specs.Device.{device_tech, device_id, device_store, device_commands, how_of, size_of, may_be_read}
 use Rattle.bench_devices.specs.Keeping.{kept, IsSound}
 use Rattle.bench_devices.specs.Linking.{IsPlain}
 use Rattle.bench_devices.specs.Writing.{AsksWriteOf}
@@ -31,19 +31,21 @@ use Rattle.bench_devices.proofs.SurveyLists.{two_surveyed, four_surveyed, five_s
 use Rattle.tag_writer.proofs.SomeParts.{IsBlocks}
 use Rattle.bench_devices.proofs.WriteParts.{takes_decided, some_writes}
 
-some_surveyed : (d : Device) → is_tag d ≡ true → IsSound (kept d) → (xs : List Signal) × IsAskedFor ToWrite (how_of d) (size_of d) (device_store d) xs
+some_surveyed : (d : Device) → may_be_read d ≡ true → IsSound (kept d) → (xs : List Signal) × IsAskedFor ToWrite (how_of d) (size_of d) (device_store d) xs
 some_surveyed (T2 d) tag is = two_surveyed 16 d.upper.store refl
 some_surveyed (T4 d) tag is = four_surveyed 0 (device_store (T4 d))
 some_surveyed (Peer d) tag is = absurd cc
+some_surveyed (T3 p) tag is = absurd cc
 some_surveyed (T5 p) tag is = five_surveyed p.tag.id p.tag.size p.tag.store is.3
 
-of_blocks : (d : Device) → is_tag d ≡ true → IsSound (kept d) → IsBlocks (how_of d) (size_of d) (device_store d)
+of_blocks : (d : Device) → may_be_read d ≡ true → IsSound (kept d) → IsBlocks (how_of d) (size_of d) (device_store d)
 of_blocks (T2 d) tag is = is.2
 of_blocks (T4 d) tag is = tt
 of_blocks (Peer d) tag is = absurd cc
 of_blocks (T5 p) tag is = tt
+of_blocks (T3 p) tag is = absurd cc
 
-pub some_write : (message : List ℕ) (d : Device) → is_tag d ≡ true → IsSound (kept d) → (xs : List Signal) × AsksWriteOf message d xs
+pub some_write : (message : List ℕ) (d : Device) → may_be_read d ≡ true → IsSound (kept d) → (xs : List Signal) × AsksWriteOf message d xs
 some_write message d tag is =
     let read = some_surveyed d tag is in
     let parts = some_writes (how_of d) (size_of d) (device_store d) message (of_blocks d tag is) in
@@ -119,6 +121,7 @@ may_all message (T2 d) plain xs is =
     (writes_all P hows.T2 16 store message is.parts is.writes (λ place takes are. area_all P hows.T2 16 are.0 store message is.parts are.2 (always (λ s. P (block_command hows.T2 s)) (t2_may (device_id (T2 d))) (steps_of are.2.plan))))))
 may_all message (T4 d) plain xs is = absurd plain.0
 may_all message (Peer d) plain xs is = absurd (no_tag plain.1)
+may_all message (T3 p) plain xs is = absurd (no_tag plain.1)
 may_all message (T5 p) plain xs is =
     let P : Signal → Type 0 = MayAsk (plain_kind (device_tech (T5 p))) (device_id (T5 p)) in
     let how : How = hows.T5 p.tag.id in

@@ -16,7 +16,7 @@ use Rattle.tag_writer.specs.Faults.{ending_of}
 use Rattle.tag_writer.specs.Law.{Stopped, WriteLaw}
 use Rattle.tag_writer.specs.Writing.{Keeps, HasWritten}
 use Rattle.bench_devices.specs.declared.device.Device.{Device}
-use Rattle.bench_devices.specs.Device.{air, device_tech, device_id, device_store, device_commands, how_of, size_of, is_tag}
+use Rattle.bench_devices.specs.Device.{air, device_tech, device_id, device_store, device_commands, how_of, size_of, may_be_read}
 use Rattle.bench_devices.specs.Writing.{AsksWriteOf, ShowsWrite, KeepsWriteLaw}
 use Rattle.bench_devices.specs.Linking.{IsPlain, IsPlainHow, IsNew}
 use Rattle.bench_devices.specs.Keeping.{ghosts, StoreOf, Leaves}
@@ -99,7 +99,7 @@ module _ (a : Air Device) (place : ℕ) (d : Device) (s : Stands (moment a) plac
       let told = as_cut (StoreOf (device_id d)) (AsksWriteOf message d) (ShowsWrite message d) FailsWrite (moment a) (moment q.air) d plain does in
       record { told = told; law = subst (KeepsWriteLaw message d Stopped (world a)) (same_going (moment a) (moment q.air) m.asked.going told.asked.going) (law_here (Err faults.Memory) k) }
 
-module _ (p : PlainSeen Device) (is : IsNew p) (how : How) (one : (e : Device) × Stands (moment p.air) p.place e × (how ≡ how_of e) × IsPlainHow how × (is_tag e ≡ true)) (message : List ℕ) (q : PlainSeen Device)
+module _ (p : PlainSeen Device) (is : IsNew p) (how : How) (one : (e : Device) × Stands (moment p.air) p.place e × (how ≡ how_of e) × IsPlainHow how × (may_be_read e ≡ true)) (message : List ℕ) (q : PlainSeen Device)
     (moves : PlainMoves ghosts p q) where
   abbrev IsTold : WriteEnd → How → PlainSeen Device → Type 0
   IsTold r h x = IsWritten h (size_of one.0) message (plain_view ghosts x) (plain_view ghosts q) r

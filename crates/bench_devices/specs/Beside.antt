@@ -6,8 +6,8 @@ use Rattle.air_core.specs.PlainTags.{IsAside}
 use Rattle.dep_link.specs.Initiator.{InitState}
 use Rattle.dep_link.specs.DepLinks.{IsInStep}
 use Rattle.bench_devices.specs.declared.device.Device.{Device}
-use Rattle.bench_devices.specs.declared.polling.SeenKind.TheVariants as seen
-use Rattle.bench_devices.specs.Device.{device_end, device_linked, seen_of}
+use Rattle.bench_devices.specs.Kinds.{PeerKind}
+use Rattle.bench_devices.specs.Device.{device_end, device_linked, kind_of}
 use Rattle.bench_devices.specs.Keeping.{ghosts, kept}
 use Rattle.bench_devices.specs.Phases.{AreTidy}
 
@@ -15,7 +15,7 @@ use Rattle.bench_devices.specs.Phases.{AreTidy}
 -- selected.
 abbrev pub PeerAt : List ℕ → ℕ → List Device → Type 0
 PeerAt own place [] = ⊥
-PeerAt own zero (l ∷ ls) = (seen_of l ≡ seen.Peer) × AllByRecursion (IsAside ghosts own) ls
+PeerAt own zero (l ∷ ls) = (kind_of l ≡ PeerKind) × AllByRecursion (IsAside ghosts own) ls
 PeerAt own (suc place) (l ∷ ls) = IsAside ghosts own l × PeerAt own place ls
 
 -- What talking to such a peer leaves: all that stays of the devices stays, the others are aside still, and each has a link at most

@@ -1,8 +1,8 @@
--- The devices of the bench: a Type 2 tag, a Type 4 tag or a peer under the listener front of its identifier, and a Type 5 tag (NFC
--- Forum Digital Protocol; NFC Forum Type 2 Tag, Type 4 Tag and Type 5 Tag; NFCIP-1, ISO/IEC 18092).
+-- The devices of the bench: a Type 2 tag, a Type 4 tag or a peer under the listener front of its identifier, and a Type 5 or a Type 3 tag,
+-- which light selects (NFC Forum Digital Protocol; NFC Forum Type 2 Tag, Type 3 Tag, Type 4 Tag and Type 5 Tag; NFCIP-1, ISO/IEC 18092).
 use Rattle.std.specs.Prelude.{ℕ, List, [], Bool, true, false, not, ◌&&◌, ◌||◌, if◌then◌else◌, Option, Some, None}
 use Rattle.nfc_base.specs.declared.frame.Tech.{Tech}
-use Rattle.nfc_base.specs.declared.frame.Tech.TheVariants.{A, V}
+use Rattle.nfc_base.specs.declared.frame.Tech.TheVariants.{A, V, F}
 use Rattle.nfc_base.specs.Signal.{Signal}
 use Rattle.nfc_base.specs.Far.{FarUse, Untouched}
 use Rattle.nfc_base.specs.TagLinks.{TagState, TagStep, plain_state}
@@ -22,11 +22,11 @@ use Rattle.t4t_tag.specs.declared.current.CurrentFile.TheVariants as current
 use Rattle.t4t_tag.specs.Store as t4
 use Rattle.t4t_tag.specs.Store.{T4State}
 use Rattle.t4t_tag.specs.Step.{t4_answer, t4_after}
-use Rattle.t5t_tag.specs.Store.{fresh, darkened, block_count, locked_too}
-use Rattle.t5t_tag.specs.Step.{t5_answer, t5_after}
+use Rattle.t3t_tag.specs.Store as t3
+use Rattle.t5t_tag.specs.Store.{fresh}
 use Rattle.tag_reader.specs.declared.how.How.{How}
 use Rattle.tag_reader.specs.declared.how.How.TheVariants as hows
-use Rattle.tag_reader.specs.Kinds.{t2_step, t5_step}
+use Rattle.tag_reader.specs.Kinds.{t2_step}
 use Rattle.tag_reader.specs.Files.{t4_link_step, shown}
 use Rattle.isodep_link.specs.declared.card.CardStep.{CardStep}
 use Rattle.isodep_link.specs.declared.card.CardStep.TheVariants as card
@@ -35,9 +35,10 @@ use Rattle.nfc_base.specs.Headed.{is_rats}
 use Rattle.isodep_link.specs.Card as ends
 use Rattle.isodep_link.specs.Card.{CardState, card_table, replied, reply_block}
 use Rattle.bench_devices.specs.declared.device.Device.{Device}
-use Rattle.bench_devices.specs.declared.device.Device.TheVariants.{T2, T4, Peer, T5}
+use Rattle.bench_devices.specs.declared.device.Device.TheVariants.{T2, T4, Peer, T5, T3}
 use Rattle.bench_devices.specs.declared.polling.SeenKind.{SeenKind}
-use Rattle.bench_devices.specs.declared.polling.SeenKind.TheVariants as seen
+use Rattle.bench_devices.specs.Kinds.{DeviceKind, T2Kind, T3Kind, T4Kind, PeerKind, T5Kind, seen_by}
+use Rattle.bench_devices.specs.Powered.{light_three, light_five, powered_answer, powered_after, powered_woken, powered_darkened, powered_locked}
 use Rattle.dep_link.specs.Target.{TargetState}
 use Rattle.dep_link.specs.Target as targets
 use Rattle.bench_devices.specs.Cards.{T4Near, card_now}
@@ -108,6 +109,7 @@ device_tech (T2 d) = A
 device_tech (T4 d) = A
 device_tech (Peer d) = A
 device_tech (T5 p) = V
+device_tech (T3 p) = F
 
 -- tags ask nothing of a far end
 abbrev pub device_handed : Device → Signal → FarUse
@@ -115,44 +117,51 @@ device_handed (T2 d) f = Untouched
 device_handed (T4 d) f = Untouched
 device_handed (Peer d) f = handed_by peer_machine d.front d f
 device_handed (T5 p) f = Untouched
+device_handed (T3 p) f = Untouched
 
--- a Type 5 tag hears nothing in the dark
+-- a tag that light selects hears nothing in the dark
 abbrev pub device_answer : Device → Signal → Option (List ℕ) → Option Signal
 device_answer (T2 d) f reply = answer_by t2_machine d.front d f None
 device_answer (T4 d) f reply = answer_by t4_machine d.front d f None
 device_answer (Peer d) f reply = answer_by peer_machine d.front d f reply
-device_answer (T5 p) f reply = if p.lit then t5_answer p.tag f else None
+device_answer (T5 p) f reply = powered_answer light_five p f
+device_answer (T3 p) f reply = powered_answer light_three p f
 
 abbrev pub device_after : Device → Signal → Option (List ℕ) → Device
 device_after (T2 d) f reply = T2 (after_by t2_machine d.front d f None)
 device_after (T4 d) f reply = T4 (after_by t4_machine d.front d f None)
 device_after (Peer d) f reply = Peer (after_by peer_machine d.front d f reply)
-device_after (T5 p) f reply = if p.lit then T5 (record { tag = t5_after p.tag f; lit = true }) else T5 p
+device_after (T5 p) f reply = T5 (powered_after light_five p f)
+device_after (T3 p) f reply = T3 (powered_after light_three p f)
 
 -- light and dark: a front comes on idle, what a tag holds stays, and in the dark a peer has no link
 abbrev pub device_woken : Device → Device
 device_woken (T2 d) = T2 (moved t2_machine d Idle)
 device_woken (T4 d) = T4 (moved t4_machine d Idle)
 device_woken (Peer d) = Peer (moved peer_machine d Idle)
-device_woken (T5 p) = T5 (record { tag = p.tag; lit = true })
+device_woken (T5 p) = T5 (powered_woken p)
+device_woken (T3 p) = T3 (powered_woken p)
 
 abbrev pub device_darkened : Device → Device
 device_darkened (T2 d) = T2 (moved t2_machine d Off)
 device_darkened (T4 d) = T4 (moved t4_machine d Off)
 device_darkened (Peer d) = Peer (record { id = d.id; front = Off; upper = given_up d.upper })
-device_darkened (T5 p) = T5 (record { tag = darkened p.tag; lit = false })
+device_darkened (T5 p) = T5 (powered_darkened light_five p)
+device_darkened (T3 p) = T3 (powered_darkened light_three p)
 
 abbrev pub device_id : Device → List ℕ
 device_id (T2 d) = d.id
 device_id (T4 d) = d.id
 device_id (Peer d) = d.id
 device_id (T5 p) = p.tag.id
+device_id (T3 p) = p.tag.id
 
 abbrev pub device_store : Device → List ℕ
 device_store (T2 d) = d.upper.store
 device_store (T4 d) = t4.store_of d.upper.tag
 device_store (Peer d) = []
 device_store (T5 p) = p.tag.store
+device_store (T3 p) = p.tag.store
 
 -- which of its blocks are locked; a Type 4 tag and a peer have none that can be
 abbrev pub device_locks : Device → List Bool
@@ -160,6 +169,7 @@ device_locks (T2 d) = d.upper.locked
 device_locks (T4 d) = []
 device_locks (Peer d) = []
 device_locks (T5 p) = p.tag.locked
+device_locks (T3 p) = p.tag.locked
 
 -- its card's end as it was made: how often it asks for more time before an answer, and by which value; no other device has one
 abbrev pub device_made : Device → CardState
@@ -167,6 +177,7 @@ device_made (T2 d) = ends.fresh 0
 device_made (T4 d) = ends.darkened d.upper.card
 device_made (Peer d) = ends.fresh 0
 device_made (T5 p) = ends.fresh 0
+device_made (T3 p) = ends.fresh 0
 
 -- likewise a peer's end of NFC-DEP, with its NFCID3, its LR code and its general bytes
 abbrev pub no_target : TargetState
@@ -177,6 +188,7 @@ device_target (T2 d) = no_target
 device_target (T4 d) = no_target
 device_target (Peer d) = made_near d.upper
 device_target (T5 p) = no_target
+device_target (T3 p) = no_target
 
 -- a peer's end of NFC-DEP as it is; a tag shows one that never changes
 abbrev pub device_end : Device → TargetState
@@ -184,6 +196,7 @@ device_end (T2 d) = no_target
 device_end (T4 d) = no_target
 device_end (Peer d) = d.upper.target
 device_end (T5 p) = no_target
+device_end (T3 p) = no_target
 
 -- what stays of a device in the dark
 pub record StablePart : Type 0 where
@@ -200,20 +213,23 @@ device_ready (T2 d) = is_ready d.front
 device_ready (T4 d) = is_ready d.front
 device_ready (Peer d) = is_ready d.front
 device_ready (T5 p) = false
+device_ready (T3 p) = false
 
--- a tag of NFC-V is selected in a lit field
+-- a tag of NFC-V or NFC-F is selected in a lit field
 abbrev pub device_selected : Device → Bool
 device_selected (T2 d) = is_active d.front
 device_selected (T4 d) = is_active d.front
 device_selected (Peer d) = is_active d.front
 device_selected (T5 p) = p.lit
+device_selected (T3 p) = p.lit
 
--- The step on commands. That a Type 5 tag was told to stay quiet makes no difference to those that name it.
+-- the step on commands
 abbrev pub device_commands : Device → TagState → Signal → TagStep
 device_commands (T2 d) = t2_step d.upper.locked
 device_commands (T4 d) = t4_link_step d.upper.tag.code
 device_commands (Peer d) = no_commands
-device_commands (T5 p) = t5_step p.tag.id p.tag.size p.tag.locked false
+device_commands (T5 p) = light_five.commands p.tag
+device_commands (T3 p) = light_three.commands p.tag
 
 -- of a Type 4 tag, its card's end, and what it holds and what is selected of it
 abbrev pub device_card : Device → CardState
@@ -221,12 +237,14 @@ device_card (T2 d) = ends.fresh 0
 device_card (T4 d) = card_now d.upper
 device_card (Peer d) = ends.fresh 0
 device_card (T5 p) = ends.fresh 0
+device_card (T3 p) = ends.fresh 0
 
 abbrev pub device_tag : Device → TagState
 device_tag (T2 d) = plain_state d.upper.store
 device_tag (T4 d) = shown d.upper.tag
 device_tag (Peer d) = plain_state []
 device_tag (T5 p) = plain_state p.tag.store
+device_tag (T3 p) = plain_state p.tag.store
 
 -- whether a device has a link to its far end: a peer alone may have one
 abbrev pub device_linked : Device → Bool
@@ -234,6 +252,7 @@ device_linked (T2 d) = false
 device_linked (T4 d) = false
 device_linked (Peer d) = d.upper.linked
 device_linked (T5 p) = false
+device_linked (T3 p) = false
 
 -- what the devices of the bench do
 abbrev pub devices : Machine Device
@@ -267,44 +286,63 @@ new_t4 id code container file = T4 (record { id = id; front = Off; upper = recor
 abbrev pub new_t5 : List ℕ → ℕ → List ℕ → Device
 new_t5 id size store = T5 (record { tag = fresh id size store; lit = false })
 
+abbrev pub new_t3 : List ℕ → List ℕ → Device
+new_t3 id store = T3 (record { tag = t3.unlocked id store; lit = false })
+
 -- a peer of this LR code, which says that its far end has this MIU
 abbrev pub new_peer : List ℕ → ℕ → ℕ → Device
 new_peer id lr miu = Peer (record { id = id; front = Off; upper = new_near id lr miu })
 
--- How a tag is read, and how many bytes one READ asks for, which says nothing of a Type 4 tag. Neither says anything of a peer, which
--- isn't read.
+-- How a tag is read, and how many bytes one READ asks for, which says nothing of a Type 4 tag. Neither says anything of a device that
+-- isn't read (`may_be_read`).
 abbrev pub how_of : Device → How
 how_of (T2 d) = hows.T2
 how_of (T4 d) = hows.T4
 how_of (Peer d) = hows.T2
 how_of (T5 p) = hows.T5 p.tag.id
+how_of (T3 p) = hows.T2
 
 abbrev pub size_of : Device → ℕ
 size_of (T2 d) = 16
 size_of (T4 d) = 0
 size_of (Peer d) = 0
 size_of (T5 p) = p.tag.size
+size_of (T3 p) = 0
 
--- what a reader sees that it is
+-- what it is, and what a reader sees that it is, where a search can find it (`may_be_found`)
+abbrev pub kind_of : Device → DeviceKind
+kind_of (T2 d) = T2Kind
+kind_of (T4 d) = T4Kind
+kind_of (Peer d) = PeerKind
+kind_of (T5 p) = T5Kind
+kind_of (T3 p) = T3Kind
+
 abbrev pub seen_of : Device → SeenKind
-seen_of (T2 d) = seen.T2
-seen_of (T4 d) = seen.T4
-seen_of (Peer d) = seen.Peer
-seen_of (T5 p) = seen.T5
+seen_of d = seen_by (kind_of d)
+
+-- whether a search can find it: none hears a Type 3 tag, which is of NFC-F
+abbrev pub may_be_found : Device → Bool
+may_be_found (T2 d) = true
+may_be_found (T4 d) = true
+may_be_found (Peer d) = true
+may_be_found (T5 p) = true
+may_be_found (T3 p) = false
 
 -- how many blocks it has that can be locked: a Type 4 tag has none, nor has a peer
 abbrev pub blocks_of : Device → ℕ
 blocks_of (T2 d) = t2.block_count d.upper.store
 blocks_of (T4 d) = 0
 blocks_of (Peer d) = 0
-blocks_of (T5 p) = block_count p.tag
+blocks_of (T5 p) = light_five.blocks p.tag
+blocks_of (T3 p) = light_three.blocks p.tag
 
 -- the device with one block more locked
 abbrev pub device_locked : ℕ → Device → Device
 device_locked block (T2 d) = T2 (record { id = d.id; front = d.front; upper = t2.locked_too d.upper block })
 device_locked block (T4 d) = T4 d
 device_locked block (Peer d) = Peer d
-device_locked block (T5 p) = T5 (record { tag = locked_too p.tag block; lit = p.lit })
+device_locked block (T5 p) = T5 (powered_locked light_five block p)
+device_locked block (T3 p) = T3 (powered_locked light_three block p)
 
 -- whether it can ask for more time: a Type 4 tag and a peer can
 abbrev pub may_be_busy : Device → Bool
@@ -312,6 +350,7 @@ may_be_busy (T2 d) = false
 may_be_busy (T4 d) = true
 may_be_busy (Peer d) = true
 may_be_busy (T5 p) = false
+may_be_busy (T3 p) = false
 
 -- the device that asks so often for more time before each answer, by this value
 abbrev pub device_busy : ℕ → ℕ → Device → Device
@@ -320,6 +359,7 @@ device_busy count times (T4 d) =
     T4 (record { id = d.id; front = d.front; upper = record { tag = d.upper.tag; card = ends.made_busy d.upper.card count times; linked = d.upper.linked } })
 device_busy count times (Peer d) = Peer (record { id = d.id; front = d.front; upper = near_busy count times d.upper })
 device_busy count times (T5 p) = T5 p
+device_busy count times (T3 p) = T3 p
 
 -- whether it is a tag
 abbrev pub is_tag : Device → Bool
@@ -327,13 +367,15 @@ is_tag (T2 d) = true
 is_tag (T4 d) = true
 is_tag (Peer d) = false
 is_tag (T5 p) = true
+is_tag (T3 p) = true
 
--- by what a device is seen to be: one thing of a tag, another of a peer
-abbrev pub IfTag : SeenKind → Type 0 → Type 0 → Type 0
-IfTag seen.T2 P Q = P
-IfTag seen.T4 P Q = P
-IfTag seen.Peer P Q = Q
-IfTag seen.T5 P Q = P
+-- whether a read and a write are of it: a peer holds no message, and a Type 3 tag has commands of its own
+abbrev pub may_be_read : Device → Bool
+may_be_read (T2 d) = true
+may_be_read (T4 d) = true
+may_be_read (Peer d) = false
+may_be_read (T5 p) = true
+may_be_read (T3 p) = false
 
 -- what a dump of it shows: all its memory, of a Type 4 tag the NDEF file alone, and nothing of a peer
 abbrev pub memory_in : Device → List ℕ
@@ -341,3 +383,4 @@ memory_in (T2 d) = d.upper.store
 memory_in (T4 d) = d.upper.tag.file
 memory_in (Peer d) = []
 memory_in (T5 p) = p.tag.store
+memory_in (T3 p) = p.tag.store

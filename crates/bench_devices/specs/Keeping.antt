@@ -13,6 +13,7 @@ use Rattle.air_core.specs.declared.listener.Listener.{Ghosts}
 use Rattle.nfca_poll.specs.Ident.{IsIdent}
 use Rattle.t2t_tag.specs.Store.{IsT2Store}
 use Rattle.t4t_tag.specs.Store.{IsT4Store}
+use Rattle.t3t_tag.specs.Store as t3
 use Rattle.t5t_tag.specs.Store.{IsT5Store, id_size}
 use Rattle.tag_reader.specs.declared.how.How.{How}
 use Rattle.tag_reader.specs.declared.how.How.TheVariants as hows
@@ -21,10 +22,9 @@ use Rattle.isodep_link.specs.Exchange.{IsMade}
 use Rattle.bench_devices.specs.declared.device.Device.{Device}
 use Rattle.bench_devices.specs.declared.device.Device.TheVariants as placed
 use Rattle.dep_link.specs.Target.{TargetState}
-use Rattle.bench_devices.specs.declared.polling.SeenKind.{SeenKind}
-use Rattle.bench_devices.specs.declared.polling.SeenKind.TheVariants as seen
+use Rattle.bench_devices.specs.Kinds.{DeviceKind, T2Kind, T3Kind, T4Kind, PeerKind, T5Kind}
 use Rattle.bench_devices.specs.Peers.{IsMadePeer}
-use Rattle.bench_devices.specs.Device.{BenchWorld, air, devices, most_devices, device_id, device_store, device_locks, device_made, device_target, device_ready, device_selected, device_commands, how_of, size_of, seen_of}
+use Rattle.bench_devices.specs.Device.{BenchWorld, air, devices, most_devices, device_id, device_store, device_locks, device_made, device_target, device_ready, device_selected, device_commands, how_of, size_of, kind_of}
 use Rattle.bench_devices.specs.Placed.{device_with, IfPlaced}
 
 -- the meanings of the bench's devices as listeners
@@ -42,7 +42,7 @@ ghosts = record {
 -- as it was made, and of a peer its end of NFC-DEP as it was made.
 pub record Fixed : Type 0 where
   pub id : List ℕ
-  pub kind : SeenKind
+  pub kind : DeviceKind
   pub how : How
   pub size : ℕ
   pub locked : List Bool
@@ -56,17 +56,19 @@ code_of (placed.T2 d) = 0
 code_of (placed.T4 d) = d.upper.tag.code
 code_of (placed.Peer d) = 0
 code_of (placed.T5 p) = 0
+code_of (placed.T3 p) = 0
 
 abbrev pub container_of : Device → List ℕ
 container_of (placed.T2 d) = []
 container_of (placed.T4 d) = d.upper.tag.container
 container_of (placed.Peer d) = []
 container_of (placed.T5 p) = []
+container_of (placed.T3 p) = []
 
 abbrev pub fixed : Device → Fixed
 fixed d = record {
   id = device_id d;
-  kind = seen_of d;
+  kind = kind_of d;
   how = how_of d;
   size = size_of d;
   locked = device_locks d;
@@ -84,14 +86,16 @@ pub record Kept : Type 0 where
 abbrev pub kept : Device → Kept
 kept d = record { fixed = fixed d; store = device_store d }
 
--- a device that may be placed: its store is one of its kind, and a peer has none
-abbrev pub IsSoundAs : SeenKind → Kept → Type 0
-IsSoundAs seen.T2 k = IsIdent k.fixed.id × (k.fixed.size ≡ 16) × IsT2Store k.store
-IsSoundAs seen.T4 k =
+-- A device as it may stand in the field: its store is one of its kind, and a peer has none. Of a Type 3 tag that is whole blocks: what an
+-- Update made of its attribute block may be none that a new tag has.
+abbrev pub IsSoundAs : DeviceKind → Kept → Type 0
+IsSoundAs T2Kind k = IsIdent k.fixed.id × (k.fixed.size ≡ 16) × IsT2Store k.store
+IsSoundAs T4Kind k =
     IsIdent k.fixed.id × (file : List ℕ) × (k.store ≡ k.fixed.container ++ file) × IsT4Store k.fixed.code k.fixed.container file
     × (k.fixed.made.code ≡ k.fixed.code) × IsMade k.fixed.made
-IsSoundAs seen.Peer k = IsIdent k.fixed.id × (k.store ≡ []) × IsMadePeer k.fixed.id k.fixed.target
-IsSoundAs seen.T5 k = (k.fixed.how ≡ hows.T5 k.fixed.id) × (length k.fixed.id ≡ id_size) × ((i : ℕ) → slice_index k.fixed.id i < 256) × IsT5Store k.fixed.size k.store
+IsSoundAs PeerKind k = IsIdent k.fixed.id × (k.store ≡ []) × IsMadePeer k.fixed.id k.fixed.target
+IsSoundAs T5Kind k = (k.fixed.how ≡ hows.T5 k.fixed.id) × (length k.fixed.id ≡ id_size) × ((i : ℕ) → slice_index k.fixed.id i < 256) × IsT5Store k.fixed.size k.store
+IsSoundAs T3Kind k = (length k.fixed.id ≡ t3.id_size) × ((i : ℕ) → slice_index k.fixed.id i < 256) × t3.IsBlocks k.store
 
 abbrev pub IsSound : Kept → Type 0
 IsSound k = IsSoundAs k.fixed.kind k

@@ -1,7 +1,9 @@
 pub mod Powered
+pub mod Lights
 pub mod Cards
 pub mod Peers
 pub mod PeerUpper
+pub mod Kinds
 pub mod Device
 pub mod LinkCalls
 pub mod Uppers

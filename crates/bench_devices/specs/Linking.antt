@@ -21,7 +21,7 @@ use Rattle.tag_writer.specs.Law.{Stopped}
 use Rattle.tag_reader.specs.declared.how.How.{How}
 use Rattle.tag_reader.specs.declared.how.How.TheVariants.{T2, T4, T5}
 use Rattle.bench_devices.specs.declared.device.Device.{Device}
-use Rattle.bench_devices.specs.Device.{device_id, how_of, is_tag, device_card, device_tag}
+use Rattle.bench_devices.specs.Device.{device_id, how_of, may_be_read, device_card, device_tag}
 use Rattle.bench_devices.specs.Answering.{TellsExchange, IsUnbrokenExchange}
 use Rattle.bench_devices.specs.Reading.{AsksOf, ShowsOf}
 use Rattle.bench_devices.specs.Writing.{AsksWriteOf, ShowsWrite, KeepsWriteLaw}
@@ -35,11 +35,11 @@ IsPlainHow T4 = ⊥
 IsPlainHow (T5 id) = Unit {0}
 
 abbrev pub IsPlain : Device → Type 0
-IsPlain d = IsPlainHow (how_of d) × (is_tag d ≡ true)
+IsPlain d = IsPlainHow (how_of d) × (may_be_read d ≡ true)
 
 -- Such a tag was selected, and stands at this place.
 abbrev pub StandsPlain : Moment (World Device) → ℕ → How → Type 0
-StandsPlain a place how = (d : Device) × Stands a place d × (how ≡ how_of d) × IsPlainHow how × (is_tag d ≡ true)
+StandsPlain a place how = (d : Device) × Stands a place d × (how ≡ how_of d) × IsPlainHow how × (may_be_read d ≡ true)
 
 -- a plain link as contracts see it
 abbrev pub seen_plain : {L : Type 0} → PlainLink L → PlainSeen L

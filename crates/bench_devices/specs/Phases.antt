@@ -25,7 +25,7 @@ use Rattle.bench_devices.specs.declared.device.Device.TheVariants as placed
 use Rattle.bench_devices.specs.declared.polling.SeenKind.{SeenKind}
 use Rattle.bench_devices.specs.declared.sweeping.Everybody.{Everybody}
 use Rattle.bench_devices.specs.Peers.{no_link}
-use Rattle.bench_devices.specs.Device.{air, device_id, device_selected, seen_of, is_unlinked}
+use Rattle.bench_devices.specs.Device.{air, device_id, device_selected, may_be_found, seen_of, is_unlinked}
 use Rattle.bench_devices.specs.CardAsking.{tag_next}
 use Rattle.bench_devices.specs.declared.polling.Selection.{Selection}
 use Rattle.bench_devices.specs.declared.polling.Selection.TheVariants.{Place, Missed}
@@ -42,6 +42,7 @@ IsTidy (placed.T2 d) = Unit {0}
 IsTidy (placed.T4 d) = (is_active d.front ≡ true) ⊎ (is_unlinked d.upper ≡ true)
 IsTidy (placed.Peer d) = (is_active d.front ≡ true) ⊎ (no_link d.upper ≡ true)
 IsTidy (placed.T5 p) = Unit {0}
+IsTidy (placed.T3 p) = Unit {0}
 
 abbrev pub AreTidy : List Device → Type 0
 AreTidy ds = AllByRecursion IsTidy ds
@@ -58,6 +59,7 @@ IsUnasked (placed.T2 d) = Unit {0}
 IsUnasked (placed.T4 d) = is_unlinked d.upper ≡ true
 IsUnasked (placed.Peer d) = no_link d.upper ≡ true
 IsUnasked (placed.T5 p) = Unit {0}
+IsUnasked (placed.T3 p) = Unit {0}
 
 -- In a lit field a device stands at a place. It is selected, and all others are aside of it.
 pub record Stands (a : Moment (World Device)) (place : ℕ) (d : Device) : Type 0 where
@@ -92,11 +94,12 @@ pub record Selects (id : DeviceId) (r : Result SeenKind PollFault) (old new : Mo
   pub cause : HasPollCause id old.world.listeners r asked.going.events
   pub lost : (r ≡ Err polling.FieldLost) ↔ (0 < breaks asked.going.events)
 
--- The device with this identifier is selected, and stands at this place.
+-- The device with this identifier is selected, and stands at this place. It is one that a search can find.
 pub record SelectsAt (id : DeviceId) (place : ℕ) (old new : Moment (World Device)) : Type 0 where
   pub device : Device
   pub selects : Selects id (Ok (seen_of device)) old new
   pub named : device_id device ≡ bytes_of id
+  pub found : may_be_found device ≡ true
   pub stands : Stands new place device
 
 -- what selecting a device came to

@@ -1,18 +1,16 @@
 //! The devices of the bench.
 
-ghost use Rattle.std.specs.Prelude.{◌≡◌, ◌<◌, ◌≤◌, true, false, if◌then◌else◌, None};
-ghost use Rattle.air_core.specs.Listening.{said_at};
+ghost use Rattle.std.specs.Prelude.{◌≡◌, ◌<◌, ◌≤◌, true, false};
 ghost use Rattle.t2t_tag.specs.Store as t2;
-ghost use Rattle.t5t_tag.specs.Store as t5;
-ghost use Rattle.t5t_tag.specs.Step.{t5_answer, t5_after};
 ghost use Rattle.isodep_link.specs.Card as ends;
 ghost use Rattle.isodep_link.specs.Card.{most_busy};
 ghost use Rattle.isodep_link.specs.Reader.{longest_extension};
 ghost use Rattle.nfca_poll.specs.Upper.{step_at};
 ghost use Rattle.bench_devices.specs.Cards.{card_now};
-ghost use Rattle.bench_devices.specs.Device.{said, on_link, how_of, blocks_of, device_locked, may_be_busy, device_busy, is_tag, memory_in};
+ghost use Rattle.bench_devices.specs.Device.{said, on_link, how_of, blocks_of, device_locked, may_be_busy, device_busy, is_tag, may_be_read, memory_in};
 
 use crate::peer::PeerUpper;
+use crate::powered::PoweredTag;
 use air_core::Listener;
 use dep_link::PeerListener;
 use isodep_link::{CardEnd, CardKind, CardListener, is_rats};
@@ -21,6 +19,7 @@ use nfca_poll::{Front, Ident, Kind, UpKind, UpStep, Upper};
 use std::alloc::{AllocError, Global};
 use std::marker::Model;
 use t2t_tag::T2Tag;
+use t3t_tag::T3Tag;
 use t4t_tag::T4Tag;
 use t5t_tag::T5Tag;
 use tag_reader::How;
@@ -237,69 +236,14 @@ impl Upper for T4Upper {
     ghost laws = { t4_upper };
 }
 
-/// A Type 5 tag in the field. It is off until the field is lit.
-#[derive(Debug, Drop)]
-pub struct PoweredTag {
-    tag: T5Tag,
-    lit: bool,
-}
-
-impl Model for PoweredTag {
-    ghost use Rattle.bench_devices.specs.Powered.{Powered};
-
-    ghost Value = { Powered };
-
-    ghost view = { λ p. record { tag = p.tag; lit = p.lit } };
-}
-
-impl PoweredTag {
-    /// A tag in the dark.
-    pub fn new(tag: T5Tag) -> PoweredTag
-        ensures { result ≡ record { tag = tag; lit = false } }
-    {
-        PoweredTag { tag, lit: false }
-    }
-
-    pub fn tag(&self) -> &T5Tag
-        ensures { result.now ≡ self.now.tag }
-    {
-        &self.tag
-    }
-
-    /// Locks a block of the tag.
-    pub fn lock(&mut self, block: u16)
-        requires { block < t5.block_count self.old.tag }
-        ensures { self.new ≡ record { tag = t5.locked_too self.old.tag block; lit = self.old.lit } }
-    {
-        self.tag.lock(block);
-    }
-
-    /// One step, whose answer is put into a place of the caller's: `true` where there is one.
-    fn hear_into(&mut self, frame: &Frame, answer: &mut Frame) -> bool
-        ensures answer { said_at result answer.new ≡ (if self.old.lit then t5_answer self.old.tag frame.now else None) }
-        ensures step { self.new
-            ≡ (if self.old.lit then record { tag = t5_after self.old.tag frame.now; lit = true } else self.old) }
-    {
-        if !self.lit {
-            return false;
-        }
-        match self.tag.obey(frame) {
-            Some(said) => {
-                *answer = said;
-                true
-            }
-            None => false,
-        }
-    }
-}
-
 /// A device in the field.
 #[derive(Debug, Drop)]
 pub enum Device {
     T2(Front<T2Upper>),
     T4(Front<T4Upper>),
     Peer(Front<PeerUpper>),
-    T5(PoweredTag),
+    T5(PoweredTag<T5Tag>),
+    T3(PoweredTag<T3Tag>),
 }
 
 impl Listener for Device {
@@ -322,6 +266,7 @@ impl Listener for Device {
         match self {
             Device::T2(_) | Device::T4(_) | Device::Peer(_) => Tech::A,
             Device::T5(_) => Tech::V,
+            Device::T3(_) => Tech::F,
         }
     }
 
@@ -330,7 +275,8 @@ impl Listener for Device {
             Device::T2(front) => front.light(),
             Device::T4(front) => front.light(),
             Device::Peer(front) => front.light(),
-            Device::T5(powered) => powered.lit = true,
+            Device::T5(powered) => powered.light(),
+            Device::T3(powered) => powered.light(),
         }
     }
 
@@ -342,10 +288,8 @@ impl Listener for Device {
                 front.dark();
                 front.upper().clear();
             }
-            Device::T5(powered) => {
-                powered.tag.dark();
-                powered.lit = false;
-            }
+            Device::T5(powered) => powered.dark(),
+            Device::T3(powered) => powered.dark(),
         }
     }
 
@@ -359,8 +303,8 @@ impl Listener for Device {
             Device::T2(front) => front.hear(alloc, frame, far),
             Device::T4(front) => front.hear(alloc, frame, far),
             Device::Peer(front) => front.hear(alloc, frame, far),
-            Device::T5(powered) if powered.lit => Ok(powered.tag.obey(frame)),
-            Device::T5(_) => Ok(None),
+            Device::T5(powered) => Ok(powered.hear(frame)),
+            Device::T3(powered) => Ok(powered.hear(frame)),
         }
     }
 
@@ -376,6 +320,7 @@ impl Listener for Device {
             Device::T4(front) => front.hear_into(alloc, frame, far, answer),
             Device::Peer(front) => front.hear_into(alloc, frame, far, answer),
             Device::T5(powered) => Ok(powered.hear_into(frame, answer)),
+            Device::T3(powered) => Ok(powered.hear_into(frame, answer)),
         }
     }
 
@@ -425,15 +370,22 @@ impl Device {
         !matches!(self, Device::Peer(_))
     }
 
+    /// A read and a write are of it.
+    pub fn may_be_read(&self) -> bool
+        ensures { result ≡ may_be_read self.now }
+    {
+        !matches!(self, Device::Peer(_) | Device::T3(_))
+    }
+
     /// How a tag of its kind is read.
     pub fn how(&self) -> How
-        requires { is_tag self.now ≡ true }
+        requires { may_be_read self.now ≡ true }
         ensures { result ≡ how_of self.now }
     {
         match self {
             Device::T2(_) => How::T2,
             Device::T4(_) => How::T4,
-            Device::Peer(_) => unreachable!(),
+            Device::Peer(_) | Device::T3(_) => unreachable!(),
             Device::T5(powered) => How::T5(powered.tag().id()),
         }
     }
@@ -447,6 +399,7 @@ impl Device {
             Device::T4(front) => front.as_upper().tag().file(),
             Device::Peer(_) => &[],
             Device::T5(powered) => powered.tag().store(),
+            Device::T3(powered) => powered.tag().store(),
         }
     }
 
@@ -458,6 +411,7 @@ impl Device {
             Device::T2(front) => front.as_upper().tag().blocks(),
             Device::T4(_) | Device::Peer(_) => 0,
             Device::T5(powered) => powered.tag().blocks(),
+            Device::T3(powered) => powered.tag().blocks(),
         }
     }
 
@@ -470,6 +424,7 @@ impl Device {
             Device::T2(front) => front.upper().lock(block),
             Device::T4(_) | Device::Peer(_) => unreachable!(),
             Device::T5(powered) => powered.lock(block),
+            Device::T3(powered) => powered.lock(block),
         }
     }
 
@@ -490,7 +445,7 @@ impl Device {
         match self {
             Device::T4(front) => front.upper().set_busy(count, times),
             Device::Peer(front) => front.upper().set_busy(count, times),
-            Device::T2(_) | Device::T5(_) => unreachable!(),
+            Device::T2(_) | Device::T5(_) | Device::T3(_) => unreachable!(),
         }
     }
 }

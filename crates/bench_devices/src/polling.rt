@@ -41,6 +41,7 @@ pub fn is_named(device: &Device, id: &[u8]) -> bool
         Device::T4(front) => front.id().view() == id,
         Device::Peer(front) => front.id().view() == id,
         Device::T5(powered) => powered.tag().id().as_slice() == id,
+        Device::T3(powered) => powered.tag().id().as_slice() == id,
     }
 }
 

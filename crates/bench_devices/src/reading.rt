@@ -4,7 +4,7 @@ ghost use Rattle.std.specs.Prelude.{◌≡◌, true};
 ghost use Rattle.air_core.specs.Turn.{moment};
 ghost use Rattle.tag_reader.specs.Steps.{of_link};
 ghost use Rattle.bench_devices.specs.declared.device.Device.{Device as Placed};
-ghost use Rattle.bench_devices.specs.Device.{how_of, is_tag};
+ghost use Rattle.bench_devices.specs.Device.{how_of, may_be_read};
 ghost use Rattle.bench_devices.specs.Phases.{Stands, ReadsAt, CutAt};
 ghost use Rattle.isodep_link.specs.IsoLinks.{seen_link};
 ghost use Rattle.bench_devices.specs.Linking.{seen_plain, StandsPlain, IsNew, IsNewLink, Linked, ReadsLinked, CutLinked};
@@ -18,7 +18,7 @@ use tag_reader::{Found, How, ReadFault};
 
 /// What the selected tag at a place holds, or why the reading of it ended.
 pub fn read(alloc: Global, field: &mut Field<Device>, place: usize) -> Result<Found, ReadFault>
-    requires { (d : Placed) × Stands (moment field.old) place d × (is_tag d ≡ true) }
+    requires { (d : Placed) × Stands (moment field.old) place d × (may_be_read d ≡ true) }
     ensures tells { ReadsAt (moment field.old) (moment field.new) place result }
     ensures cut { CutAt (moment field.old) (moment field.new) place result }
 {

@@ -3,7 +3,7 @@
 ghost use Rattle.std.specs.Prelude.{◌≡◌, true};
 ghost use Rattle.air_core.specs.Turn.{moment};
 ghost use Rattle.bench_devices.specs.declared.device.Device.{Device as Placed};
-ghost use Rattle.bench_devices.specs.Device.{how_of, is_tag};
+ghost use Rattle.bench_devices.specs.Device.{how_of, may_be_read};
 ghost use Rattle.bench_devices.specs.Phases.{Stands, WritesAt, CutAtWrite};
 ghost use Rattle.isodep_link.specs.IsoLinks.{seen_link};
 ghost use Rattle.bench_devices.specs.Linking.{seen_plain, StandsPlain, IsNew, IsNewLink, Linked, WritesLinked, CutLinkedWrite};
@@ -23,7 +23,7 @@ pub fn write(
     place: usize,
     message: &[u8],
 ) -> Result<(), WriteFault>
-    requires { (d : Placed) × Stands (moment field.old) place d × (is_tag d ≡ true) }
+    requires { (d : Placed) × Stands (moment field.old) place d × (may_be_read d ≡ true) }
     ensures tells { WritesAt (moment field.old) (moment field.new) place message.now result }
     ensures cut { CutAtWrite (moment field.old) (moment field.new) place message.now result }
 {

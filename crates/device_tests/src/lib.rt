@@ -1,4 +1,5 @@
-//! The tests of `bench_devices`, by its public calls: devices step by step, and links that are opened to a peer.
+//! The tests of `bench_devices`, by its public calls: devices step by step, Type 3 tags as they are found and over a link, and links that are opened to
+//! a peer.
 //!
 //! They stand here since a crate with tests is proved a second time with them; of this crate nothing else is to be proved.
 #![tactic(auto)]
@@ -8,6 +9,10 @@ mod opening_tests;
 #[cfg(test)]
 mod peer_tests;
 #[cfg(test)]
+mod polling_3_tests;
+#[cfg(test)]
 mod rows;
 #[cfg(test)]
 mod tag_tests;
+#[cfg(test)]
+mod type_3_tests;

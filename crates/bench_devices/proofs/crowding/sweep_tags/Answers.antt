@@ -1,4 +1,3 @@
-use Rattle.std.proofs.Common.{◌≡◌, Err}
 use Rattle.nfcv_poll.specs.Finding.{identifiers}
 use Rattle.bench_devices.proofs.CrowdFound.{crowd_cut, crowd_found}
 use Rattle.bench_devices.proofs.crowding.sweep_tags.Goals as goal
