@@ -18,15 +18,14 @@ use Rattle.bench_script.specs.declared.message.Msg.{Msg}
 use Rattle.bench_script.specs.DeviceIds.{bytes_of}
 use Rattle.bench_script.specs.Messages.{message_of}
 use Rattle.bench_devices.specs.declared.device.Device.{Device}
-use Rattle.bench_devices.specs.declared.device.Device.TheVariants.{T2, T4, Peer, T5}
-use Rattle.bench_devices.specs.declared.polling.SeenKind.{SeenKind}
-use Rattle.bench_devices.specs.declared.polling.SeenKind.TheVariants as seen
+use Rattle.bench_devices.specs.declared.device.Device.TheVariants.{T2, T4, Peer, T5, T3}
 use Rattle.bench_devices.specs.Answering.{IsNamed}
-use Rattle.bench_devices.specs.Device.{BenchWorld, air, device_id, device_store, device_tech, how_of, seen_of, size_of, is_tag}
+use Rattle.bench_devices.specs.Kinds.{DeviceKind, T2Kind, T3Kind, T4Kind, PeerKind, T5Kind}
+use Rattle.bench_devices.specs.Device.{BenchWorld, air, device_id, device_store, device_tech, how_of, size_of, kind_of, may_be_read}
 use Rattle.bench_devices.specs.Keeping.{Fixed, fixed, held_by}
 use Rattle.bench_devices.specs.Placed.{device_with}
 use Rattle.bench_devices.proofs.ImagesJoin.{held_kept}
-use Rattle.bench_devices.proofs.TagOrPeer.{of_tag, same_tag}
+use Rattle.bench_devices.proofs.TagOrPeer.{of_read, same_read}
 use Rattle.bench_world.specs.Behind.{breaking, BreaksThenReads, TellsHeld, TellsOneOfThree, FirstBrokenIsRead, BrokenIsRead}
 use Rattle.bench_world.specs.declared.entry.Entry.{Entry}
 use Rattle.bench_world.specs.Legal.{State, FrontOf, begun, due, state_after}
@@ -70,18 +69,20 @@ all_pass zero (Clash g x ∷ es) few f = absurd (omega (arith, few))
 all_pass (suc n) (Clash g x ∷ es) few f = (f.0, all_pass n es (omega (arith, few)) f.1)
 
 -- what stays of a device tells its name
-tech_by : SeenKind → Tech
-tech_by seen.T2 = techs.A
-tech_by seen.T4 = techs.A
-tech_by seen.Peer = techs.A
-tech_by seen.T5 = techs.V
+tech_by : DeviceKind → Tech
+tech_by T2Kind = techs.A
+tech_by T3Kind = techs.F
+tech_by T4Kind = techs.A
+tech_by PeerKind = techs.A
+tech_by T5Kind = techs.V
 
-tech_is : (d : Device) → device_tech d ≡ tech_by (seen_of d)
+tech_is : (d : Device) → device_tech d ≡ tech_by (kind_of d)
 unfolding tech_by
 tech_is (T2 d) = refl
 tech_is (T4 d) = refl
 tech_is (Peer d) = refl
 tech_is (T5 p) = refl
+tech_is (T3 p) = refl
 
 same_name : (id : DeviceId) (d e : Device) → fixed e ≡ fixed d → IsNamed id d → IsNamed id e
 same_name id d e same named = by_id id named
@@ -164,8 +165,8 @@ module _ (id : DeviceId) (tag : Device) (m : Msg) (read : Entry) (r : BreaksThen
       (λ s e. record { message = []; is = e.empty; three = inr (inl refl) }) (λ s n. record { message = message_of m; is = n.holds; three = inr (inr refl) })
       (images_behind tag start r.broken) ((behind.keeps done.is_one).takes done.shows.place done.shows.takes).three)
 
-  there_one : is_tag behind.device ≡ true
-  there_one = same_tag behind.device tag (ap (λ (k : Fixed). k.kind) behind.same) ∙ done.is_one
+  there_one : may_be_read behind.device ≡ true
+  there_one = same_read behind.device tag (ap (λ (k : Fixed). k.kind) behind.same) ∙ done.is_one
 
   tells : TellsOf behind.device read.answer
   tells =
@@ -178,7 +179,7 @@ module _ (id : DeviceId) (tag : Device) (m : Msg) (read : Entry) (r : BreaksThen
       let size : size_of behind.device ≡ size_of tag = ap (λ (k : Fixed). k.size) behind.same in
       subst (λ s. Tells (how_of tag) (size_of tag) s read.answer) behind.store
       (subst (λ n. Tells (how_of tag) n (device_store behind.device) read.answer) size
-      (subst (λ h. Tells h (size_of behind.device) (device_store behind.device) read.answer) how (of_tag behind.device there_one _ _ tells)))
+      (subst (λ h. Tells h (size_of behind.device) (device_store behind.device) read.answer) how (of_read behind.device there_one _ _ tells)))
 
   told : TellsOneOfThree tag (message_of m) read
   told =

@@ -128,19 +128,19 @@ goes_never w ns i steps.SixBad e = cc
 goes_never w ns i steps.Protocol e = cc
 
 got_never : (c : CallStanding) (h : Heard) → IsLostAt (call_noted c (Got h)) → ⊥
-got_never (Carries w ns (Waits i f)) h e = goes_never w ns (init_table i h).state (init_table i h).does e
-got_never (Carries w ns (Rests i reply)) h e = cc
-got_never (Carries w ns (Broken x)) h e = cc
-got_never (Carries w ns Astray) h e = cc
+got_never (Carries (w, ns) (Waits i f)) h e = goes_never w ns (init_table i h).state (init_table i h).does e
+got_never (Carries (w, ns) (Rests i reply)) h e = cc
+got_never (Carries (w, ns) (Broken x)) h e = cc
+got_never (Carries (w, ns) Astray) h e = cc
 got_never (Comes to i) h e = cc
 got_never (BrokenBy x) h e = cc
 got_never Strays h e = cc
 
 lit_never : (c : CallStanding) → IsLostAt (call_noted c Lit) → ⊥
-lit_never (Carries w ns (Waits i f)) e = cc
-lit_never (Carries w ns (Rests i reply)) e = cc
-lit_never (Carries w ns (Broken x)) e = cc
-lit_never (Carries w ns Astray) e = cc
+lit_never (Carries (w, ns) (Waits i f)) e = cc
+lit_never (Carries (w, ns) (Rests i reply)) e = cc
+lit_never (Carries (w, ns) (Broken x)) e = cc
+lit_never (Carries (w, ns) Astray) e = cc
 lit_never (Comes to i) e = cc
 lit_never (BrokenBy x) e = cc
 lit_never Strays e = cc
@@ -171,13 +171,13 @@ lost_breaks [] c d l = absurd l
 lost_breaks (n ∷ ns) (Comes to i) d l = absurd d.0
 lost_breaks (n ∷ ns) (BrokenBy x) d l = absurd d.0
 lost_breaks (n ∷ ns) Strays d l = absurd d.0
-lost_breaks (n ∷ ns) (Carries w ks (Rests i reply)) d l = absurd d.0
-lost_breaks (n ∷ ns) (Carries w ks (Broken x)) d l = absurd d.0
-lost_breaks (n ∷ ns) (Carries w ks Astray) d l = absurd d.0
-lost_breaks (Lit ∷ ns) (Carries w ks (Waits i f)) d l = lost_breaks ns (call_noted (Carries w ks (Waits i f)) Lit) d.1 l
-lost_breaks (Got h ∷ ns) (Carries w ks (Waits i f)) d l = lost_breaks ns (call_noted (Carries w ks (Waits i f)) (Got h)) d.1 l
-lost_breaks (Lost ∷ []) (Carries w ks (Waits i f)) d l = refl
-lost_breaks (Lost ∷ n ∷ ns) (Carries w ks (Waits i f)) d l = absurd d.1.0
+lost_breaks (n ∷ ns) (Carries (w, ks) (Rests i reply)) d l = absurd d.0
+lost_breaks (n ∷ ns) (Carries (w, ks) (Broken x)) d l = absurd d.0
+lost_breaks (n ∷ ns) (Carries (w, ks) Astray) d l = absurd d.0
+lost_breaks (Lit ∷ ns) (Carries (w, ks) (Waits i f)) d l = lost_breaks ns (call_noted (Carries (w, ks) (Waits i f)) Lit) d.1 l
+lost_breaks (Got h ∷ ns) (Carries (w, ks) (Waits i f)) d l = lost_breaks ns (call_noted (Carries (w, ks) (Waits i f)) (Got h)) d.1 l
+lost_breaks (Lost ∷ []) (Carries (w, ks) (Waits i f)) d l = refl
+lost_breaks (Lost ∷ n ∷ ns) (Carries (w, ks) (Waits i f)) d l = absurd d.1.0
 
 module _ {W : Type 0} (m : AirModel W) (numbers : List ℕ) (from : Step) (i : InitState) (a b : Moment W) (ns : List Note) (g : Going m (call_due numbers from i) a b ns) where
   pub call_lost : 0 < breaks g.events → call_stand numbers from i ns ≡ BrokenBy cause.FieldLost
@@ -196,7 +196,7 @@ closing_never : (c : CallStanding) → (IsLostAt c → ⊥) → IsClosedLost (cl
 closing_never (Comes (Ends jobs l) i) never e = cc
 closing_never (Comes (GivesUp l) i) never e = cc
 closing_never (Comes (Goes w) i) never e = cc
-closing_never (Carries w ns s) never e = cc
+closing_never (Carries (w, ns) s) never e = cc
 closing_never (BrokenBy x) never e = never (let same : Calls (BrokenBy x) ≡ Calls (BrokenBy cause.FieldLost) = e in cc)
 closing_never Strays never e = cc
 
@@ -235,12 +235,12 @@ lost_closes (Got h ∷ ns) c d l = lost_closes ns (closing_noted c (Got h)) d.1 
 lost_closes (Lost ∷ ns) (Calls (Comes to i)) d l = absurd d.0
 lost_closes (Lost ∷ ns) (Calls (BrokenBy x)) d l = absurd d.0
 lost_closes (Lost ∷ ns) (Calls Strays) d l = absurd d.0
-lost_closes (Lost ∷ ns) (Calls (Carries w ks (Rests i reply))) d l = absurd d.0
-lost_closes (Lost ∷ ns) (Calls (Carries w ks (Broken x))) d l = absurd d.0
-lost_closes (Lost ∷ ns) (Calls (Carries w ks Astray)) d l = absurd d.0
+lost_closes (Lost ∷ ns) (Calls (Carries (w, ks) (Rests i reply))) d l = absurd d.0
+lost_closes (Lost ∷ ns) (Calls (Carries (w, ks) (Broken x))) d l = absurd d.0
+lost_closes (Lost ∷ ns) (Calls (Carries (w, ks) Astray)) d l = absurd d.0
 lost_closes (Lost ∷ ns) (Released to) d l = absurd d.0
-lost_closes (Lost ∷ []) (Calls (Carries w ks (Waits i f))) d l = refl
-lost_closes (Lost ∷ n ∷ ns) (Calls (Carries w ks (Waits i f))) d l = absurd d.1.0
+lost_closes (Lost ∷ []) (Calls (Carries (w, ks) (Waits i f))) d l = refl
+lost_closes (Lost ∷ n ∷ ns) (Calls (Carries (w, ks) (Waits i f))) d l = absurd d.1.0
 lost_closes (Lost ∷ []) (Releasing to) d l = refl
 lost_closes (Lost ∷ n ∷ ns) (Releasing to) d l = absurd d.1.0
 
@@ -269,7 +269,7 @@ stand_plain (Broken x) w = record { asked = w; lit = λ e. cc }
 stand_plain Astray w = record { asked = w; lit = λ e. cc }
 
 abbrev IsWholeCall : CallStanding → Type 0
-IsWholeCall (Carries w ns s) = IsWholeAt s
+IsWholeCall (Carries (w, ns) s) = IsWholeAt s
 IsWholeCall (Comes to i) = Unit {0}
 IsWholeCall (BrokenBy x) = Unit {0}
 IsWholeCall Strays = Unit {0}
@@ -286,7 +286,7 @@ carried_whole w ns (Broken x) h = tt
 carried_whole w ns Astray h = tt
 
 call_whole : (c : CallStanding) (n : Note) → IsWholeCall c → IsWholeCall (call_noted c n)
-call_whole (Carries w ns s) n h = carried_whole w ns (noted s n) (noted_whole s n)
+call_whole (Carries (w, ns) s) n h = carried_whole w ns (noted s n) (noted_whole s n)
 call_whole (Comes to i) n h = tt
 call_whole (BrokenBy x) n h = tt
 call_whole Strays n h = tt
@@ -296,7 +296,7 @@ on_whole [] c h = h
 on_whole (n ∷ ns) c h = on_whole ns (call_noted c n) (call_whole c n h)
 
 call_plain : (c : CallStanding) → IsWholeCall c → IsPlainNext (call_due_at c)
-call_plain (Carries w ns s) h = stand_plain s h
+call_plain (Carries (w, ns) s) h = stand_plain s h
 call_plain (Comes to i) h = over_plain
 call_plain (BrokenBy x) h = over_plain
 call_plain Strays h = over_plain
@@ -313,7 +313,7 @@ closing_whole : (c : CallStanding) → IsWholeCall c → IsWholeClosing (closing
 closing_whole (Comes (Ends jobs l) i) h = tt
 closing_whole (Comes (GivesUp l) i) h = tt
 closing_whole (Comes (Goes w) i) h = tt
-closing_whole (Carries w ns s) h = h
+closing_whole (Carries (w, ns) s) h = h
 closing_whole (BrokenBy x) h = tt
 closing_whole Strays h = tt
 

@@ -14,12 +14,13 @@ use Rattle.bench_script.specs.declared.command.Command.{Command}
 use Rattle.bench_script.specs.declared.command.Command.TheVariants.{Link}
 use Rattle.bench_script.specs.declared.command.DeviceId.TheVariants.{A}
 use Rattle.bench_devices.specs.declared.device.Device.{Device}
-use Rattle.bench_devices.specs.declared.device.Device.TheVariants.{T2, T4, Peer, T5}
+use Rattle.bench_devices.specs.declared.device.Device.TheVariants.{T2, T4, Peer, T5, T3}
 use Rattle.bench_devices.specs.declared.polling.SeenKind.{SeenKind}
 use Rattle.bench_devices.specs.declared.polling.SeenKind.TheVariants as seen
 use Rattle.bench_devices.specs.Answering.{IsNamed, HasPollCause, TellsStanding}
 use Rattle.bench_devices.specs.Device.{seen_of, is_tag}
 use Rattle.bench_devices.specs.Keeping.{kept, IsSound}
+use Rattle.bench_devices.specs.Opening.{linking, then_opens}
 use Rattle.bench_devices.specs.Placed.{device_with}
 use Rattle.bench_devices.specs.Polling.{Told, selecting}
 use Rattle.bench_world.specs.declared.entry.Answer.{Answer}
@@ -42,36 +43,41 @@ use Rattle.bench_world.proofs.Quiet.{no_breaks, quiet_of, first_round}
 use Rattle.bench_world.proofs.Reached.{IsReady, ready_behind, first_ready}
 
 -- a placed NFC-A device has an identifier as such devices have one
-ident_of : (id : List ℕ) (d : Device) → IsSound (kept d) → IsNamed (A id) d → IsIdent id
+pub ident_of : (id : List ℕ) (d : Device) → IsSound (kept d) → IsNamed (A id) d → IsIdent id
 ident_of id (T2 d) sound named = subst IsIdent named.1 sound.0
 ident_of id (T4 d) sound named = subst IsIdent named.1 sound.0
 ident_of id (Peer d) sound named = subst IsIdent named.1 sound.0
 ident_of id (T5 p) sound named = absurd (let clash = named.0 in cc)
+ident_of id (T3 p) sound named = absurd (let clash = named.0 in cc)
 
 -- what is seen to be a peer is one, and else it's a tag
-tag_two : (d : Device) → seen_of d ≡ seen.T2 → is_tag d ≡ true
+pub tag_two : (d : Device) → seen_of d ≡ seen.T2 → is_tag d ≡ true
 tag_two (T2 d) e = refl
 tag_two (T4 d) e = refl
 tag_two (Peer d) e = absurd cc
 tag_two (T5 p) e = refl
+tag_two (T3 p) e = refl
 
-tag_four : (d : Device) → seen_of d ≡ seen.T4 → is_tag d ≡ true
+pub tag_four : (d : Device) → seen_of d ≡ seen.T4 → is_tag d ≡ true
 tag_four (T2 d) e = refl
 tag_four (T4 d) e = refl
 tag_four (Peer d) e = absurd cc
 tag_four (T5 p) e = refl
+tag_four (T3 p) e = refl
 
-tag_five : (d : Device) → seen_of d ≡ seen.T5 → is_tag d ≡ true
+pub tag_five : (d : Device) → seen_of d ≡ seen.T5 → is_tag d ≡ true
 tag_five (T2 d) e = refl
 tag_five (T4 d) e = refl
 tag_five (Peer d) e = absurd cc
 tag_five (T5 p) e = refl
+tag_five (T3 p) e = refl
 
-no_tag : (d : Device) → seen_of d ≡ seen.Peer → is_tag d ≡ false
+pub no_tag : (d : Device) → seen_of d ≡ seen.Peer → is_tag d ≡ false
 no_tag (T2 d) e = absurd cc
 no_tag (T4 d) e = absurd cc
 no_tag (Peer d) e = refl
 no_tag (T5 p) e = absurd cc
+no_tag (T3 p) e = absurd cc
 
 answer_by : (n : ℕ) (d : Device) (v : Bool) → is_tag d ≡ v → (if v then answers.WrongKind else answers.Linked n) ≡ link_answer n d
 answer_by n d v e = ap (λ x. if x then answers.WrongKind else answers.Linked n) (sym e)
@@ -148,7 +154,7 @@ module _ (s t : State) (g : Given) (e : Entry) (id : List ℕ) (miu window : ℕ
   kind_is k behind told =
       let a : Moment WholeWorld = record { world = begun s g.joins (Link id miu window); queue = s.queue; trace = [] } in
       let ident : IsIdent id = ident_of id d (with_sound s.world.field.listeners id d ready.tame.sound o.placed) o.named in
-      kind_told id (own_general miu) a ident ready.tame ready.tidy refl e.events (subst (λ c. AreTurns bench_air (begun s g.joins c) e.events) o.command step.front.turns)
+      kind_told id (linking (A id) (own_general miu)) (then_opens (own_general miu)) (λ hs. refl) (λ n. refl) (λ x ns. refl) a ident ready.tame ready.tidy refl e.events (subst (λ c. AreTurns bench_air (begun s g.joins c) e.events) o.command step.front.turns)
       (subst (λ c. FatesFrom (changed s c).queue e.events) o.command step.front.fates) (subst (λ c. EachDue (due s g c) [] e.events) o.command step.front.each) d o.placed k behind told
 
   opens_complete : IsUndisturbedOpening id miu e.events → e.answer ≡ link_answer (length s.peers.links + 1) d

@@ -65,7 +65,7 @@ step_ended (Ends (x ∷ []) l) answer e = job_ended x.job answer e
 step_ended (Ends (x ∷ y ∷ xs) l) answer e = absurd (none_told answer e)
 
 pub call_ended : (c : CallStanding) (es : List Event) (answer : Answer) → IsTold (told_call c) es answer → breaks es ≡ 0 → (c ≡ BrokenBy SixBad → ⊥) → IsEnded answer
-call_ended (Carries w ns s) es answer t lit none = absurd (none_told answer t.tells)
+call_ended (Carries (w, ns) s) es answer t lit none = absurd (none_told answer t.tells)
 call_ended (Comes to i) es answer t lit none = step_ended to answer t.tells
 call_ended (BrokenBy FieldLost) es answer t lit none = absurd (no_lost (breaks es) lit (t.lost.0 (told_once (answers.LinkEnded losses.FieldLost) answer t.tells)))
 call_ended (BrokenBy SixBad) es answer t lit none = absurd (none refl)
@@ -75,7 +75,7 @@ call_ended Strays es answer t lit none = absurd (none_told answer t.tells)
 
 -- and a closing tells that the link is closed
 closing_ended : (c : ClosingStanding) (es : List Event) (answer : Answer) → IsTold (told_closing c) es answer → breaks es ≡ 0 → (c ≡ Calls (BrokenBy SixBad) → ⊥) → answer ≡ answers.Unlinked
-closing_ended (Calls (Carries w ns s)) es answer t lit none = absurd (none_told answer t.tells)
+closing_ended (Calls (Carries (w, ns) s)) es answer t lit none = absurd (none_told answer t.tells)
 closing_ended (Calls (Comes to i)) es answer t lit none = absurd (none_told answer t.tells)
 closing_ended (Calls (BrokenBy FieldLost)) es answer t lit none = absurd (no_lost (breaks es) lit (t.lost.0 (told_once (answers.LinkEnded losses.FieldLost) answer t.tells)))
 closing_ended (Calls (BrokenBy SixBad)) es answer t lit none = absurd (none refl)

@@ -1,12 +1,12 @@
 -- The law of links behind a command that want of memory cut off.
-use Rattle.std.proofs.Common.{◌≡◌, ◌⊎◌, List, [], ◌∷◌, map, length, Option, Some, None, inl, inr, refl, sym, ◌∙◌, ap, subst}
+use Rattle.std.proofs.Common.{◌≡◌, ◌⊎◌, List, [], ◌∷◌, map, length, Bool, true, false, Option, Some, None, inl, inr, refl, sym, ◌∙◌, ap, subst}
 use Rattle.std.specs.List.{AllByRecursion}
 use Rattle.std.proofs.lemmas.List.{append-nil, length-map}
 use Rattle.nfc_base.specs.declared.event.Event.{Event}
 use Rattle.nfc_base.specs.declared.event.Fate.{Fate}
 use Rattle.air_core.specs.Conversation.{queue_after}
 use Rattle.bench_script.specs.declared.command.Command.{Command}
-use Rattle.bench_script.specs.declared.command.Command.TheVariants.{Find, Crowd, Read, Write, Link, Put, Get, Lookup, Unlink}
+use Rattle.bench_script.specs.declared.command.Command.TheVariants.{Find, Crowd, Read, Write, Link, Forge, Put, Get, Lookup, Unlink}
 use Rattle.bench_devices.specs.declared.device.Device.{Device}
 use Rattle.bench_devices.specs.Keeping.{Kept, AllStayDevices, IsSound, StaysDevice, kept}
 use Rattle.bench_world.specs.declared.entry.Answer.TheVariants as answers
@@ -14,8 +14,9 @@ use Rattle.bench_world.specs.declared.entry.Loss.TheVariants as losses
 use Rattle.bench_world.specs.World.{FarEnd, WholeWorld, Stable}
 use Rattle.bench_world.specs.ByPayloads.{IsFrontOfPayloads}
 use Rattle.bench_world.specs.Asked.{IsOnLink}
-use Rattle.bench_world.specs.Legal.{State, Given, Joins, CutFront, CutShort, CutStores, EachLegal, FrontOf, HaltLeaves, PeerHalts, begun, end_of, first_state, state_after, world_after}
+use Rattle.bench_world.specs.Legal.{State, Given, Joins, CutFront, CutShort, CutStores, EachLegal, ForgeCutLeaves, ForgeHalts, FrontOf, HaltLeaves, Halts, PeerHalts, begun, end_of, first_state, state_after, world_after}
 use Rattle.bench_world.specs.LinkLaw.{CutArrivalLaw, CutLinkLaw, KeepsLinkLaw, cut_stretch}
+use Rattle.bench_world.specs.Forging.{opens_link}
 use Rattle.bench_world.specs.Links.{OpenLink, ended}
 use Rattle.bench_world.specs.Peers.{Peers}
 use Rattle.bench_world.specs.Stories as told
@@ -24,9 +25,9 @@ use Rattle.bench_world.proofs.CutArrivals.{cut_arrived}
 use Rattle.bench_world.proofs.PayloadsKept.{kept_along}
 use Rattle.bench_world.proofs.AtNumbers.{AreHeld, held, held_none_more, more_held, same_held, with_held}
 use Rattle.bench_world.proofs.HeldOn.{nothing_sent}
-use Rattle.bench_world.proofs.LinkLaw.{all_keep, along, called, called_so, first_stand, places_behind, put_so, quietly, reset, step}
+use Rattle.bench_world.proofs.LinkLaw.{all_keep, along, called, called_so, as_many_sent, first_stand, forge_sent, forge_unsent, forged_stands, places_behind, put_so, quietly, reset, step}
 use Rattle.bench_world.proofs.PeersNumbered.{HavePlaces, places_stay}
-use Rattle.bench_world.proofs.SameStories.{KeepsNumbers, ended_in, same_behind, same_from}
+use Rattle.bench_world.proofs.SameStories.{KeepsNumbers, begun_within, ended_in, same_behind, same_from}
 use Rattle.bench_world.proofs.StoriesHere.{Stand, view_of}
 use Rattle.bench_world.proofs.StoriesStep.{as_many_with, base_held, no_link}
 use Rattle.bench_world.proofs.Talks.{ends_stay, of_any, off}
@@ -70,6 +71,11 @@ module _ (w : WholeWorld) (q : List Fate) (p : Peers) (ys : List Story) (g : Giv
   front_by o (Link id miu window) es t stand front stores =
       let c : Command = Link id miu window in
       after_front o c es t front (reset w q p ys o stand g None c es refl refl refl refl refl (same_held (world_after (from o) g.joins c es) w (ap (λ (z : Stable). z.ends) stores)))
+  front_by o (Forge id payloads) es t stand front stores = after_front o (Forge id payloads) es t front (by (opens_link id payloads es) refl stores)
+    where
+      by : (v : Bool) → opens_link id payloads es ≡ v → ForgeCutLeaves v (from o) g.joins id payloads es → so o (Forge id payloads) es (state_after (from o) g.joins (Forge id payloads) es None)
+      by true opened sends = forge_sent w q p ys o stand g None id payloads es opened sends.peer sends.placed sends.more sends.ends
+      by false unopened stays = forge_unsent w q p ys o stand g None id payloads es unopened stays
   front_by None (Put m) es t stand front stores =
       quietly w q p ys None stand g None (Put m) es t front (nothing_sent (begun (from None) g.joins (Put m)) es front.turns front.each)
       (no_link (from None) (state_after (from None) g.joins (Put m) [] None) (cut_stretch (Put m) g.joins es) ys refl refl refl stand.places stand.stand)
@@ -172,16 +178,35 @@ module _ (s t : State) (joins : Joins) (c : Command) (cut : List Event) (ys : Li
       let back : Stand t (stories_behind s (cut_stretch c h.given.joins cut) t ys) = subst (λ o. Stand t (stories_behind (S o) (cut_stretch c h.given.joins cut) t ys)) (sym h.open_) steps in
       subst (λ j. Stand t (stories_behind s (cut_stretch c j cut) t ys)) h.joined back
 
-  pub cut_stands : CutShort joins s c cut t ⊎ PeerHalts joins s c cut t → CutStand
-  cut_stands (inl f) = cut_front (short_front joins s c cut t f)
-  cut_stands (inr h) = cut_halts h
+  -- or that of a link of payloads that were written by hand
+  forge_halts : ForgeHalts joins s c cut t → CutStand
+  forge_halts h =
+      let stays : AllStayDevices s.world.field.listeners t.world.field.listeners = kept_all_stay s.world.field.listeners t.world.field.listeners h.leaves.talk.2.same in
+      let many : length t.world.fars ≡ length s.world.fars =
+      as_many_sent s.world s.queue s.peers ys s.link stand joins None h.id h.payloads cut h.peer h.leaves.more t.world h.leaves.ends in
+      subst (λ x. Stand t (stories_behind s (cut_stretch x joins cut) t ys)) (sym h.command)
+      (forged_stands s.world s.queue s.peers ys s.link stand joins None h.id h.payloads cut t h.peer h.placed h.leaves.more h.leaves.ends h.leaves.peers h.leaves.link
+      (places_stay s.world.field.listeners t.world.field.listeners s.peers.numbers s.peers.numbers s.world.fars t.world.fars stays many refl stand.places) h.opened)
 
-  pub cut_numbers : CutShort joins s c cut t ⊎ PeerHalts joins s c cut t → KeepsNumbers s c t
-  cut_numbers (inl short) l open_ none =
+  pub cut_stands : CutShort joins s c cut t ⊎ Halts joins s c cut t → CutStand
+  cut_stands (inl f) = cut_front (short_front joins s c cut t f)
+  cut_stands (inr (inl h)) = cut_halts h
+  cut_stands (inr (inr h)) = forge_halts h
+
+  pub cut_numbers : CutShort joins s c cut t ⊎ Halts joins s c cut t → KeepsNumbers s (cut_stretch c joins cut) t
+  cut_numbers (inl short) =
       let f = short_front joins s c cut t short in
-      ap (λ (z : State). z.peers.numbers) f.2.after ∙ ended_in s f.0.joins c cut None l open_ (sym (ap (λ (z : State). z.link) f.2.after) ∙ none)
-  cut_numbers (inr h) l open_ none =
-      ap (λ (x : Peers). x.numbers) h.leaves.peers ∙ same_numbers (Some h.on) s.peers t.world.fars
+      let after : t.peers.numbers ≡ (state_after s f.0.joins c cut None).peers.numbers = ap (λ (z : State). z.peers.numbers) f.2.after in
+      record {
+        over = λ l open_ none. after ∙ ended_in s f.0.joins c cut None l open_ (sym (ap (λ (z : State). z.link) f.2.after) ∙ none);
+        within = λ opener id general begins. after ∙ begun_within s f.0.joins c cut None opener id general begins;
+      }
+  cut_numbers (inr (inl h)) =
+      let same : t.peers.numbers ≡ s.peers.numbers = ap (λ (x : Peers). x.numbers) h.leaves.peers ∙ same_numbers (Some h.on) s.peers t.world.fars in
+      record { over = λ l open_ none. same; within = λ opener id general begins. same }
+  cut_numbers (inr (inr h)) =
+      let same : t.peers.numbers ≡ s.peers.numbers = ap (λ (x : Peers). x.numbers) h.leaves.peers ∙ same_numbers s.link s.peers s.world.fars in
+      record { over = λ l open_ none. same; within = λ opener id general begins. same }
 
 pub cut_link_law : CutLinkLaw
 cut_link_law lines numbers journal last leads joins c cut t off =

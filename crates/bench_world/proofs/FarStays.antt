@@ -12,7 +12,7 @@ use Rattle.far_air.specs.FarEnds.{first_far, later_fars, numbers_left}
 use Rattle.far_air.specs.FarWorld.{all_meet, reply_at}
 use Rattle.peer_air.specs.PeerFars.{peer_ends}
 use Rattle.bench_devices.specs.declared.device.Device.{Device}
-use Rattle.bench_devices.specs.declared.device.Device.TheVariants.{T2, T4, Peer, T5}
+use Rattle.bench_devices.specs.declared.device.Device.TheVariants.{T2, T4, Peer, T5, T3}
 use Rattle.bench_devices.specs.Device.{devices, device_linked}
 use Rattle.bench_devices.specs.Keeping.{Kept, kept, IsSound, StaysDevice, AllStayDevices}
 use Rattle.bench_devices.specs.Phases.{AreTidy}
@@ -30,6 +30,7 @@ stays_any f reply (T2 d) = stays_step f (T2 d)
 stays_any f reply (T4 d) = stays_step f (T4 d)
 stays_any f reply (Peer d) = kept_stays (Peer d) (stepped_by devices (Peer d) f reply) (peer_kept d f reply)
 stays_any f reply (T5 p) = stays_step f (T5 p)
+stays_any f reply (T3 p) = stays_step f (T3 p)
 
 -- what stays so and is as tidy
 pub record StayAll (ds es : List Device) : Type 0 where

@@ -21,15 +21,14 @@ use Rattle.peer_air.specs.PeerFars.{peer_ends}
 use Rattle.peer_air.proofs.PeerEnds.{are_far_ends}
 use Rattle.snep_core.specs.Server.{serving}
 use Rattle.bench_script.specs.declared.command.Command.{Command}
-use Rattle.bench_script.specs.declared.command.Command.TheVariants.{Find, Crowd, Read, Write, Link, Put, Get, Lookup, Unlink}
+use Rattle.bench_script.specs.declared.command.Command.TheVariants.{Find, Crowd, Read, Write, Link, Forge, Put, Get, Lookup, Unlink}
 use Rattle.bench_script.specs.declared.command.DeviceId.{DeviceId}
 use Rattle.bench_script.specs.declared.command.DeviceId.TheVariants.{A, V}
 use Rattle.bench_script.specs.DeviceIds.{bytes_of}
 use Rattle.bench_script.specs.Messages.{message_of}
 use Rattle.bench_devices.specs.declared.device.Device.{Device}
-use Rattle.bench_devices.specs.declared.polling.SeenKind.{SeenKind}
-use Rattle.bench_devices.specs.declared.polling.SeenKind.TheVariants as seen
-use Rattle.bench_devices.specs.Device.{BenchWorld, air, devices, device_linked, stable_of, StablePart, seen_of, IfTag}
+use Rattle.bench_devices.specs.Kinds.{DeviceKind, T2Kind, T3Kind, T4Kind, PeerKind, T5Kind, IfRead}
+use Rattle.bench_devices.specs.Device.{BenchWorld, air, devices, device_linked, stable_of, StablePart, kind_of}
 use Rattle.bench_devices.specs.Calm.{IsCalmDue}
 use Rattle.bench_devices.specs.Placed.{device_with, IfPlaced}
 use Rattle.bench_devices.specs.Reading.{AsksOf}
@@ -59,23 +58,25 @@ ends_table = are_far_ends serving (λ s. refl)
 -- At what is due in a command no device hands anything over that has no link.
 reads_calm : (o : Option Device) (asked : List Signal) (id : DeviceId) → IfPlaced (λ d. ReadAsks d asked) (asked ≡ []) o → IsCalmDue (tag_due id asked)
 reads_calm None asked id none = subst (λ a. IsCalmDue (tag_due id a)) (sym none) (calm_unasked.1 id)
-reads_calm (Some d) asked id is = by_kind (seen_of d) is
+reads_calm (Some d) asked id is = by_kind (kind_of d) is
   where
-    by_kind : (k : SeenKind) → IfTag k (AsksOf d asked) (asked ≡ []) → IsCalmDue (tag_due id asked)
-    by_kind seen.T2 a = (calm_reading d asked a).1 id
-    by_kind seen.T4 a = (calm_reading d asked a).1 id
-    by_kind seen.T5 a = (calm_reading d asked a).1 id
-    by_kind seen.Peer none = subst (λ a. IsCalmDue (tag_due id a)) (sym none) (calm_unasked.1 id)
+    by_kind : (k : DeviceKind) → IfRead k (AsksOf d asked) (asked ≡ []) → IsCalmDue (tag_due id asked)
+    by_kind T2Kind a = (calm_reading d asked a).1 id
+    by_kind T4Kind a = (calm_reading d asked a).1 id
+    by_kind T5Kind a = (calm_reading d asked a).1 id
+    by_kind T3Kind none = subst (λ a. IsCalmDue (tag_due id a)) (sym none) (calm_unasked.1 id)
+    by_kind PeerKind none = subst (λ a. IsCalmDue (tag_due id a)) (sym none) (calm_unasked.1 id)
 
 writes_calm : (m : List ℕ) (o : Option Device) (asked : List Signal) (id : DeviceId) → IfPlaced (λ d. WriteAsks m d asked) (asked ≡ []) o → IsCalmDue (tag_due id asked)
 writes_calm m None asked id none = subst (λ a. IsCalmDue (tag_due id a)) (sym none) (calm_unasked.1 id)
-writes_calm m (Some d) asked id is = by_kind (seen_of d) is
+writes_calm m (Some d) asked id is = by_kind (kind_of d) is
   where
-    by_kind : (k : SeenKind) → IfTag k (AsksWriteOf m d asked) (asked ≡ []) → IsCalmDue (tag_due id asked)
-    by_kind seen.T2 a = (calm_writing m d asked a).1 id
-    by_kind seen.T4 a = (calm_writing m d asked a).1 id
-    by_kind seen.T5 a = (calm_writing m d asked a).1 id
-    by_kind seen.Peer none = subst (λ a. IsCalmDue (tag_due id a)) (sym none) (calm_unasked.1 id)
+    by_kind : (k : DeviceKind) → IfRead k (AsksWriteOf m d asked) (asked ≡ []) → IsCalmDue (tag_due id asked)
+    by_kind T2Kind a = (calm_writing m d asked a).1 id
+    by_kind T4Kind a = (calm_writing m d asked a).1 id
+    by_kind T5Kind a = (calm_writing m d asked a).1 id
+    by_kind T3Kind none = subst (λ a. IsCalmDue (tag_due id a)) (sym none) (calm_unasked.1 id)
+    by_kind PeerKind none = subst (λ a. IsCalmDue (tag_due id a)) (sym none) (calm_unasked.1 id)
 
 nothing_due : (es before : List Event) → EachDue (λ ns. Over) before es → AreCalm devices device_linked es
 nothing_due [] before each = tt
@@ -90,6 +91,7 @@ calm_due s g Crowd es quiet asked each = calm_crowding es each
 calm_due s g (Read id) es quiet asked each = reads_calm (device_with (bytes_of id) s.world.field.listeners) g.asked id asked es each
 calm_due s g (Write id m) es quiet asked each = writes_calm (message_of m) (device_with (bytes_of id) s.world.field.listeners) g.asked id asked es each
 calm_due s g (Link id miu window) es quiet asked each = absurd (quiet tt)
+calm_due s g (Forge id payloads) es quiet asked each = absurd (quiet tt)
 calm_due s g (Put m) es quiet asked each = absurd (quiet tt)
 calm_due s g (Get most key) es quiet asked each = absurd (quiet tt)
 calm_due s g (Lookup name) es quiet asked each = absurd (quiet tt)
@@ -105,6 +107,7 @@ begins_lit s g (Read (V id)) quiet = inr refl
 begins_lit s g (Write (A id) message) quiet = inr refl
 begins_lit s g (Write (V id) message) quiet = inr refl
 begins_lit s g (Link id miu window) quiet = absurd (quiet tt)
+begins_lit s g (Forge id payloads) quiet = absurd (quiet tt)
 begins_lit s g (Put m) quiet = absurd (quiet tt)
 begins_lit s g (Get most key) quiet = absurd (quiet tt)
 begins_lit s g (Lookup name) quiet = absurd (quiet tt)
@@ -154,6 +157,7 @@ field_after s t g c es quiet front = (does_quietly s t g c es quiet front (begun
 -- So it leaves the links as the command itself does.
 same_peers : (s : State) (joins : Joins) (c : Command) (es : List Event) (told : Option Told) → (UsesFars c → ⊥) → peers_after s joins c es told ≡ (changed s c).peers
 same_peers s joins (Link id miu window) es told quiet = absurd (quiet tt)
+same_peers s joins (Forge id payloads) es told quiet = absurd (quiet tt)
 same_peers s joins (Put m) es told quiet = absurd (quiet tt)
 same_peers s joins (Get most key) es told quiet = absurd (quiet tt)
 same_peers s joins (Lookup name) es told quiet = absurd (quiet tt)
@@ -162,6 +166,7 @@ same_peers s joins c es told quiet = refl
 
 same_link : (s : State) (joins : Joins) (c : Command) (es : List Event) (told : Option Told) → (UsesFars c → ⊥) → link_after s joins c es told ≡ (changed s c).link
 same_link s joins (Link id miu window) es told quiet = absurd (quiet tt)
+same_link s joins (Forge id payloads) es told quiet = absurd (quiet tt)
 same_link s joins (Put m) es told quiet = absurd (quiet tt)
 same_link s joins (Get most key) es told quiet = absurd (quiet tt)
 same_link s joins (Lookup name) es told quiet = absurd (quiet tt)

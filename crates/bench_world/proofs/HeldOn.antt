@@ -1,4 +1,7 @@
 -- What the tag with an identifier holds stays through a command that doesn't touch it.
+use Rattle.bench_world.specs.Legal.{ForgeLaw}
+use Rattle.bench_world.specs.Forging.{opens_link}
+use Rattle.bench_world.proofs.ForgeLeft.{forge_devices}
 use Rattle.std.proofs.Common.{◌≡◌, ℕ, List, [], ◌∷◌, ◌++◌, map, Bool, true, false, nat_eq, if◌then◌else◌, Option, Some, None, refl, sym, ◌∙◌, ap, subst}
 use Rattle.std.specs.Cmp.Lexicographic.{pointwise}
 use Rattle.nfc_base.specs.declared.event.Event.{Event}
@@ -9,12 +12,12 @@ use Rattle.air_core.specs.Conversation.{Note, Over, LightUp, Asks, AreTurns, Eac
 use Rattle.air_core.proofs.Following.{trace_first}
 use Rattle.t5t_tag.proofs.Bytes.{equal_bytes}
 use Rattle.bench_script.specs.declared.command.Command.{Command}
-use Rattle.bench_script.specs.declared.command.Command.TheVariants.{Skip, Fates, PlaceT2, PlaceT4, PlaceT5, PlacePeer, Lock, Busy, Offer, Remove, Dump, Inbox, Find, Crowd, Read, Write, Link, Put, Get, Lookup, Unlink}
+use Rattle.bench_script.specs.declared.command.Command.TheVariants.{Skip, Fates, PlaceT2, PlaceT4, PlaceT5, PlacePeer, Lock, Busy, Offer, Remove, Dump, Inbox, Find, Crowd, Read, Write, Link, Forge, Put, Get, Lookup, Unlink}
 use Rattle.bench_script.specs.declared.command.DeviceId.{DeviceId}
 use Rattle.bench_script.specs.DeviceIds.{bytes_of}
 use Rattle.bench_devices.specs.declared.device.Device.{Device}
-use Rattle.bench_devices.specs.declared.device.Device.TheVariants.{T2, T4, Peer, T5}
-use Rattle.bench_devices.specs.Device.{BenchWorld, StablePart, stable_of, device_id, device_store, device_locked, device_busy, how_of, size_of, seen_of}
+use Rattle.bench_devices.specs.declared.device.Device.TheVariants.{T2, T4, Peer, T5, T3}
+use Rattle.bench_devices.specs.Device.{BenchWorld, StablePart, stable_of, device_id, device_store, device_locked, device_busy, how_of, size_of, kind_of}
 use Rattle.bench_devices.specs.Keeping.{Fixed, fixed, Kept, kept, AllStayDevices, AllKeepBut}
 use Rattle.bench_devices.specs.Placed.{device_with, without, with_changed}
 use Rattle.bench_world.specs.declared.entry.Entry.{Entry}
@@ -32,7 +35,7 @@ use Rattle.bench_world.proofs.Talks.{on_link, still_on}
 
 -- Two devices read alike: they are read in the same way, and hold the same.
 pub record ReadAlike (d e : Device) : Type 0 where
-  pub kind : seen_of e ≡ seen_of d
+  pub kind : kind_of e ≡ kind_of d
   pub how : how_of e ≡ how_of d
   pub size : size_of e ≡ size_of d
   pub store : device_store e ≡ device_store d
@@ -168,24 +171,28 @@ locked_alike block (T2 d) = record { kind = refl; how = refl; size = refl; store
 locked_alike block (T4 d) = record { kind = refl; how = refl; size = refl; store = refl }
 locked_alike block (Peer d) = record { kind = refl; how = refl; size = refl; store = refl }
 locked_alike block (T5 p) = record { kind = refl; how = refl; size = refl; store = refl }
+locked_alike block (T3 p) = record { kind = refl; how = refl; size = refl; store = refl }
 
 locked_own : (block : ℕ) (d : Device) → device_id (device_locked block d) ≡ device_id d
 locked_own block (T2 d) = refl
 locked_own block (T4 d) = refl
 locked_own block (Peer d) = refl
 locked_own block (T5 p) = refl
+locked_own block (T3 p) = refl
 
 busy_alike : (count times : ℕ) (d : Device) → ReadAlike d (device_busy count times d)
 busy_alike count times (T2 d) = record { kind = refl; how = refl; size = refl; store = refl }
 busy_alike count times (T4 d) = record { kind = refl; how = refl; size = refl; store = refl }
 busy_alike count times (Peer d) = record { kind = refl; how = refl; size = refl; store = refl }
 busy_alike count times (T5 p) = record { kind = refl; how = refl; size = refl; store = refl }
+busy_alike count times (T3 p) = record { kind = refl; how = refl; size = refl; store = refl }
 
 busy_own : (count times : ℕ) (d : Device) → device_id (device_busy count times d) ≡ device_id d
 busy_own count times (T2 d) = refl
 busy_own count times (T4 d) = refl
 busy_own count times (Peer d) = refl
 busy_own count times (T5 p) = refl
+busy_own count times (T3 p) = refl
 
 -- So it is through a legal step.
 module _ (id : DeviceId) (s t : State) (g : Given) (e : Entry) (d : Device) (step : LegalStep s g e t) (found : device_with (bytes_of id) s.world.field.listeners ≡ Some d) where
@@ -260,6 +267,9 @@ module _ (id : DeviceId) (s t : State) (g : Given) (e : Entry) (d : Device) (ste
       subst (λ (x : State). IsAlike (bytes_of id) d x.world.field.listeners) (sym after)
       (beside_found (bytes_of id) (bytes_of i) alone s.world.field.listeners (world_after s g.joins (Write i m) e.events).field.listeners d law.stores.others found)
   by_command (Link i miu window) is alone = let law : LinkingLaw s g.joins i miu window e.events e.answer = law_of (Link i miu window) is in asking_step (Link i miu window) is refl (ap (λ (z : Stable). z.devices) law.stays)
+  by_command (Forge i payloads) is alone =
+      let law : ForgeLaw s g.joins i payloads e.events e.answer = law_of (Forge i payloads) is in
+      asking_step (Forge i payloads) is refl (forge_devices (opens_link i payloads e.events) s g.joins i payloads e.events law.leaves)
   by_command (Put m) is alone = talk_step (Does (Puts (message_of m))) (Put m) is refl (law_of (Put m) is)
   by_command (Get most key) is alone = talk_step (Does (Gets most key)) (Get most key) is refl (law_of (Get most key) is)
   by_command (Lookup name) is alone = talk_step (Does (Finds name)) (Lookup name) is refl (law_of (Lookup name) is)

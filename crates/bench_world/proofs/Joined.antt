@@ -5,7 +5,7 @@ use Rattle.std.specs.List.{flat_map}
 use Rattle.std.proofs.lemmas.List.{take-append-drop, length-append}
 use Rattle.bench_world.specs.declared.entry.Received.{Received}
 use Rattle.bench_world.specs.declared.entry.Seen.{Seen}
-use Rattle.bench_world.specs.Report.{seen_text, received_text, tag_text}
+use Rattle.bench_world.specs.Report.{seen_text, received_text, reply_text, tag_text}
 use Rattle.hex.specs.Hex.{encode_with, encode_upper, upper_digits}
 use Rattle.bench_script.specs.Canonical.{hex_text}
 
@@ -122,6 +122,27 @@ tag_piece head bytes tail piece devices messages tags ts t none few gone read pa
 -- what is left behind the tags
 pub behind_tags : (tail : List ℕ) (tags : List (List ℕ)) → tags ≡ [] → flat_map tag_text tags ++ tail ≡ tail
 behind_tags tail tags gone = ap (λ x. flat_map tag_text x ++ tail) gone
+
+-- and behind the replies
+pub behind_replies : (tail : List ℕ) (replies : List (List ℕ)) → replies ≡ [] → flat_map reply_text replies ++ tail ≡ tail
+behind_replies tail replies gone = ap (λ x. flat_map reply_text x ++ tail) gone
+
+-- a reply's sign is a piece, and its digits come next
+pub reply_piece : (head bytes reply tail piece : List ℕ) (devices : List Seen) (messages : List Received) (tags replies rs : List (List ℕ)) (r : List ℕ) → head ≡ [] → bytes ≡ [] → devices ≡ [] → messages ≡ [] → tags ≡ []
+    → replies ≡ r ∷ rs → reply_text r ≡ piece ++ encode_upper reply
+    → head ++ (encode_upper bytes ++ (flat_map seen_text devices ++ (flat_map received_text messages ++ (flat_map tag_text tags ++ (flat_map reply_text replies ++ tail)))))
+    ≡ piece ++ (head ++ (encode_upper reply ++ (flat_map seen_text devices ++ (flat_map received_text messages ++ (flat_map tag_text tags ++ (flat_map reply_text rs ++ tail))))))
+reply_piece head bytes reply tail piece devices messages tags replies rs r none few gone read found parts is =
+    let rest : List ℕ = flat_map reply_text rs ++ tail in
+    let shown : flat_map seen_text devices ++ (flat_map received_text messages ++ (flat_map tag_text tags ++ rest)) ≡ rest =
+    ap (λ x. flat_map seen_text x ++ (flat_map received_text messages ++ (flat_map tag_text tags ++ rest))) gone
+    ∙ ap (λ x. flat_map received_text x ++ (flat_map tag_text tags ++ rest)) read ∙ behind_tags rest tags found in
+    last_left head bytes (flat_map tag_text tags ++ (flat_map reply_text replies ++ tail)) devices messages none few gone read
+    ∙ behind_tags (flat_map reply_text replies ++ tail) tags found
+    ∙ ap (λ x. flat_map reply_text x ++ tail) parts ∙ append_assoc (reply_text r) (flat_map reply_text rs) tail
+    ∙ ap (λ x. x ++ rest) is ∙ append_assoc piece (encode_upper reply) rest
+    ∙ ap (λ x. piece ++ (encode_upper reply ++ x)) (sym shown)
+    ∙ ap (λ x. piece ++ (x ++ (encode_upper reply ++ (flat_map seen_text devices ++ (flat_map received_text messages ++ (flat_map tag_text tags ++ rest)))))) (sym none)
 
 pub less_left : (old piece new : List ℕ) → old ≡ piece ++ new → 0 < length piece → length new < length old
 less_left old piece new is some = omega (arith, some, ap length is, length-append piece new)

@@ -22,7 +22,7 @@ use Rattle.bench_script.specs.declared.command.DeviceId.{DeviceId}
 use Rattle.bench_script.specs.declared.command.DeviceId.TheVariants.{A, V}
 use Rattle.bench_devices.specs.Crowding.{crowding, Crowds, CrowdsField, CrowdCut}
 use Rattle.bench_devices.specs.declared.device.Device.{Device}
-use Rattle.bench_devices.specs.declared.device.Device.TheVariants.{T2, T4, Peer, T5}
+use Rattle.bench_devices.specs.declared.device.Device.TheVariants.{T2, T4, Peer, T5, T3}
 use Rattle.bench_world.specs.declared.entry.Answer.{Answer}
 use Rattle.bench_world.specs.declared.entry.Answer.TheVariants as answers
 use Rattle.bench_devices.specs.declared.polling.SeenKind.{SeenKind}
@@ -30,9 +30,10 @@ use Rattle.bench_devices.specs.declared.polling.SeenKind.TheVariants as seen
 use Rattle.bench_devices.specs.CardAsking.{tag_next}
 use Rattle.bench_world.specs.Answering.{TagTells, TellsFault, TellsFound, CutTag, tags_answer, poll_answer, told_by}
 use Rattle.bench_devices.specs.TagAsking.{then_asks, tag_due}
-use Rattle.bench_devices.specs.Device.{air, devices, device_linked, StablePart, stable_of, device_store, how_of, size_of, seen_of, is_tag, IfTag}
+use Rattle.bench_devices.specs.Kinds.{IfRead}
+use Rattle.bench_devices.specs.Device.{air, devices, device_linked, StablePart, stable_of, device_store, how_of, size_of, seen_of, is_tag, may_be_read}
 use Rattle.bench_devices.specs.Answering.{TellsBy, GoesOnBy}
-use Rattle.bench_devices.proofs.TagOrPeer.{as_tag, as_peer, peer_seen}
+use Rattle.bench_devices.proofs.TagOrPeer.{as_read, as_unread, unread_seen}
 use Rattle.bench_script.specs.DeviceIds.{bytes_of}
 use Rattle.bench_devices.specs.Polling.{Followed, Asks as Requests, Told, follows, kind_by, seen_kind, pick_v, asks, selecting, finding_all}
 use Rattle.bench_world.specs.Reading.{Tells, TellsOf, ReadAsks}
@@ -249,6 +250,7 @@ all_asked (T2 d) sound = some_asked (T2 d) sound (tt, refl)
 all_asked (T4 d) sound = file_asked 0 (device_store (T4 d))
 all_asked (Peer d) sound = ([], refl)
 all_asked (T5 p) sound = some_asked (T5 p) sound (tt, refl)
+all_asked (T3 p) sound = ([], refl)
 
 -- what a read asks of a placed device, and nothing where none is placed
 asked_by : (old : Air Device) (id : DeviceId) → IsIdle old → (asked : List Signal) × IfPlaced (λ d. ReadAsks d asked) (asked ≡ []) (device_with (bytes_of id) old.listeners)
@@ -375,7 +377,7 @@ module _ (old mid : Air Device) (id : DeviceId) (place : ℕ) (idle : IsIdle old
 
   placed_asked : (commands : List Signal) → ReadAsks s.device commands → IfPlaced (λ d. ReadAsks d commands) (commands ≡ []) (device_with (bytes_of id) old.listeners)
   placed_asked commands asks =
-      let P : Kept → Type 0 = λ k. IfTag k.fixed.kind (IsAsked k.fixed.how k.fixed.size k.store commands) (commands ≡ []) in
+      let P : Kept → Type 0 = λ k. IfRead k.fixed.kind (IsAsked k.fixed.how k.fixed.size k.store commands) (commands ≡ []) in
       subst (λ o. IfPlaced (λ d. ReadAsks d commands) (commands ≡ []) o) (sym selected_with.found) (subst P (sym selected_with.same) asks)
 
   -- what was asked of it was cut off by nothing but want of memory
@@ -400,12 +402,12 @@ module _ (old mid : Air Device) (id : DeviceId) (place : ℕ) (idle : IsIdle old
       })
 
   -- reading was cut off
-  pub read_cut : (new : Air Device) → is_tag s.device ≡ true → ReadsSome (moment mid) (moment new) s.device → CutOffUnlinked old new (Read id)
+  pub read_cut : (new : Air Device) → may_be_read s.device ≡ true → ReadsSome (moment mid) (moment new) s.device → CutOffUnlinked old new (Read id)
   read_cut new tag r = λ ends peers.
       let os : Upon = record { ends = ends; peers = peers; link = None } in
       let g : Going air (tag_due id r.commands) (moment old) (moment new) (s.selects.asked.notes ++ r.asked.notes) =
       both id (seen_of s.device) r.commands (moment old) (moment mid) (moment new) s.selects.asked.notes r.asked.notes s.selects.told s.selects.asked.going r.asked.going in
-      let asked = placed_asked r.commands (as_tag s.device tag _ _ r.asks) in (
+      let asked = placed_asked r.commands (as_read s.device tag _ _ r.asks) in (
         asks_for r.commands,
         refl,
         front_of None (Read id) (λ h. h) os old new r.commands (s.selects.asked.notes ++ r.asked.notes) idle tt refl g asked,
@@ -415,7 +417,7 @@ module _ (old mid : Air Device) (id : DeviceId) (place : ℕ) (idle : IsIdle old
       )
 
 -- A peer was selected, and so a command of a tag asks nothing more.
-module _ (Tells : Device → Answer → Type 0) (old mid : Air Device) (id : DeviceId) (place : ℕ) (s : SelectsAt id place (moment old) (moment mid)) (peer : is_tag s.device ≡ false) where
+module _ (Tells : Device → Answer → Type 0) (old mid : Air Device) (id : DeviceId) (place : ℕ) (s : SelectsAt id place (moment old) (moment mid)) (other : may_be_read s.device ≡ false) where
   abbrev peer_notes : List Note
   peer_notes = s.selects.asked.notes
 
@@ -423,7 +425,7 @@ module _ (Tells : Device → Answer → Type 0) (old mid : Air Device) (id : Dev
   peer_going = polled_of id [] (moment old) (moment mid) peer_notes s.selects.asked.going
 
   pub peer_over : tag_due id [] peer_notes ≡ Over
-  peer_over = ap (then_asks []) s.selects.told ∙ ap (λ k. tag_next k [] []) (peer_seen s.device peer)
+  peer_over = ap (then_asks []) s.selects.told ∙ ap (λ k. tag_next k [] []) (unread_seen s.device s.found other)
 
   -- so it tells, where it tells so of the device
   pub peer_tells : OfPlaced (λ d. Tells d answers.WrongKind) (device_with (bytes_of id) old.listeners) → TagTells Tells id old.listeners [] s.selects.asked.going.events answers.WrongKind
@@ -432,7 +434,7 @@ module _ (Tells : Device → Answer → Type 0) (old mid : Air Device) (id : Dev
     behind = [];
     selected = ap (selecting id) s.selects.asked.going.known ∙ s.selects.told;
     cause = tt;
-    ends = subst (λ k. TellsBy k (λ a. OfPlaced (λ d. Tells d a) (device_with (bytes_of id) old.listeners)) TellsFault [] [] answers.WrongKind) (sym (peer_seen s.device peer)) placed;
+    ends = subst (λ k. TellsBy k (λ a. OfPlaced (λ d. Tells d a) (device_with (bytes_of id) old.listeners)) TellsFault [] [] answers.WrongKind) (sym (unread_seen s.device s.found other)) placed;
     lost = (
       λ lost. absurd (let clash : answers.WrongKind ≡ answers.FieldLost = lost in cc),
       λ broken. absurd (let is : ◌≡◌ {A = Result SeenKind PollFault} (Ok (seen_of s.device)) (Err faults.FieldLost) = s.selects.lost.1 broken in cc),
@@ -441,17 +443,17 @@ module _ (Tells : Device → Answer → Type 0) (old mid : Air Device) (id : Dev
   }
 
 -- a peer isn't read
-pub peer_obeyed : (old mid : Air Device) (id : DeviceId) (place : ℕ) (idle : IsIdle old) (s : SelectsAt id place (moment old) (moment mid)) → is_tag s.device ≡ false → ObeyedUnlinked old mid (Read id) answers.WrongKind
+pub peer_obeyed : (old mid : Air Device) (id : DeviceId) (place : ℕ) (idle : IsIdle old) (s : SelectsAt id place (moment old) (moment mid)) → may_be_read s.device ≡ false → ObeyedUnlinked old mid (Read id) answers.WrongKind
 peer_obeyed old mid id place idle s peer = λ ends peers places.
     let os : Upon = record { ends = ends; peers = peers; link = None } in
     let with_id : IsWith old.listeners (bytes_of id) (kept s.device) = selected_with old mid id place idle s in
-    let P : Kept → Type 0 = λ k. IfTag k.fixed.kind (Tells k.fixed.how k.fixed.size k.store answers.WrongKind) (answers.WrongKind ≡ answers.WrongKind) in
-    let here : TellsOf s.device answers.WrongKind = as_peer s.device peer _ _ refl in
+    let P : Kept → Type 0 = λ k. IfRead k.fixed.kind (Tells k.fixed.how k.fixed.size k.store answers.WrongKind) (answers.WrongKind ≡ answers.WrongKind) in
+    let here : TellsOf s.device answers.WrongKind = as_unread s.device peer _ _ refl in
     let there : OfPlaced (λ d. TellsOf d answers.WrongKind) (device_with (bytes_of id) old.listeners) =
     subst (λ o. OfPlaced (λ d. TellsOf d answers.WrongKind) o) (sym with_id.found) (subst P (sym with_id.same) here) in
     let g : Going air (tag_due id []) (moment old) (moment mid) s.selects.asked.notes = peer_going TellsOf old mid id place s peer in
     let world : (moment mid).world ≡ replay air (moment old).world g.events = ap (λ (t : Moment (World Device)). t.world) g.moment in
-    let asked = placed_asked old mid id place idle s [] (as_peer s.device peer _ _ refl) in
+    let asked = placed_asked old mid id place idle s [] (as_unread s.device peer _ _ refl) in
     asks_obeyed NoStore (Read id) (λ h. h) os old mid [] s.selects.asked.notes answers.WrongKind idle places tt tt refl g (peer_over TellsOf old mid id place s peer) asked
     (record {
       tells = peer_tells TellsOf old mid id place s peer there;
@@ -460,7 +462,7 @@ peer_obeyed old mid id place idle s peer = λ ends peers places.
 
 -- a tag was selected and read
 module _ (old mid new : Air Device) (id : DeviceId) (place : ℕ) (read : Result Found ReadFault) (answer : Answer) (told : told_by read ≡ Some answer) (idle : IsIdle old)
-    (s : SelectsAt id place (moment old) (moment mid)) (tag : is_tag s.device ≡ true) (r : Reads (moment mid) (moment new) s.device read) where
+    (s : SelectsAt id place (moment old) (moment mid)) (tag : may_be_read s.device ≡ true) (r : Reads (moment mid) (moment new) s.device read) where
   abbrev with_id : IsWith old.listeners (bytes_of id) (kept s.device)
   with_id = selected_with old mid id place idle s
 
@@ -469,8 +471,8 @@ module _ (old mid new : Air Device) (id : DeviceId) (place : ℕ) (read : Result
 
   placed_tells : ShowsOf s.device read → PlacedTells answer
   placed_tells shows =
-      let tells : TellsOf s.device answer = as_tag s.device tag _ _ (shows_tells (how_of s.device) (size_of s.device) (device_store s.device) read answer told shows) in
-      let P : Kept → Type 0 = λ k. IfTag k.fixed.kind (Tells k.fixed.how k.fixed.size k.store answer) (answer ≡ answers.WrongKind) in
+      let tells : TellsOf s.device answer = as_read s.device tag _ _ (shows_tells (how_of s.device) (size_of s.device) (device_store s.device) read answer told shows) in
+      let P : Kept → Type 0 = λ k. IfRead k.fixed.kind (Tells k.fixed.how k.fixed.size k.store answer) (answer ≡ answers.WrongKind) in
       subst (λ o. OfPlaced (λ d. TellsOf d answer) o) (sym with_id.found) (subst P (sym with_id.same) tells)
 
   -- what is known of both parts
@@ -505,7 +507,7 @@ module _ (old mid new : Air Device) (id : DeviceId) (place : ℕ) (read : Result
       both id (seen_of s.device) r.commands (moment old) (moment mid) (moment new) hs ks s.selects.told s.selects.asked.going r.asked.going in
       let world : (moment new).world ≡ replay air (moment old).world g.events = ap (λ (t : Moment (World Device)). t.world) g.moment in
       let same : map kept new.listeners ≡ map kept old.listeners = r.asked.same ∙ s.selects.asked.same in
-      let asked = placed_asked old mid id place idle s r.commands (as_tag s.device tag _ _ r.asks) in
+      let asked = placed_asked old mid id place idle s r.commands (as_read s.device tag _ _ r.asks) in
       asks_obeyed NoStore (Read id) (λ h. h) os old new r.commands (hs ++ ks) answer idle places tt tt refl g (then_tag id (seen_of s.device) r.commands hs ks s.selects.told ∙ r.asked.over) asked
       (record {
         tells = read_tells;

@@ -44,6 +44,7 @@ pub mod Quiet
 pub mod QuietLinks
 pub mod OpeningKind
 pub mod CompleteLinkings
+pub mod CompleteForging
 pub mod ReadBack
 pub mod Joined
 mod DigitPairs
@@ -64,6 +65,7 @@ pub mod CloseOver
 pub mod TalkOver
 pub mod Names
 pub mod CountedOn
+pub mod BroughtNothing
 pub mod ServerRuns
 pub mod PayloadsOn
 pub mod PayloadsKept
@@ -74,6 +76,10 @@ pub mod StoriesStand
 pub mod StoriesHere
 pub mod StoriesStep
 pub mod StoriesOnLink
+pub mod ForgeLeft
+pub mod StoriesWithin
+pub mod ForgingDue
+pub mod PayloadsWithin
 pub mod SameStories
 pub mod LinkLaw
 pub mod Unfinished

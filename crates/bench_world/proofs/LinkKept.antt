@@ -12,7 +12,7 @@ use Rattle.dep_link.specs.Peers.{IsPeer}
 use Rattle.dep_link.specs.Target.{TargetState, made_busy}
 use Rattle.bench_devices.specs.declared.device.Device.{Device}
 use Rattle.bench_devices.specs.Beside.{InStepAt}
-use Rattle.bench_devices.specs.declared.device.Device.TheVariants.{T2, T4, Peer, T5}
+use Rattle.bench_devices.specs.declared.device.Device.TheVariants.{T2, T4, Peer, T5, T3}
 use Rattle.bench_devices.specs.Device.{device_id, device_end, device_linked, device_ready, device_selected, device_locked, device_busy}
 use Rattle.bench_devices.specs.Keeping.{ghosts}
 use Rattle.bench_devices.proofs.OpenPeer.{peer_in, is_peer}
@@ -164,6 +164,7 @@ locked_talks block (T2 d) = record { aside = λ own a. record { rests = a.rests;
 locked_talks block (T4 d) = record { aside = λ own a. a; id = refl; selected = refl; linked = refl; peer = λ s l p. p; step = λ i t. t; cut = λ n c. c }
 locked_talks block (Peer d) = record { aside = λ own a. a; id = refl; selected = refl; linked = refl; peer = λ s l p. p; step = λ i t. t; cut = λ n c. c }
 locked_talks block (T5 p) = record { aside = λ own a. record { rests = a.rests; other = a.other }; id = refl; selected = refl; linked = refl; peer = λ s l p. absurd cc; step = λ i t. t; cut = λ n c. c }
+locked_talks block (T3 p) = record { aside = λ own a. record { rests = a.rests; other = a.other }; id = refl; selected = refl; linked = refl; peer = λ s l p. absurd cc; step = λ i t. t; cut = λ n c. c }
 
 -- nor does how often a peer asks for more time, while none is asked for
 busy_peer : (id : List ℕ) (front : Front) (t : TargetState) (linked : Bool) → is_active front ≡ true → linked ≡ true → IsPeer ghosts device_end (Peer (record { id = id; front = front; upper = record { target = t; linked = linked } }))
@@ -199,6 +200,7 @@ busy_talks count times few long (Peer d) = record {
   cut = λ n c. c;
 }
 busy_talks count times few long (T5 p) = record { aside = λ own a. a; id = refl; selected = refl; linked = refl; peer = λ s l p. p; step = λ i t. t; cut = λ n c. c }
+busy_talks count times few long (T3 p) = record { aside = λ own a. a; id = refl; selected = refl; linked = refl; peer = λ s l p. p; step = λ i t. t; cut = λ n c. c }
 
 -- what holds of all devices holds of the peer
 pub holds_there : (P : Device → Type 0) (d : Device) (place : ℕ) (xs : List Device) → AloneAt d place xs → AllByRecursion P xs → P d

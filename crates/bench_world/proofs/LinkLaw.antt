@@ -1,14 +1,15 @@
 -- The law of links, step by step over a journal.
-use Rattle.std.proofs.Common.{◌≡◌, ℕ, ◌+◌, List, [], ◌∷◌, ◌++◌, map, length, true, false, Option, Some, None, IsSome, refl, sym, ◌∙◌, ap, subst}
+use Rattle.std.proofs.Common.{◌≡◌, ℕ, ◌+◌, List, [], ◌∷◌, ◌++◌, map, length, Bool, true, false, if◌then◌else◌, Option, Some, None, IsSome, refl, sym, ◌∙◌, ap, subst}
 use Rattle.std.specs.List.{AllByRecursion}
 use Rattle.std.proofs.lemmas.List.{append-nil, append_assoc, length-append, length-map, map-append}
 use Rattle.nfc_base.specs.declared.event.Event.{Event}
 use Rattle.nfc_base.specs.declared.event.Fate.{Fate}
 use Rattle.air_core.specs.Conversation.{queue_after}
-use Rattle.snep_core.specs.Server.{Received as Accepted}
+use Rattle.llcp_link.specs.State.{restarted}
+use Rattle.snep_core.specs.Server.{Received as Accepted, serving}
 use Rattle.snep_core.specs.Talk.{Puts, Gets, Finds}
 use Rattle.bench_script.specs.declared.command.Command.{Command}
-use Rattle.bench_script.specs.declared.command.Command.TheVariants.{Skip, Fates, PlaceT2, PlaceT4, PlaceT5, PlacePeer, Lock, Busy, Offer, Remove, Dump, Inbox, Find, Crowd, Read, Write, Link, Put, Get, Lookup, Unlink}
+use Rattle.bench_script.specs.declared.command.Command.TheVariants.{Skip, Fates, PlaceT2, PlaceT4, PlaceT5, PlacePeer, Lock, Busy, Offer, Remove, Dump, Inbox, Find, Crowd, Read, Write, Link, Forge, Put, Get, Lookup, Unlink}
 use Rattle.bench_script.specs.declared.command.DeviceId.{DeviceId}
 use Rattle.bench_script.specs.DeviceIds.{bytes_of}
 use Rattle.bench_script.specs.Messages.{message_of}
@@ -21,18 +22,19 @@ use Rattle.bench_world.specs.declared.entry.Answer.{Answer}
 use Rattle.bench_world.specs.declared.entry.Answer.TheVariants as answers
 use Rattle.bench_world.specs.declared.entry.Entry.{Entry}
 use Rattle.bench_world.specs.declared.inbox.LinkRange.{LinkRange}
-use Rattle.bench_world.specs.World.{FarEnd, WholeWorld, Stable}
+use Rattle.bench_world.specs.World.{FarEnd, WholeWorld, Stable, stable}
+use Rattle.bench_world.specs.Forging.{forged_general, opens_link}
 use Rattle.link_calls.specs.CallDue.{CallStanding}
 use Rattle.bench_world.specs.declared.entry.Loss.{Loss}
 use Rattle.link_calls.specs.Asking.{Does}
-use Rattle.bench_world.specs.Calls.{OfEnd, PutAdds, link_behind, stands_on, told_call}
+use Rattle.bench_world.specs.Calls.{OfEnd, PutAdds, link_behind, stands_on, told_call, with_accepted}
 use Rattle.bench_world.specs.Inbox.{inbox_at, inbox_of}
-use Rattle.bench_world.specs.Legal.{State, Given, Joins, Accepts, IsPeerPlaced, AnswerLaw, CallLaw, FrontOf, LegalStep, EachLegal, begun, changed, end_of, first_state, inbox_now, world_after, state_after}
+use Rattle.bench_world.specs.Legal.{State, Given, Joins, Accepts, IsPeerPlaced, AnswerLaw, CallLaw, ForgeLeaves, FrontOf, LegalStep, EachLegal, begun, changed, end_of, first_state, inbox_now, peers_forged, world_after, state_after}
 use Rattle.bench_world.specs.Linking.{LinkTells, link_if, own_general}
-use Rattle.bench_world.specs.LinkLaw.{AreCounted, KeepsLinkLaw, LinksAccept, LinkLaw, TellsInbox, told_by_stories, told_link, told_links, peer_under}
-use Rattle.bench_world.specs.Links.{OpenLink, end_numbered, ended, ended_unless, is_with}
+use Rattle.bench_world.specs.LinkLaw.{AreCounted, KeepsLinkLaw, LinksAccept, LinkLaw, TellsInbox, by_link, numbers_by_link, opener_of, openers_in, told_by_stories, told_link, told_links, peer_under}
+use Rattle.bench_world.specs.Links.{OpenLink, end_numbered, ended, ended_unless, is_with, with_link_if, with_link_within}
 use Rattle.bench_world.specs.Peers.{Peers, new_end, next_number, placed_under}
-use Rattle.bench_world.specs.Stories.{Story, Stretch, begun_in, first_of, story_if, last_goes_on, open_goes_on, puts_in, state_from, stretch_of, stories_of}
+use Rattle.bench_world.specs.Stories.{Opener, ByForge, ByLink, Story, Stretch, Beginning, BeginsAndEnds, NothingBegins, beginning, begun_by, first_of, new_story, story_if, story_within, whole_of, last_goes_on, open_goes_on, puts_in, state_from, stretch_of, stories_of}
 use Rattle.bench_world.proofs.Talks.{ends_stay}
 use Rattle.bench_world.proofs.AtNumbers.{AreHeld, Held, held, held_at, at_number, held_offered, held_under, at_own_place, more_held, same_held, with_held}
 use Rattle.bench_world.proofs.FarStays.{far_stay}
@@ -43,6 +45,7 @@ use Rattle.bench_world.proofs.StoriesHere.{PlacesOf, Stand, StandBy, ended_close
 use Rattle.bench_world.proofs.StoriesOnLink.{call_over, came_to_end, link_begins, linked_number, linked_peer, put_over, same_opened}
 use Rattle.bench_world.proofs.StoriesStand.{View, at, Closed, Opened, Open, IsInStep, closed_keep, closed_told, open_keep, open_told}
 use Rattle.bench_world.proofs.StoriesStep.{as_many_held, as_many_offered, as_many_with, base_held, many_numbers, no_link, own_below, peer_more, peer_stands, removed_stands, same_link, same_peer, same_tag, tag_more, tag_stands}
+use Rattle.bench_world.proofs.StoriesWithin.{within_stands}
 use Rattle.bench_world.proofs.Unlinking.{count_ended, same_numbers}
 use Rattle.bench_world.proofs.Tales.{goes_on, stories_behind, stories_from}
 use Rattle.bench_world.specs.ByPayloads.{IsByPayloads}
@@ -77,20 +80,20 @@ module _ (w : WholeWorld) (q : List Fate) (p : Peers) (ys : List Story) (o : Opt
       (subst (λ ds. AllStayDevices ds now.field.listeners) devices (far_stay es (begun s g.joins c)).stay) many numbers stand.places
 
   -- a tag is placed, and a peer
-  pub tag_placed : (c : Command) (es : List Event) → (changed s c).link ≡ o → (behind c []).link ≡ o → puts_in c told ≡ [] → begun_in c told (behind c []) ≡ []
+  pub tag_placed : (c : Command) (es : List Event) → (changed s c).link ≡ o → (behind c []).link ≡ o → puts_in c told ≡ [] → beginning c es told ≡ NothingBegins
       → view_of (behind c []) ≡ tag_more s ys stand → PlacesOf (behind c []) → Steps c es (behind c [])
   tag_placed c es still same puts begins view places =
       same_link s (behind c []) (stretch c es) ys stand puts begins still same places (λ l is. ap (λ v. at v l.peer) view ∙ same_tag s ys stand l.peer)
       (λ h. subst (λ v. StandBy v o ys) (sym view) (tag_stands s ys stand h))
 
   -- a command that changes nothing of peers
-  pub nothing_changed : (c : Command) (es : List Event) → (changed s c).link ≡ o → (behind c []).link ≡ o → puts_in c told ≡ [] → begun_in c told (behind c []) ≡ []
+  pub nothing_changed : (c : Command) (es : List Event) → (changed s c).link ≡ o → (behind c []).link ≡ o → puts_in c told ≡ [] → beginning c es told ≡ NothingBegins
       → view_of (behind c []) ≡ view_of s → PlacesOf (behind c []) → Steps c es (behind c [])
   nothing_changed c es still same puts begins view places =
       same_link s (behind c []) (stretch c es) ys stand puts begins still same places (λ l is. ap (λ v. at v l.peer) view) (λ h. subst (λ v. StandBy v o ys) (sym view) h)
 
   -- one that begins with a reset
-  pub reset : (c : Command) (es : List Event) → begun_in c told (behind c es) ≡ [] → (changed s c).link ≡ None → (behind c es).link ≡ None → (behind c es).peers ≡ ended o w.fars p
+  pub reset : (c : Command) (es : List Event) → beginning c es told ≡ NothingBegins → (changed s c).link ≡ None → (behind c es).link ≡ None → (behind c es).peers ≡ ended o w.fars p
       → (changed s c).world.field.listeners ≡ w.field.listeners → map held (world_after s g.joins c es).fars ≡ map held w.fars → Steps c es (behind c es)
   reset c es begins none gone peers devices same =
       no_link s (behind c es) (stretch c es) ys begins none gone
@@ -148,6 +151,66 @@ module _ (w : WholeWorld) (q : List Fate) (p : Peers) (ys : List Story) (o : Opt
       (places_behind w q p ys o stand g (Some a) c es ends.numbers refl (as_many_held (world_after unopened g.joins c es).fars w.fars same) (same_numbers o p w.fars))
       (subst (λ ks. Closed (view_by ends ks) ys) (sym same) (ended_closed o p w.fars ys stand.stand))
 
+-- Payloads that were written by hand were sent over a link of their own: to the peer with this number, whose list gained these.
+module _ (w : WholeWorld) (q : List Fate) (p : Peers) (ys : List Story) (o : Option OpenLink) (stand : Stand (record { world = w; queue = q; peers = p; link = o }) ys) (joins : Joins) (told : Option Answer)
+    (id : List ℕ) (payloads : List (List ℕ)) (es : List Event) where
+  abbrev unsent : State
+  unsent = record { world = w; queue = q; peers = p; link = o }
+
+  abbrev sent : Stretch
+  sent = record { command = Forge id payloads; joins = joins; events = es; told = told }
+
+  both_held : AreHeld p.numbers (map held w.fars)
+  both_held = (base_held (view_of unsent) o ys stand.stand).0
+
+  module _ (peer : ℕ) (more : List Accepted) (now : WholeWorld) (ends : (stable now).ends ≡ with_accepted more peer p.numbers (stable w).ends) where
+    grown : map held now.fars ≡ with_held more peer p.numbers (map held w.fars)
+    grown = more_held now w more peer p.numbers ends
+
+    pub as_many_sent : length now.fars ≡ length w.fars
+    as_many_sent =
+        sym (length-map now.fars held) ∙ ap length grown ∙ as_many_with more peer p.numbers (map held w.fars) both_held ∙ length-map w.fars held
+
+  pub forged_stands : (t : State) (peer : ℕ) → placed_under id w.field.listeners p.numbers ≡ Some peer → (more : List Accepted) → (stable t.world).ends ≡ with_accepted more peer p.numbers (stable w).ends
+      → t.peers ≡ with_link_within peer w.fars t.world.fars (ended o w.fars p) → t.link ≡ None → HavePlaces t.world.field.listeners p.numbers t.world.fars → opens_link id payloads es ≡ true
+      → Stand t (stories_behind unsent sent t ys)
+  forged_stands t peer placed more ends peers gone places opened =
+      let before : Peers = ended o w.fars p in
+      let numbers : before.numbers ≡ p.numbers = same_numbers o p w.fars in
+      within_stands unsent t sent ys before id forged_general ByForge (λ y. tt) (ended_closed o p w.fars ys stand.stand) numbers (count_ended o p w.fars) peer placed more
+      (grown peer more t.world ends ∙ ap (λ ns. with_held more peer ns (map held w.fars)) (sym numbers)) peers refl
+      (ap (λ v. if v then BeginsAndEnds ByForge id forged_general else NothingBegins) opened) refl gone
+      (subst (λ ns. HavePlaces t.world.field.listeners ns t.world.fars) (sym (ap (λ (x : Peers). x.numbers) peers ∙ numbers)) places)
+
+-- so behind the command, whether it is answered or cut off
+module _ (w : WholeWorld) (q : List Fate) (p : Peers) (ys : List Story) (o : Option OpenLink) (stand : Stand (record { world = w; queue = q; peers = p; link = o }) ys) (g : Given) (told : Option Answer)
+    (id : List ℕ) (payloads : List (List ℕ)) (es : List Event) where
+  abbrev forged_from : State
+  forged_from = record { world = w; queue = q; peers = p; link = o }
+
+  abbrev forged : Command
+  forged = Forge id payloads
+
+  abbrev forged_then : State
+  forged_then = state_after forged_from g.joins forged es told
+
+  abbrev ForgedStands : Type 0
+  ForgedStands = Stand forged_then (stories_behind forged_from (record { command = forged; joins = g.joins; events = es; told = told }) forged_then ys)
+
+  pub forge_sent : opens_link id payloads es ≡ true → (peer : ℕ) → placed_under id w.field.listeners p.numbers ≡ Some peer → (more : List Accepted)
+      → (stable (world_after forged_from g.joins forged es)).ends ≡ with_accepted more peer p.numbers (stable w).ends → ForgedStands
+  forge_sent opened peer placed more ends =
+      let now : WholeWorld = world_after forged_from g.joins forged es in
+      forged_stands w q p ys o stand g.joins told id payloads es forged_then peer placed more ends
+      (ap (λ v. peers_forged v forged_from (DeviceId.A id) now.fars) opened ∙ ap (λ n. with_link_if n w.fars now.fars (ended o w.fars p)) placed) refl
+      (places_behind w q p ys o stand g told forged es p.numbers refl (as_many_sent w q p ys o stand g.joins told id payloads es peer more now ends) refl) opened
+
+  pub forge_unsent : opens_link id payloads es ≡ false → stable (world_after forged_from g.joins forged es) ≡ stable w → ForgedStands
+  forge_unsent unopened stays =
+      let now : WholeWorld = world_after forged_from g.joins forged es in
+      reset w q p ys o stand g told forged es (ap (λ v. if v then BeginsAndEnds ByForge id forged_general else NothingBegins) unopened) refl refl
+      (ap (λ v. peers_forged v forged_from (DeviceId.A id) now.fars) unopened) refl (same_held now w (ap (λ (z : Stable). z.ends) stays))
+
 -- Commands on the link that is open.
 module _ (w : WholeWorld) (q : List Fate) (p : Peers) (ys : List Story) (l : OpenLink) (stand : Stand (record { world = w; queue = q; peers = p; link = Some l }) ys) (g : Given) (told : Option Answer) where
   abbrev pub on : State
@@ -161,7 +224,7 @@ module _ (w : WholeWorld) (q : List Fate) (p : Peers) (ys : List Story) (l : Ope
   called_then now queue left = record { world = now; queue = queue; peers = ended_unless left (Some l) now.fars p; link = left }
 
   -- one that puts nothing
-  pub called_so : (c : Command) (es : List Event) (now : WholeWorld) (queue : List Fate) (left : Option OpenLink) → (changed on c).link ≡ Some l → puts_in c told ≡ [] → begun_in c told (called_then now queue left) ≡ []
+  pub called_so : (c : Command) (es : List Event) (now : WholeWorld) (queue : List Fate) (left : Option OpenLink) → (changed on c).link ≡ Some l → puts_in c told ≡ [] → beginning c es told ≡ NothingBegins
       → HavePlaces now.field.listeners p.numbers now.fars → map held now.fars ≡ map held w.fars → ((m : OpenLink) → left ≡ Some m → m.peer ≡ l.peer) → Goes c es (called_then now queue left)
   called_so c es now queue left still puts begins places same peer =
       let x : Stretch = record { command = c; joins = g.joins; events = es; told = told } in
@@ -173,12 +236,12 @@ module _ (w : WholeWorld) (q : List Fate) (p : Peers) (ys : List Story) (l : Ope
       let came : Open (view_at p now.fars) l.peer zs = open_stands on t x ys (view_at p now.fars) l.peer opened puts own in
       let over : Stand t zs = call_over now queue p l zs came.opened left places (λ m e. (peer m e, came.step)) in
       let told_so : stories_behind on x t ys ≡ zs =
-      ap (λ zs. open_goes_on (changed on c).link (goes_on on x t) ys ++ zs) begins ∙ append-nil (open_goes_on (changed on c).link (goes_on on x t) ys)
+      ap (λ (b : Beginning). open_goes_on (changed on c).link (goes_on on x t) ys ++ begun_by b (goes_on on x t) on t) begins ∙ append-nil (open_goes_on (changed on c).link (goes_on on x t) ys)
       ∙ ap (λ k. open_goes_on k (goes_on on x t) ys) still in
       subst (Stand t) (sym told_so) over
 
   pub called : (c : Command) (es : List Event) (left : Option OpenLink) → (changed on c).link ≡ Some l → (changed on c).world.field.listeners ≡ w.field.listeners
-      → puts_in c told ≡ [] → begun_in c told (called_then (world_after on g.joins c es) (queue_after (changed on c).queue es) left) ≡ [] → map held (world_after on g.joins c es).fars ≡ map held w.fars
+      → puts_in c told ≡ [] → beginning c es told ≡ NothingBegins → map held (world_after on g.joins c es).fars ≡ map held w.fars
       → state_after on g.joins c es told ≡ called_then (world_after on g.joins c es) (queue_after (changed on c).queue es) left
       → ((m : OpenLink) → left ≡ Some m → m.peer ≡ l.peer) → Goes c es (state_after on g.joins c es told)
   called c es left still devices puts begins same is peer =
@@ -293,6 +356,11 @@ module _ (w : WholeWorld) (q : List Fate) (p : Peers) (ys : List Story) (g : Giv
       after_front o (Link id miu window) es t front
       (link_here w q p ys o stand g a id miu window es (same_held (world_after (from o) g.joins (Link id miu window) es) w (ap (λ (z : Stable). z.ends) law.stays))
       (λ n is. linked_number (DeviceId.A id) w.field.listeners (length p.links + 1) n (own_general miu) es (subst (LinkTells (DeviceId.A id) w.field.listeners (length p.links + 1) (own_general miu) es) is law.tells)) a refl)
+  step_by o (Forge id payloads) es t stand front law = after_front o (Forge id payloads) es t front (by (opens_link id payloads es) refl law.leaves)
+    where
+      by : (v : Bool) → opens_link id payloads es ≡ v → ForgeLeaves v (from o) g.joins id payloads es → so o (Forge id payloads) es (state_after (from o) g.joins (Forge id payloads) es (Some a))
+      by true opened sends = forge_sent w q p ys o stand g (Some a) id payloads es opened sends.peer sends.placed sends.more sends.ends
+      by false unopened stays = forge_unsent w q p ys o stand g (Some a) id payloads es unopened stays
   step_by None (Put m) es t stand front law =
       quietly w q p ys None stand g (Some a) (Put m) es t front (nothing_sent (begun (from None) g.joins (Put m)) es front.turns front.each)
       (no_link (from None) (state_after (from None) g.joins (Put m) [] (Some a)) (record { command = Put m; joins = g.joins; events = es; told = Some a }) ys refl refl refl stand.places stand.stand)
@@ -334,52 +402,143 @@ along s t (g ∷ gs) (e ∷ es) ys stand legal =
     subst (λ x. Stand t (stories_from x (stories_behind s (stretch_of g.joins e) x ys) (map (λ (h : Given). h.joins) gs) es)) legal.1.front.after
     (along mid t gs es (stories_behind s (stretch_of g.joins e) mid ys) (step s mid g e ys stand legal.1) legal.2)
 
--- Each `linked` begins a story of its number, and nothing else does.
-same_numbers_told : (go : Story → Story) → ((y : Story) → (go y).number ≡ y.number) → (ys : List Story) → map (λ (y : Story). y.number) (last_goes_on go ys) ≡ map (λ (y : Story). y.number) ys
-same_numbers_told go same [] = refl
-same_numbers_told go same (y ∷ []) = ap (λ n. n ∷ []) (same y)
-same_numbers_told go same (y ∷ z ∷ ys) = ap (λ ns. y.number ∷ ns) (same_numbers_told go same (z ∷ ys))
+-- What stories tell, one after the other, and what entries tell.
+abbrev all_of : {X : Type 0} → (Story → List X) → List Story → List X
+all_of M [] = []
+all_of M (y ∷ ys) = M y ++ all_of M ys
 
-open_numbers : (o : Option OpenLink) (s t : State) (x : Stretch) (ys : List Story) → map (λ (y : Story). y.number) (open_goes_on o (goes_on s x t) ys) ≡ map (λ (y : Story). y.number) ys
-open_numbers None s t x ys = refl
-open_numbers (Some l) s t x ys = same_numbers_told (goes_on s x t) (λ y. refl) ys
+abbrev of_entries : {X : Type 0} → (Command → List Event → Answer → List X) → List Entry → List X
+of_entries E [] = []
+of_entries E (e ∷ es) = E e.command e.events e.answer ++ of_entries E es
 
-end_at : (n : ℕ) (general : List ℕ) (peer : ℕ) (o : Option FarEnd) (k : Held) → held o ≡ Some k → map (λ (y : Story). y.number) (first_of n general peer o) ≡ n ∷ []
+all_append : {X : Type 0} (M : Story → List X) (xs ys : List Story) → all_of M (xs ++ ys) ≡ all_of M xs ++ all_of M ys
+all_append M [] ys = refl
+all_append M (x ∷ xs) ys = ap (λ zs. M x ++ zs) (all_append M xs ys) ∙ sym (append_assoc (M x) (all_of M xs) (all_of M ys))
+
+all_last : {X : Type 0} (M : Story → List X) (go : Story → Story) → ((y : Story) → M (go y) ≡ M y) → (ys : List Story) → all_of M (last_goes_on go ys) ≡ all_of M ys
+all_last M go same [] = refl
+all_last M go same (y ∷ []) = ap (λ zs. zs ++ []) (same y)
+all_last M go same (y ∷ z ∷ ys) = ap (λ zs. M y ++ zs) (all_last M go same (z ∷ ys))
+
+-- what no stretch changes of a story, and an entry tells of the one that begins in it
+module _ {X : Type 0} (M : Story → List X) (E : Command → List Event → Answer → List X) (goes : (s t : State) (x : Stretch) (y : Story) → M (goes_on s x t y) ≡ M y)
+    (begins : (s t : State) (g : Given) (c : Command) (es : List Event) (a : Answer) (zs : List Story) → Stand t zs → FrontOf s g c es (Some a) t → AnswerLaw s g c es a
+    → all_of M (begun_by (beginning c es (Some a)) (goes_on s (record { command = c; joins = g.joins; events = es; told = Some a }) t) s t) ≡ E c es a) where
+  open_all : (o : Option OpenLink) (s t : State) (x : Stretch) (ys : List Story) → all_of M (open_goes_on o (goes_on s x t) ys) ≡ all_of M ys
+  open_all None s t x ys = refl
+  open_all (Some l) s t x ys = all_last M (goes_on s x t) (λ y. goes s t x y) ys
+
+  step_all : (s t : State) (g : Given) (e : Entry) (ys : List Story) → Stand s ys → LegalStep s g e t
+      → all_of M (stories_behind s (stretch_of g.joins e) t ys) ≡ all_of M ys ++ E e.command e.events e.answer
+  step_all s t g e ys stand legal =
+      let x : Stretch = stretch_of g.joins e in
+      let begun : List Story = begun_by (beginning e.command e.events (Some e.answer)) (goes_on s x t) s t in
+      all_append M (open_goes_on (changed s e.command).link (goes_on s x t) ys) begun ∙ ap (λ zs. zs ++ all_of M begun) (open_all (changed s e.command).link s t x ys)
+      ∙ ap (λ zs. all_of M ys ++ zs) (begins s t g e.command e.events e.answer (stories_behind s x t ys) (step s t g e ys stand legal) legal.front legal.answered)
+
+  all_along : (s t : State) (gs : List Given) (es : List Entry) (ys : List Story) → Stand s ys → EachLegal s gs es t
+      → all_of M (stories_from s ys (map (λ (g : Given). g.joins) gs) es) ≡ all_of M ys ++ of_entries E es
+  all_along s t [] [] ys stand legal = sym (append-nil (all_of M ys))
+  all_along s t [] (e ∷ es) ys stand legal = absurd legal
+  all_along s t (g ∷ gs) [] ys stand legal = absurd legal
+  all_along s t (g ∷ gs) (e ∷ es) ys stand legal =
+      let mid : State = legal.0 in
+      let ns : List Joins = map (λ (h : Given). h.joins) gs in
+      subst (λ x. all_of M (stories_from x (stories_behind s (stretch_of g.joins e) x ys) ns es) ≡ all_of M ys ++ of_entries E (e ∷ es)) legal.1.front.after
+      (all_along mid t gs es (stories_behind s (stretch_of g.joins e) mid ys) (step s mid g e ys stand legal.1) legal.2
+      ∙ ap (λ zs. zs ++ of_entries E es) (step_all s mid g e ys stand legal.1) ∙ append_assoc (all_of M ys) (E e.command e.events e.answer) (of_entries E es))
+
+-- Where `linked` is told one begins, of its number.
+abbrev OneBegins : List Story → ℕ → List ℕ → Type 0
+OneBegins ys n general = (peer : ℕ) × (end : FarEnd) × (ys ≡ new_story n ByLink peer general end ∷ [])
+
+end_at : (n : ℕ) (general : List ℕ) (peer : ℕ) (o : Option FarEnd) (k : Held) → held o ≡ Some k → OneBegins (first_of n general peer o) n general
 end_at n general peer None k is = absurd cc
-end_at n general peer (Some end) k is = refl
+end_at n general peer (Some end) k is = (peer, end, refl)
 
-begun_number : (t : State) (zs : List Story) (n : ℕ) (general : List ℕ) (o : Option OpenLink) → StandBy (view_of t) o zs → IsSome o → map (λ (y : Story). y.number) (story_if n general o t) ≡ n ∷ []
-begun_number t zs n general None stand some = absurd (let clash : false ≡ true = some in cc)
-begun_number t zs n general (Some l) stand some =
+begun_one : (t : State) (zs : List Story) (n : ℕ) (general : List ℕ) (o : Option OpenLink) → StandBy (view_of t) o zs → IsSome o → OneBegins (story_if n general o t) n general
+begun_one t zs n general None stand some = absurd (let clash : false ≡ true = some in cc)
+begun_one t zs n general (Some l) stand some =
     end_at n general l.peer (end_numbered l.peer t.peers.numbers t.world.fars) stand.opened.going.there
     (held_at l.peer t.peers.numbers t.world.fars ∙ stand.opened.going.found)
 
+linked_one : (s t : State) (g : Given) (id : List ℕ) (miu window : ℕ) (es : List Event) (n : ℕ) (zs : List Story) → Stand t zs → FrontOf s g (Link id miu window) es (Some (answers.Linked n)) t
+    → AnswerLaw s g (Link id miu window) es (answers.Linked n) → OneBegins (story_if n (own_general miu) t.link t) n (own_general miu)
+linked_one s t g id miu window es n zs stand front law =
+    begun_one t zs n (own_general miu) t.link stand.stand (subst (λ x. IsSome x) (sym (ap (λ (x : State). x.link) front.after)) (law.opens n refl))
+
+-- So each story's opener is that of its entry, and the numbers of those that `link` opened are those that are told.
+abbrev opener_in : Story → List Opener
+opener_in y = y.opener ∷ []
+
+abbrev linked_in : Story → List ℕ
+linked_in y = by_link y.opener y.number
+
+abbrev opener_told : Command → List Event → Answer → List Opener
+opener_told c es a = opener_of (beginning c es (Some a))
+
+-- Where a link of payloads that were written by hand begins one story does.
+forge_all : {X : Type 0} (M : Story → List X) (s t : State) (x : Stretch) (id : List ℕ) (payloads : List (List ℕ)) (v : Bool) → ForgeLeaves v s x.joins id payloads x.events → (xs : List X)
+    → ((n peer : ℕ) (end : FarEnd) → M (goes_on s x t (new_story n ByForge peer forged_general end)) ≡ xs)
+    → all_of M (begun_by (if v then BeginsAndEnds ByForge id forged_general else NothingBegins) (goes_on s x t) s t) ≡ (if v then xs else [])
+forge_all M s t x id payloads false stays xs same = refl
+forge_all M s t x id payloads true sends xs same =
+    let n : ℕ = length s.peers.links + 1 in
+    ap (λ o. all_of M (story_within ByForge forged_general o (goes_on s x t) s)) sends.placed
+    ∙ ap (λ o. all_of M (whole_of ByForge forged_general n sends.peer o (goes_on s x t))) sends.came.stood
+    ∙ ap (λ zs. zs ++ []) (same n sends.peer (restarted serving sends.came.old forged_general)) ∙ append-nil xs
+
+forge_opener : (v : Bool) (id : List ℕ) → (if v then ByForge ∷ [] else []) ≡ opener_of (if v then BeginsAndEnds ByForge id forged_general else NothingBegins)
+forge_opener true id = refl
+forge_opener false id = refl
+
+forge_number : (v : Bool) → (let none : List ℕ = [] in (if v then none else none) ≡ none)
+forge_number true = refl
+forge_number false = refl
+
+begun_openers : (s t : State) (g : Given) (c : Command) (es : List Event) (a : Answer) (zs : List Story) → Stand t zs → FrontOf s g c es (Some a) t → AnswerLaw s g c es a
+    → all_of opener_in (begun_by (beginning c es (Some a)) (goes_on s (record { command = c; joins = g.joins; events = es; told = Some a }) t) s t) ≡ opener_told c es a
+begun_openers s t g (Link id miu window) es (answers.Linked n) zs stand front law = ap (all_of opener_in) (linked_one s t g id miu window es n zs stand front law).2
+begun_openers s t g (Forge id payloads) es a zs stand front law =
+    forge_all opener_in s t (record { command = Forge id payloads; joins = g.joins; events = es; told = Some a }) id payloads (opens_link id payloads es) law.leaves (ByForge ∷ []) (λ n peer end. refl)
+    ∙ forge_opener (opens_link id payloads es) id
+begun_openers s t g c es a zs stand front law = refl
+
 begun_numbers : (s t : State) (g : Given) (c : Command) (es : List Event) (a : Answer) (zs : List Story) → Stand t zs → FrontOf s g c es (Some a) t → AnswerLaw s g c es a
-    → map (λ (y : Story). y.number) (begun_in c (Some a) t) ≡ told_link c a
-begun_numbers s t g (Link id miu window) es (answers.Linked n) zs stand front law =
-    begun_number t zs n (own_general miu) t.link stand.stand (subst (λ x. IsSome x) (sym (ap (λ (x : State). x.link) front.after)) (law.opens n refl))
+    → all_of linked_in (begun_by (beginning c es (Some a)) (goes_on s (record { command = c; joins = g.joins; events = es; told = Some a }) t) s t) ≡ told_link c a
+begun_numbers s t g (Link id miu window) es (answers.Linked n) zs stand front law = ap (all_of linked_in) (linked_one s t g id miu window es n zs stand front law).2
+begun_numbers s t g (Forge id payloads) es a zs stand front law =
+    forge_all linked_in s t (record { command = Forge id payloads; joins = g.joins; events = es; told = Some a }) id payloads (opens_link id payloads es) law.leaves [] (λ n peer end. refl)
+    ∙ forge_number (opens_link id payloads es)
 begun_numbers s t g c es a zs stand front law = refl
 
-step_numbers : (s t : State) (g : Given) (e : Entry) (ys : List Story) → Stand s ys → LegalStep s g e t
-    → map (λ (y : Story). y.number) (stories_behind s (stretch_of g.joins e) t ys) ≡ map (λ (y : Story). y.number) ys ++ told_link e.command e.answer
-step_numbers s t g e ys stand legal =
-    let N : Story → ℕ = λ y. y.number in
-    let open_ : List Story = open_goes_on (changed s e.command).link (goes_on s (stretch_of g.joins e) t) ys in
-    map-append N open_ (begun_in e.command (Some e.answer) t) ∙ ap (λ ns. ns ++ map N (begun_in e.command (Some e.answer) t)) (open_numbers (changed s e.command).link s t (stretch_of g.joins e) ys)
-    ∙ ap (λ ns. map N ys ++ ns) (begun_numbers s t g e.command e.events e.answer (stories_behind s (stretch_of g.joins e) t ys) (step s t g e ys stand legal) legal.front legal.answered)
+openers_are : (ys : List Story) → all_of opener_in ys ≡ map (λ (y : Story). y.opener) ys
+openers_are [] = refl
+openers_are (y ∷ ys) = ap (λ zs. y.opener ∷ zs) (openers_are ys)
 
-all_numbers : (s t : State) (gs : List Given) (es : List Entry) (ys : List Story) → Stand s ys → EachLegal s gs es t
-    → map (λ (y : Story). y.number) (stories_from s ys (map (λ (g : Given). g.joins) gs) es) ≡ map (λ (y : Story). y.number) ys ++ told_links es
-all_numbers s t [] [] ys stand legal = sym (append-nil (map (λ (y : Story). y.number) ys))
-all_numbers s t [] (e ∷ es) ys stand legal = absurd legal
-all_numbers s t (g ∷ gs) [] ys stand legal = absurd legal
-all_numbers s t (g ∷ gs) (e ∷ es) ys stand legal =
-    let mid : State = legal.0 in
-    let ns : List Joins = map (λ (h : Given). h.joins) gs in
-    let N : Story → ℕ = λ y. y.number in
-    subst (λ x. map N (stories_from x (stories_behind s (stretch_of g.joins e) x ys) ns es) ≡ map N ys ++ told_links (e ∷ es)) legal.1.front.after
-    (all_numbers mid t gs es (stories_behind s (stretch_of g.joins e) mid ys) (step s mid g e ys stand legal.1) legal.2
-    ∙ ap (λ ks. ks ++ told_links es) (step_numbers s mid g e ys stand legal.1) ∙ append_assoc (map N ys) (told_link e.command e.answer) (told_links es))
+numbers_are : (ys : List Story) → all_of linked_in ys ≡ numbers_by_link ys
+numbers_are [] = refl
+numbers_are (y ∷ ys) = ap (λ zs. by_link y.opener y.number ++ zs) (numbers_are ys)
+
+openers_told : (es : List Entry) → of_entries opener_told es ≡ openers_in es
+openers_told [] = refl
+openers_told (e ∷ es) = ap (λ zs. opener_of (beginning e.command e.events (Some e.answer)) ++ zs) (openers_told es)
+
+numbers_told : (es : List Entry) → of_entries (λ c events a. told_link c a) es ≡ told_links es
+numbers_told [] = refl
+numbers_told (e ∷ es) = ap (λ zs. told_link e.command e.answer ++ zs) (numbers_told es)
+
+all_openers : (s t : State) (gs : List Given) (es : List Entry) → Stand s [] → EachLegal s gs es t
+    → map (λ (y : Story). y.opener) (stories_from s [] (map (λ (g : Given). g.joins) gs) es) ≡ openers_in es
+all_openers s t gs es stand legal =
+    sym (openers_are (stories_from s [] (map (λ (g : Given). g.joins) gs) es))
+    ∙ all_along opener_in opener_told (λ s t x y. refl) begun_openers s t gs es [] stand legal ∙ openers_told es
+
+all_numbers : (s t : State) (gs : List Given) (es : List Entry) → Stand s [] → EachLegal s gs es t
+    → numbers_by_link (stories_from s [] (map (λ (g : Given). g.joins) gs) es) ≡ told_links es
+all_numbers s t gs es stand legal =
+    sym (numbers_are (stories_from s [] (map (λ (g : Given). g.joins) gs) es))
+    ∙ all_along linked_in (λ c events a. told_link c a) (λ s t x y. refl) begun_numbers s t gs es [] stand legal ∙ numbers_told es
 
 -- An inbox on the way.
 inbox_so : (v : View) (o : Option OpenLink) (ys : List Story) → StandBy v o ys → (peer : ℕ) (k : Held) → at v peer ≡ Some k → inbox_of v.links peer k.accepted ≡ told_by_stories ys peer
@@ -439,7 +598,8 @@ link_law lines numbers journal last leads =
     record {
       accept = subst (AllByRecursion KeepsLinkLaw) (sym whole) all.0;
       arrived = subst (AllByRecursion IsByPayloads) (sym whole) (steps_kept first_state leads.given journal last [] (record { all = tt; going = tt }) leads.steps);
-      linked = ap (map (λ (y : Story). y.number)) whole ∙ all_numbers first_state last leads.given journal [] first_stand leads.steps;
+      opened = ap (map (λ (y : Story). y.opener)) whole ∙ all_openers first_state last leads.given journal first_stand leads.steps;
+      linked = ap numbers_by_link whole ∙ all_numbers first_state last leads.given journal first_stand leads.steps;
       counted = subst (AreCounted 1) (sym whole) all.1;
       inboxes = λ before e behind id split is.
           let steps : EachLegal first_state leads.given (before ++ e ∷ behind) last = subst (λ es. EachLegal first_state leads.given es last) split leads.steps in

@@ -53,11 +53,12 @@ use Rattle.bench_script.specs.declared.command.Command.TheVariants.{Link}
 use Rattle.bench_script.specs.declared.command.DeviceId.{DeviceId}
 use Rattle.bench_script.specs.declared.command.DeviceId.TheVariants.{A, V}
 use Rattle.bench_devices.specs.declared.device.Device.{Device}
-use Rattle.bench_devices.specs.declared.device.Device.TheVariants.{T2, T4, Peer, T5}
+use Rattle.bench_devices.specs.declared.device.Device.TheVariants.{T2, T4, Peer, T5, T3}
 use Rattle.bench_devices.specs.declared.polling.SeenKind.{SeenKind}
 use Rattle.bench_devices.specs.declared.polling.SeenKind.TheVariants as kinds
 use Rattle.bench_devices.specs.Answering.{TellsStanding}
 use Rattle.bench_devices.specs.Hearing.{IsAnswered}
+use Rattle.bench_devices.specs.Kinds.{DeviceKind, seen_by}
 use Rattle.bench_devices.specs.Device.{air, devices, device_linked, device_target, seen_of, is_tag, stable_of, StablePart}
 use Rattle.bench_devices.specs.Keeping.{Kept, kept, AreSound, AreTame, NoStore}
 use Rattle.bench_devices.specs.Opening.{linking, peer_next, Opens, Opened, OpeningEnds}
@@ -67,7 +68,7 @@ use Rattle.bench_devices.proofs.CalmDues.{calm_selecting}
 use Rattle.bench_devices.proofs.LinkFar.{opens_far}
 use Rattle.bench_devices.proofs.LinkingNotes.{link_asks}
 use Rattle.bench_devices.proofs.PeerLinks.{devices_link}
-use Rattle.bench_devices.proofs.TagOrPeer.{peer_seen, same_tag}
+use Rattle.bench_devices.proofs.TagOrPeer.{peer_kind, same_tag}
 use Rattle.bench_devices.proofs.Tidy.{going_tidy}
 use Rattle.bench_world.specs.declared.entry.Answer.{Answer as Told_answer}
 use Rattle.bench_world.specs.declared.entry.Answer.TheVariants as answers
@@ -292,12 +293,14 @@ module _ (ends : Ends) (peers : Peers) (old : Air Device) (id : List ℕ) (miu r
     tag_over (T4 d) tag general = refl
     tag_over (Peer d) tag general = absurd cc
     tag_over (T5 p) tag general = refl
+    tag_over (T3 p) tag general = refl
 
     tag_ends : (d : Device) → is_tag d ≡ true → (general : List ℕ) → LinkEnds count general (Ok (seen_of d)) [] answers.WrongKind
     tag_ends (T2 d) tag general = refl
     tag_ends (T4 d) tag general = refl
     tag_ends (Peer d) tag general = absurd cc
     tag_ends (T5 p) tag general = refl
+    tag_ends (T3 p) tag general = refl
 
     no_break : 0 < breaks s.selects.asked.going.events → ⊥
     no_break some = let is : ◌≡◌ {A = Result SeenKind PollFault} (Ok (seen_of s.device)) (Err faults.FieldLost) = s.selects.lost.1 some in cc
@@ -351,7 +354,7 @@ module _ (ends : Ends) (peers : Peers) (old : Air Device) (id : List ℕ) (miu r
     module _ (peer : is_tag s.device ≡ false) (far after : FarEnd) (there : get_or ends place None ≡ Some far) (new : Air Device) (result : Result (InitState × ArrayVec ℕ) EndCause)
         (o : Opens restarts (Answers serving 0) mid far new after (own_general miu) place s.device result) where
       told : selecting (A id) hs ≡ Told (Ok kinds.Peer) []
-      told = s.selects.told ∙ ap (λ k. Told (Ok k) []) (peer_seen s.device peer)
+      told = s.selects.told ∙ ap (λ (k : DeviceKind). Told (Ok (seen_by k)) []) (peer_kind s.device peer)
 
       pub fg : FarGoing devices device_linked peer_ends (linking (A id) (own_general miu)) (moment old) (moment new) (hs ++ o.notes) place ends (most far) (most after)
       fg =

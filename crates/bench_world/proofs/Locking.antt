@@ -9,7 +9,7 @@ use Rattle.bench_script.specs.declared.command.Command.{Command}
 use Rattle.bench_script.specs.declared.command.Command.TheVariants.{Lock, Busy, Dump}
 use Rattle.bench_script.specs.declared.command.DeviceId.{DeviceId}
 use Rattle.bench_devices.specs.declared.device.Device.{Device}
-use Rattle.bench_devices.specs.declared.device.Device.TheVariants.{T2, T4, Peer, T5}
+use Rattle.bench_devices.specs.declared.device.Device.TheVariants.{T2, T4, Peer, T5, T3}
 use Rattle.bench_world.specs.declared.entry.Answer.TheVariants.{Done, Store}
 use Rattle.bench_devices.specs.Choosing.{StandsAt}
 use Rattle.std.specs.List.{AllByRecursion}
@@ -66,6 +66,7 @@ locked_stays block (T2 d) = record { same_id = refl; link = refl; kind = refl; t
 locked_stays block (T4 d) = record { same_id = refl; link = refl; kind = refl; talks = locked_talks block (T4 d); sound = λ s. s; tidy = λ t. t }
 locked_stays block (Peer d) = record { same_id = refl; link = refl; kind = refl; talks = locked_talks block (Peer d); sound = λ s. s; tidy = λ t. t }
 locked_stays block (T5 p) = record { same_id = refl; link = refl; kind = refl; talks = locked_talks block (T5 p); sound = λ s. s; tidy = λ t. t }
+locked_stays block (T3 p) = record { same_id = refl; link = refl; kind = refl; talks = locked_talks block (T3 p); sound = λ s. s; tidy = λ t. t }
 
 -- one that asks for more time, no more often and by no greater value than it may
 busy_stays : (count times : ℕ) (d : Device) → count ≤ most_busy → (1 ≤ times) × (times ≤ longest_extension) → StaysPlaced (device_busy count times) d
@@ -87,6 +88,7 @@ busy_stays count times (Peer d) few long = record {
   tidy = λ t. t;
 }
 busy_stays count times (T5 p) few long = record { same_id = refl; link = refl; kind = refl; talks = busy_talks count times few long (T5 p); sound = λ s. s; tidy = λ t. t }
+busy_stays count times (T3 p) few long = record { same_id = refl; link = refl; kind = refl; talks = busy_talks count times few long (T3 p); sound = λ s. s; tidy = λ t. t }
 
 module _ (change : Device → Device) (d : Device) (stays : StaysPlaced change d) (behind : List Device) where
   -- far ends above it are shown as before

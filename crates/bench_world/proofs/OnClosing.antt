@@ -36,7 +36,7 @@ use Rattle.bench_world.specs.declared.entry.Loss.TheVariants as losses
 use Rattle.bench_world.specs.World.{FarEnd, WholeWorld}
 use Rattle.bench_world.specs.Calls.{stands_closing, told_closing, told_loss}
 use Rattle.bench_world.specs.Links.{OpenLink, accepted_by, ended, with_last_ended}
-use Rattle.bench_world.specs.Legal.{Joins, CutFront, HaltAdds, PeerHalts, due, peers_after, world_after}
+use Rattle.bench_world.specs.Legal.{Joins, CutFront, HaltAdds, Halts, due, peers_after, world_after}
 use Rattle.bench_world.specs.Obeying.{Machines, IsCutOffBy, IsSettled, ObeyedBy, state_at, under}
 use Rattle.bench_world.specs.Peers.{Peers}
 use Rattle.bench_world.specs.World.{bench_air}
@@ -202,16 +202,16 @@ module _ (air : Air Device) (ends : FarEnds) (peers : Peers) (l : OpenLink) (set
     short s accepted = inr (by_left (s.front device_linked devices_link spot (stands air ends peers l settled) ends))
       where
         by_left : ClosingFront ghosts device_linked peer_ends device_end (StopsCounted serving) joins.own from l.initiator air b spot ends counted after
-            → CutFront joins (from_state air ends peers l settled) Unlink b.trace (state_at gone) ⊎ PeerHalts joins (from_state air ends peers l settled) Unlink b.trace (state_at gone)
+            → CutFront joins (from_state air ends peers l settled) Unlink b.trace (state_at gone) ⊎ Halts joins (from_state air ends peers l settled) Unlink b.trace (state_at gone)
         by_left f = elim f.left [
           | inl (field, stays) ↦ inl (
               let T : Air Device → Choosing FarEnd → Type 0 = λ a e. ClosingTurns ghosts device_linked peer_ends joins.own from l.initiator air a spot ends counted e f.standing in
               let t : T b after = subst (T b) (sym stays) (subst (λ a. T a f.half) (sym field) f.turns) in
               closing_cut f.standing t (s.setting quiet) accepted (s.arrives quiet))
-          | inr (inl h) ↦ inr (
+          | inr (inl h) ↦ inr (inl (
               let t = f.turns in
               halted air ends peers l settled (closing_due joins.own from l.initiator) (closings_plain joins.own from l.initiator) Unlink joins f.mid f.half t.notes t.going refl tt refl refl (λ ns. refl)
               h.sent h.payload h.listeners b (ap closing_due_at t.stands ∙ h.asked) h.passes h.heard h.left
-              after.end [] (s.setting quiet) (accepted ∙ sym (append-nil far.service.accepted)) (of_end air ends peers l settled (λ e. HaltAdds Unlink e []) refl) refl after.numbers (s.arrives quiet))
+              after.end [] (s.setting quiet) (accepted ∙ sym (append-nil far.service.accepted)) (of_end air ends peers l settled (λ e. HaltAdds Unlink e []) refl) refl after.numbers (s.arrives quiet)))
           | inr (inr h) ↦ absurd (h.hands quiet)
         ]

@@ -22,11 +22,10 @@ use Rattle.snep_core.specs.Talk.{server_sap}
 use Rattle.snep_core.specs.Server.{Received, no_sessions}
 use Rattle.link_calls.specs.Staying.{Setting, setting_of}
 use Rattle.bench_devices.specs.declared.device.Device.{Device}
-use Rattle.bench_devices.specs.declared.device.Device.TheVariants.{T2, T4, Peer, T5}
-use Rattle.bench_devices.specs.declared.polling.SeenKind.{SeenKind}
-use Rattle.bench_devices.specs.declared.polling.SeenKind.TheVariants as seen_kind
+use Rattle.bench_devices.specs.declared.device.Device.TheVariants.{T2, T4, Peer, T5, T3}
 use Rattle.bench_devices.specs.Beside.{InStepAt, PeerAt, TalkLeaves}
-use Rattle.bench_devices.specs.Device.{devices, device_end, device_id, device_linked, is_tag, seen_of, stable_of, StablePart}
+use Rattle.bench_devices.specs.Kinds.{DeviceKind, T2Kind, T3Kind, T4Kind, PeerKind, T5Kind}
+use Rattle.bench_devices.specs.Device.{devices, device_end, device_id, device_linked, is_tag, stable_of, StablePart, kind_of}
 use Rattle.bench_devices.specs.Keeping.{Kept, ghosts, kept, AreTame}
 use Rattle.bench_devices.proofs.BesideLink.{at_split}
 use Rattle.bench_world.specs.World.{FarEnd, WholeWorld, bench_air}
@@ -50,22 +49,24 @@ set_long (o ∷ os) zero end after e = refl
 set_long (o ∷ os) (suc place) end after e = ap suc (set_long os place end after e)
 
 -- Peers alone have links.
-linked_kind : (d : Device) → device_linked d ≡ true → seen_of d ≡ seen_kind.Peer
+linked_kind : (d : Device) → device_linked d ≡ true → kind_of d ≡ PeerKind
 linked_kind (T2 d) e = absurd cc
 linked_kind (T4 d) e = absurd cc
 linked_kind (Peer d) e = refl
 linked_kind (T5 p) e = absurd cc
+linked_kind (T3 p) e = absurd cc
 
 linked_there : (before : List Device) (d : Device) (behind : List Device) → linked_at (length before) (before ++ d ∷ behind) ≡ device_linked d
 linked_there [] d behind = refl
 linked_there (x ∷ before) d behind = linked_there before d behind
 
 -- What a device's kept parts tell of it.
-tag_by : SeenKind → Bool
-tag_by seen_kind.T2 = true
-tag_by seen_kind.T4 = true
-tag_by seen_kind.Peer = false
-tag_by seen_kind.T5 = true
+tag_by : DeviceKind → Bool
+tag_by T2Kind = true
+tag_by T3Kind = true
+tag_by T4Kind = true
+tag_by PeerKind = false
+tag_by T5Kind = true
 
 tag_is : (d : Device) → is_tag d ≡ tag_by (kept d).fixed.kind
 unfolding tag_by
@@ -73,6 +74,7 @@ tag_is (T2 d) = refl
 tag_is (T4 d) = refl
 tag_is (Peer d) = refl
 tag_is (T5 p) = refl
+tag_is (T3 p) = refl
 
 same_tag : (l m : Device) → kept m ≡ kept l → is_tag m ≡ is_tag l
 same_tag l m e = tag_is m ∙ ap (λ (k : Kept). tag_by k.fixed.kind) e ∙ sym (tag_is l)

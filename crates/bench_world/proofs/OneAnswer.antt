@@ -1,4 +1,5 @@
 -- What happened decides what a command that polls answers.
+use Rattle.bench_world.specs.Forging.{ForgeEnds, ForgeTells}
 use Rattle.std.proofs.Common.{◌≡◌, ℕ, List, [], ◌∷◌, Option, Some, None, Result, Ok, Err, sym, ◌∙◌, ap, subst}
 use Rattle.nfc_base.specs.Signal.{Signal}
 use Rattle.nfc_base.specs.declared.event.Event.{Event}
@@ -13,7 +14,7 @@ use Rattle.bench_script.specs.declared.command.DeviceId.{DeviceId}
 use Rattle.bench_devices.specs.declared.device.Device.{Device}
 use Rattle.bench_world.specs.declared.entry.Answer.{Answer}
 use Rattle.bench_world.specs.declared.entry.Answer.TheVariants as answers
-use Rattle.bench_devices.specs.Device.{device_store, how_of, size_of, seen_of}
+use Rattle.bench_devices.specs.Device.{device_store, how_of, size_of, kind_of}
 use Rattle.bench_devices.proofs.TagOrPeer.{one_if}
 use Rattle.bench_script.specs.DeviceIds.{bytes_of}
 use Rattle.bench_devices.specs.Polling.{Told}
@@ -95,7 +96,7 @@ module _ (Tells : Device → Answer → Type 0) (one : (d : Device) → AtMostOn
 -- A read has one answer.
 one_telling_of : (d : Device) → AtMostOne (TellsOf d)
 one_telling_of d a b p q =
-    one_if (seen_of d) (Tells (how_of d) (size_of d) (device_store d)) answers.WrongKind (one_telling (how_of d) (size_of d) (device_store d)) a b p q
+    one_if (kind_of d) (Tells (how_of d) (size_of d) (device_store d)) answers.WrongKind (one_telling (how_of d) (size_of d) (device_store d)) a b p q
 
 pub one_read : (id : DeviceId) (ds : List Device) (asked : List Signal) (events : List Event) (a b : Answer) → TagTells TellsOf id ds asked events a → TagTells TellsOf id ds asked events b → a ≡ b
 one_read id ds asked events a b p q = one_tag TellsOf one_telling_of id ds asked events a b p q
@@ -165,6 +166,20 @@ one_link id ds n general events a b p q =
     let same = one_end q.polled p.polled q.behind p.behind (sym q.selected ∙ p.selected) in
     let ends : LinkEnds n general p.polled p.behind b = subst (λ ns. LinkEnds n general p.polled ns b) same.1 (subst (λ r. LinkEnds n general r q.behind b) same.0 q.ends) in
     one_link_end n general p.polled p.behind a b p.ends ends
+
+-- So has a sending of payloads.
+one_forge_end : (payloads : List (List ℕ)) (r : Result SeenKind PollFault) (behind : List Note) → AtMostOne (ForgeEnds payloads r behind)
+one_forge_end payloads (Ok seen.Peer) behind a b p q = same_some a b (sym p ∙ q)
+one_forge_end payloads (Ok seen.T2) behind a b p q = p ∙ sym q
+one_forge_end payloads (Ok seen.T4) behind a b p q = p ∙ sym q
+one_forge_end payloads (Ok seen.T5) behind a b p q = p ∙ sym q
+one_forge_end payloads (Err e) behind a b p q = same_some a b (sym p ∙ q)
+
+pub one_forge : (id : List ℕ) (ds : List Device) (payloads : List (List ℕ)) (events : List Event) (a b : Answer) → ForgeTells id ds payloads events a → ForgeTells id ds payloads events b → a ≡ b
+one_forge id ds payloads events a b p q =
+    let same = one_end q.polled p.polled q.behind p.behind (sym q.selected ∙ p.selected) in
+    let ends : ForgeEnds payloads p.polled p.behind b = subst (λ ns. ForgeEnds payloads p.polled ns b) same.1 (subst (λ r. ForgeEnds payloads r q.behind b) same.0 q.ends) in
+    one_forge_end payloads p.polled p.behind a b p.ends ends
 
 -- So has a command on the open link, by where it stands.
 pub one_told_so : (told : Option Answer) (events : List Event) (a b : Answer) → IsTold told events a → IsTold told events b → a ≡ b

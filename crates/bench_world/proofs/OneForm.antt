@@ -136,6 +136,7 @@ module _ (how : How) (size : ℕ) (store : List ℕ) where
   tells_form answers.NotImplemented t = absurd t
   tells_form (answers.Sap sap) t = absurd t
   tells_form (answers.LinkEnded loss) t = absurd t
+  tells_form (answers.Replies replies) t = absurd t
   tells_form answers.Unlinked t = absurd t
   tells_form answers.NoLink t = absurd t
 

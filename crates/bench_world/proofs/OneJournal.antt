@@ -4,12 +4,12 @@ use Rattle.nfc_base.specs.Signal.{Signal}
 use Rattle.nfc_base.specs.declared.event.Event.{Event}
 use Rattle.air_core.specs.Conversation.{Over, receptions}
 use Rattle.bench_script.specs.declared.command.Command.{Command}
-use Rattle.bench_script.specs.declared.command.Command.TheVariants.{Skip, Fates, PlaceT2, PlaceT4, PlaceT5, PlacePeer, Lock, Busy, Offer, Remove, Dump, Inbox, Find, Crowd, Read, Write, Link, Put, Get, Lookup, Unlink}
+use Rattle.bench_script.specs.declared.command.Command.TheVariants.{Skip, Fates, PlaceT2, PlaceT4, PlaceT5, PlacePeer, Lock, Busy, Offer, Remove, Dump, Inbox, Find, Crowd, Read, Write, Link, Forge, Put, Get, Lookup, Unlink}
 use Rattle.bench_devices.specs.declared.device.Device.{Device}
 use Rattle.bench_world.specs.declared.entry.Answer.{Answer}
 use Rattle.bench_world.specs.declared.entry.Answer.TheVariants.{Store}
 use Rattle.bench_world.specs.declared.entry.Entry.{Entry}
-use Rattle.bench_devices.specs.Device.{device_store, device_commands, how_of, size_of, seen_of, memory_in}
+use Rattle.bench_devices.specs.Device.{device_store, device_commands, how_of, size_of, memory_in, kind_of}
 use Rattle.bench_devices.proofs.TagOrPeer.{one_if}
 use Rattle.bench_world.specs.Reading.{ReadAsks}
 use Rattle.bench_world.specs.Writing.{WriteAsks}
@@ -31,17 +31,17 @@ use Rattle.bench_world.specs.Journal.{NumberedLine, AreEntriesOf, asking_lines, 
 use Rattle.bench_world.specs.SameCommands.{SameCommands}
 use Rattle.bench_script.proofs.Spelling.{spells_one}
 use Rattle.tag_reader.proofs.Lists.{one_list}
-use Rattle.bench_world.proofs.OneAnswer.{one_read, one_write, one_find, one_tags, one_link, one_told_so, one_linked}
+use Rattle.bench_world.proofs.OneAnswer.{one_read, one_write, one_find, one_tags, one_forge, one_link, one_told_so, one_linked}
 use Rattle.air_core.proofs.OneCourse.{one_course}
 
 one_asked_of : (o : Option Device) (a b : List Signal) → IfPlaced (λ d. ReadAsks d a) (a ≡ []) o → IfPlaced (λ d. ReadAsks d b) (b ≡ []) o → a ≡ b
 one_asked_of None a b p q = p ∙ sym q
-one_asked_of (Some d) a b p q = one_if (seen_of d) (AsksOf d) [] (one_list (how_of d) (size_of d) (device_store d)) a b p q
+one_asked_of (Some d) a b p q = one_if (kind_of d) (AsksOf d) [] (one_list (how_of d) (size_of d) (device_store d)) a b p q
 
 one_written_of : (message : List ℕ) (o : Option Device) (a b : List Signal) → IfPlaced (λ d. WriteAsks message d a) (a ≡ []) o → IfPlaced (λ d. WriteAsks message d b) (b ≡ []) o → a ≡ b
 one_written_of message None a b p q = p ∙ sym q
 one_written_of message (Some d) a b p q =
-    one_if (seen_of d) (AsksWriteOf message d) [] (one_write_list (how_of d) (size_of d) (device_commands d) (plain_state (device_store d)) message) a b p q
+    one_if (kind_of d) (AsksWriteOf message d) [] (one_write_list (how_of d) (size_of d) (device_commands d) (plain_state (device_store d)) message) a b p q
 
 -- a command asks one list of its tag
 one_asked_by : (s : State) (c : Command) (a b : List Signal) → IsAskedBy s c a → IsAskedBy s c b → a ≡ b
@@ -79,6 +79,7 @@ one_answer s Crowd g events a b p q = one_tags s.world.field.listeners events a 
 one_answer s (Read id) g events a b p q = one_read id s.world.field.listeners g.asked events a b p.tells q.tells
 one_answer s (Write id m) g events a b p q = one_write id s.world.field.listeners (message_of m) g.asked events a b p.tells q.tells
 one_answer s (Link id miu window) g events a b p q = one_link (A id) s.world.field.listeners (length s.peers.links + 1) (own_general miu) events a b p.tells q.tells
+one_answer s (Forge id payloads) g events a b p q = one_forge id s.world.field.listeners payloads events a b p.tells q.tells
 one_answer s (Put m) g events a b p q = one_called (Does (Puts (message_of m))) s (Put m) g events a b p q
 one_answer s (Get most key) g events a b p q = one_called (Does (Gets most key)) s (Get most key) g events a b p q
 one_answer s (Lookup name) g events a b p q = one_called (Does (Finds name)) s (Lookup name) g events a b p q

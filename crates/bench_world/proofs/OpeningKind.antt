@@ -1,4 +1,5 @@
--- Where a link is opened, whatever is lost: the device that is selected is the placed one with the identifier, so it is seen to be what it is.
+-- Where a link is opened, whatever is lost and whatever is asked behind the selection: the device that is selected is the placed one with the
+-- identifier, so it is seen to be what it is.
 use Rattle.std.proofs.Common.{◌≡◌, ◌⊎◌, inl, inr, ℕ, List, [], ◌∷◌, ◌++◌, map, Option, Some, Ok, Err, refl, sym, ◌∙◌, ap, subst, append_assoc}
 use Rattle.std.proofs.lemmas.List.{map-append}
 use Rattle.nfc_base.specs.Signal.{Signal}
@@ -10,6 +11,7 @@ use Rattle.air_core.specs.Turning.{due_weaker}
 use Rattle.far_air.specs.Quietly.{NoneHands, DoesQuietly}
 use Rattle.far_air.proofs.OnField.{quiet_fields}
 use Rattle.peer_air.specs.PeerFars.{peer_ends}
+use Rattle.nfca_poll.specs.declared.fault.PollFault.{PollFault}
 use Rattle.nfca_poll.specs.declared.kind.Kind.{Kind}
 use Rattle.nfca_poll.specs.Enquiry.{enquiring}
 use Rattle.nfca_poll.specs.Ident.{IsIdent}
@@ -17,9 +19,9 @@ use Rattle.nfca_poll.specs.Rounds.{device_of, picking}
 use Rattle.bench_script.specs.declared.command.DeviceId.TheVariants.{A}
 use Rattle.bench_devices.specs.declared.device.Device.{Device}
 use Rattle.bench_devices.specs.declared.polling.SeenKind.{SeenKind}
+use Rattle.bench_devices.specs.Kinds.{seen_by}
 use Rattle.bench_devices.specs.Device.{BenchWorld, air, devices, device_linked, seen_of}
 use Rattle.bench_devices.specs.Keeping.{Kept, kept, AreTame}
-use Rattle.bench_devices.specs.Opening.{linking, then_opens}
 use Rattle.bench_devices.specs.Phases.{AreTidy}
 use Rattle.bench_devices.specs.Placed.{device_with}
 use Rattle.bench_devices.specs.Polling as polls
@@ -37,7 +39,9 @@ use Rattle.bench_world.proofs.Placing.{IsWith, is_with}
 abbrev field_at : Moment WholeWorld → Moment BenchWorld
 field_at b = record { world = b.world.field; queue = b.queue; trace = b.trace }
 
-module _ (id general : List ℕ) (a : Moment WholeWorld) where
+-- what is due goes by the selection: what that asks first, and nothing behind its fault
+module _ (id : List ℕ) (next : List Note → Next) (goes : Followed SeenKind → Next) (by_selection : (hs : List Note) → next hs ≡ goes (selecting (A id) hs))
+    (asks_first : (n : Next) → goes (polls.Asks n) ≡ n) (ends_there : (e : PollFault) (ns : List Note) → goes (Told (Err e) ns) ≡ Over) (a : Moment WholeWorld) where
   -- the selection is over, and this was told
   record IsChosen (kind : Kind) : Type 0 where
     pub mid : Moment WholeWorld
@@ -68,29 +72,29 @@ module _ (id general : List ℕ) (a : Moment WholeWorld) where
       let none : ns ≡ [] = subst IsFresh at x.fresh in
       record { mid = b; front = hs; polls = x; told = at ∙ ap (λ ks. Told (Ok kind) ks) none }
 
-  due_by : (p : Followed Kind) (hs : List Note) (n : Next) → follows (picking id) hs ≡ p → linking (A id) general hs ≡ n → then_opens general (kind_by seen_kind p) ≡ n
-  due_by p hs n at due = sym (ap (λ q. then_opens general (kind_by seen_kind q)) at) ∙ due
+  due_by : (p : Followed Kind) (hs : List Note) (n : Next) → follows (picking id) hs ≡ p → next hs ≡ n → goes (kind_by seen_kind p) ≡ n
+  due_by p hs n at due = sym (ap (λ q. goes (kind_by seen_kind q)) at) ∙ sym (by_selection hs) ∙ due
 
-  turned : (b c : Moment WholeWorld) (hs : List Note) (f : Signal) (h : Option Heard) → Polls (picking id) bench_air a b hs → linking (A id) general hs ≡ Asks f → TurnsTo bench_air b c f h
+  turned : (b c : Moment WholeWorld) (hs : List Note) (f : Signal) (h : Option Heard) → Polls (picking id) bench_air a b hs → next hs ≡ Asks f → TurnsTo bench_air b c f h
       → (p : Followed Kind) → follows (picking id) hs ≡ p → Course c (hs ++ note h ∷ [])
   unfolding chosen_now
-  turned b c hs f h x due turn (polls.Asks n) at = inl (poll_turn (picking id) bench_air (search_closes (device_of id)) a b c hs f h n x at (due_by (polls.Asks n) hs (Asks f) at due) turn)
+  turned b c hs f h x due turn (polls.Asks n) at = inl (poll_turn (picking id) bench_air (search_closes (device_of id)) a b c hs f h n x at (sym (asks_first n) ∙ due_by (polls.Asks n) hs (Asks f) at due) turn)
   turned b c hs f h x due turn (Told (Ok kind) ns) at = inr (record { kind = kind; chosen = chosen_now b hs kind ns x at; since = note h ∷ []; is = refl })
-  turned b c hs f h x due turn (Told (Err e) ns) at = absurd (let clash : Over ≡ Asks f = due_by (Told (Err e) ns) hs (Asks f) at due in cc)
+  turned b c hs f h x due turn (Told (Err e) ns) at = absurd (let clash : Over ≡ Asks f = sym (ends_there e ns) ∙ due_by (Told (Err e) ns) hs (Asks f) at due in cc)
 
-  lit : (b : Moment WholeWorld) (hs : List Note) → Polls (picking id) bench_air a b hs → linking (A id) general hs ≡ LightUp → (p : Followed Kind) → follows (picking id) hs ≡ p
+  lit : (b : Moment WholeWorld) (hs : List Note) → Polls (picking id) bench_air a b hs → next hs ≡ LightUp → (p : Followed Kind) → follows (picking id) hs ≡ p
       → Course (with_events bench_air b (Reset ∷ [])) (hs ++ Lit ∷ [])
   unfolding chosen_now
   lit b hs x due (polls.Asks n) at =
-      inl (poll_lit (picking id) bench_air (search_closes (device_of id)) a b (with_events bench_air b (Reset ∷ [])) hs n x at (due_by (polls.Asks n) hs LightUp at due) refl)
+      inl (poll_lit (picking id) bench_air (search_closes (device_of id)) a b (with_events bench_air b (Reset ∷ [])) hs n x at (sym (asks_first n) ∙ due_by (polls.Asks n) hs LightUp at due) refl)
   lit b hs x due (Told (Ok kind) ns) at = inr (record { kind = kind; chosen = chosen_now b hs kind ns x at; since = Lit ∷ []; is = refl })
-  lit b hs x due (Told (Err e) ns) at = absurd (let clash : Over ≡ LightUp = due_by (Told (Err e) ns) hs LightUp at due in cc)
+  lit b hs x due (Told (Err e) ns) at = absurd (let clash : Over ≡ LightUp = sym (ends_there e ns) ∙ due_by (Told (Err e) ns) hs LightUp at due in cc)
 
-  turns_on : (b c : Moment WholeWorld) (hs : List Note) (f : Signal) (h : Option Heard) → Course b hs → linking (A id) general hs ≡ Asks f → TurnsTo bench_air b c f h → Course c (hs ++ note h ∷ [])
+  turns_on : (b c : Moment WholeWorld) (hs : List Note) (f : Signal) (h : Option Heard) → Course b hs → next hs ≡ Asks f → TurnsTo bench_air b c f h → Course c (hs ++ note h ∷ [])
   turns_on b c hs f h (inl x) due turn = turned b c hs f h x due turn (follows (picking id) hs) refl
   turns_on b c hs f h (inr x) due turn = inr (more hs (note h) x)
 
-  relit : (b : Moment WholeWorld) (hs : List Note) → Course b hs → linking (A id) general hs ≡ LightUp → Course (with_events bench_air b (Reset ∷ [])) (hs ++ Lit ∷ [])
+  relit : (b : Moment WholeWorld) (hs : List Note) → Course b hs → next hs ≡ LightUp → Course (with_events bench_air b (Reset ∷ [])) (hs ++ Lit ∷ [])
   relit b hs (inl x) due = lit b hs x due (follows (picking id) hs) refl
   relit b hs (inr x) due = inr (more hs Lit x)
 
@@ -141,9 +145,8 @@ module _ (id general : List ℕ) (a : Moment WholeWorld) where
 
   -- So the placed device is of the kind that is told.
   pub kind_told : IsIdent id → AreTame (map kept a.world.field.listeners) → AreTidy a.world.field.listeners → a.trace ≡ [] → (es : List Event) → AreTurns bench_air a.world es → FatesFrom a.queue es
-      → EachDue (linking (A id) general) [] es → (d : Device) → device_with id a.world.field.listeners ≡ Some d → (k : SeenKind) (behind : List Note) → selecting (A id) (receptions es) ≡ Told (Ok k) behind → seen_of d ≡ k
+      → EachDue next [] es → (d : Device) → device_with id a.world.field.listeners ≡ Some d → (k : SeenKind) (behind : List Note) → selecting (A id) (receptions es) ≡ Told (Ok k) behind → seen_of d ≡ k
   kind_told ident tame tidy none es made fates each d placed k behind told =
-      let next = linking (A id) general in
       let end =
       walk bench_air (λ q. Unit {0}) (λ q xs h. tt) next Course relit (λ b c hs f h x passes due turn. turns_on b c hs f h x due turn) made.moves a [] [] refl (inl (poll_start (picking id) bench_air a)) tt
       (subst (EachDue next []) made.made each) (subst (FatesFrom a.queue) made.made fates) in
@@ -155,7 +158,7 @@ module _ (id general : List ℕ) (a : Moment WholeWorld) where
       let w : IsWith a.world.field.listeners id (kept s.device) =
       is_with a.world.field.listeners (map kept s.stands.before) (kept s.device) (map kept s.stands.behind) id tame.sound split s.named in
       let same : w.device ≡ d = one_device w.device d (sym w.found ∙ placed) in
-      ap seen_of (sym same) ∙ ap (λ (x : Kept). x.fixed.kind) w.same ∙ s.kind_is ∙ r.same
+      ap seen_of (sym same) ∙ ap (λ (x : Kept). seen_by x.fixed.kind) w.same ∙ s.kind_is ∙ r.same
     where
       one_device : (x y : Device) → ◌≡◌ {A = Option Device} (Some x) (Some y) → x ≡ y
       one_device x y e = cc

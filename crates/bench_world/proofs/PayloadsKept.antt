@@ -1,5 +1,5 @@
 -- What each legal entry does to the stories of links, by what arrives.
-use Rattle.std.proofs.Common.{◌≡◌, ℕ, List, [], ◌∷◌, ◌++◌, map, Bool, true, false, if◌then◌else◌, Option, Some, None, append-nil, refl, sym, ◌∙◌, ap, subst}
+use Rattle.std.proofs.Common.{◌≡◌, ℕ, ◌+◌, List, [], ◌∷◌, ◌++◌, length, map, Bool, true, false, if◌then◌else◌, Option, Some, None, append-nil, refl, sym, ◌∙◌, ap, subst}
 use Rattle.std.specs.Cmp.Lexicographic.{pointwise}
 use Rattle.std.specs.List.{AllByRecursion}
 use Rattle.std.specs.Prelude.{nat_eq, option_map}
@@ -11,8 +11,9 @@ use Rattle.snep_core.specs.Server.{offered}
 use Rattle.snep_core.specs.Talk.{Ends as Finishes, Finds, Gets, GivesUp, Goes, Puts}
 use Rattle.link_calls.specs.CallDue.{CallStanding, Carries, Comes, BrokenBy, Strays}
 use Rattle.bench_script.specs.declared.command.Command.{Command}
-use Rattle.bench_script.specs.declared.command.Command.TheVariants.{Skip, Fates, PlaceT2, PlaceT4, PlaceT5, PlacePeer, Lock, Busy, Offer, Remove, Dump, Inbox, Find, Crowd, Read, Write, Link, Put, Get, Lookup, Unlink}
+use Rattle.bench_script.specs.declared.command.Command.TheVariants.{Skip, Fates, PlaceT2, PlaceT4, PlaceT5, PlacePeer, Lock, Busy, Offer, Remove, Dump, Inbox, Find, Crowd, Read, Write, Link, Forge, Put, Get, Lookup, Unlink}
 use Rattle.bench_script.specs.declared.command.DeviceId.{DeviceId}
+use Rattle.bench_script.specs.declared.command.DeviceId.TheVariants.{A}
 use Rattle.bench_script.specs.DeviceIds.{bytes_of}
 use Rattle.bench_script.specs.Messages.{message_of}
 use Rattle.bench_devices.specs.declared.device.Device.{Device}
@@ -27,12 +28,15 @@ use Rattle.bench_world.specs.ByPayloads.{IsByPayloads}
 use Rattle.link_calls.specs.Asking.{LinkAsking, Does, Closes}
 use Rattle.bench_world.specs.Asked.{asked_on_link}
 use Rattle.bench_world.specs.Calls.{IfLinked, asked_behind, call_behind, link_behind, stands_on}
-use Rattle.bench_world.specs.Legal.{State, Given, AnswerBy, AnswerLaw, CallLaw, EachLegal, LinkingLaw, begun, changed, due, is_linked_to, link_after, link_left, peers_left, state_after, unlinked, world_after}
+use Rattle.bench_world.specs.Legal.{State, Given, AnswerBy, AnswerLaw, CallLaw, EachLegal, ForgeLeaves, LinkingLaw, begun, changed, due, is_linked_to, link_after, link_left, peers_left, state_after, unlinked, world_after}
 use Rattle.bench_world.specs.Linking.{link_if, own_general}
 use Rattle.bench_world.specs.Links.{OpenLink, begun_if, end_numbered, ended_unless, is_number, is_with}
 use Rattle.bench_world.specs.Peers.{Peers, end_offered, new_end, next_number, placed_under, with_place_changed, without_place}
-use Rattle.bench_world.specs.Stories.{Story, Stretch, begun_in, open_goes_on, stretch_of}
+use Rattle.bench_world.specs.Stories.{ByForge, Story, Stretch, Beginning, BeginsAndEnds, NothingBegins, beginning, begun_by, open_goes_on, stretch_of}
 use Rattle.bench_world.proofs.PayloadsOn.{IsOffered, Kept, begun_kept, came_kept, none_kept, stays_kept}
+use Rattle.bench_world.specs.Forging.{forged_general, opens_link}
+use Rattle.bench_world.proofs.ForgeLeft.{forged_numbers}
+use Rattle.bench_world.proofs.PayloadsWithin.{begun_payloads, over_kept}
 use Rattle.bench_world.proofs.HeldOn.{nothing_sent}
 use Rattle.bench_world.proofs.OnLink.{none_numbered}
 use Rattle.bench_world.proofs.Unlinking.{same_numbers}
@@ -103,7 +107,7 @@ behind_peer : (n : ℕ) (c : CallStanding) (k : OpenLink) → link_behind n c �
 behind_peer n (Comes (Finishes jobs l) i) k e = (let same : record { peer = n; initiator = i; client = l } ≡ k = cc in sym (ap (λ (o : OpenLink). o.peer) same))
 behind_peer n (Comes (GivesUp l) i) k e = absurd cc
 behind_peer n (Comes (Goes w) i) k e = absurd cc
-behind_peer n (Carries w ns s) k e = absurd cc
+behind_peer n (Carries (w, ns) s) k e = absurd cc
 behind_peer n (BrokenBy c) k e = absurd cc
 behind_peer n Strays k e = absurd cc
 
@@ -141,15 +145,15 @@ module _ (s : State) (g : Given) (ys : List Story) (h : KeptIn s ys) where
   abbrev GoesOn : Option OpenLink → Command → List Event → Answer → Type 0
   GoesOn o c es answer = KeptIn (behind c es answer) (open_goes_on o (goes_on s (stretch c es answer) (behind c es answer)) ys)
 
-  plain : (c : Command) (es : List Event) (answer : Answer) → begun_in c (Some answer) (behind c es answer) ≡ [] → GoesOn (changed s c).link c es answer → Goal c es answer
+  plain : (c : Command) (es : List Event) (answer : Answer) → beginning c es (Some answer) ≡ NothingBegins → GoesOn (changed s c).link c es answer → Goal c es answer
   plain c es answer none kept =
       let t : State = behind c es answer in
       let zs : List Story = open_goes_on (changed s c).link (goes_on s (stretch c es answer) t) ys in
-      subst (KeptIn t) (sym (ap (λ xs. zs ++ xs) none ∙ append-nil zs)) kept
+      subst (KeptIn t) (sym (ap (λ (b : Beginning). zs ++ begun_by b (goes_on s (stretch c es answer) t) s t) none ∙ append-nil zs)) kept
 
   -- where nothing is due nothing was sent
   quiet : (c : Command) (es : List Event) (answer : Answer) → ((ns : List Note) → due s g c ns ≡ Over) → AreTurns bench_air (begun s g.joins c) es → EachDue (due s g c) [] es
-      → begun_in c (Some answer) (behind c [] answer) ≡ [] → GoesOn (changed s c).link c [] answer → Goal c es answer
+      → beginning c [] (Some answer) ≡ NothingBegins → GoesOn (changed s c).link c [] answer → Goal c es answer
   quiet c es answer over turns each none goal =
       subst (λ xs. Goal c xs answer) (sym (nothing_sent (begun s g.joins c) es turns (over_all es [] each))) (plain c [] answer none goal)
     where
@@ -274,7 +278,7 @@ module _ (s : State) (g : Given) (ys : List Story) (h : KeptIn s ys) where
       (λ l is. opened_first (placed_under id s.world.field.listeners ps) (device_with id s.world.field.listeners) miu rw l is)
   link_kept id miu rw es answer law = plain (Link id miu rw) es answer refl (none_kept s.link s (behind (Link id miu rw) es answer) ys h)
 
-  none_open : (c : Command) (es : List Event) (answer : Answer) → (changed s c).link ≡ None → (behind c es answer).link ≡ None → begun_in c (Some answer) (behind c es answer) ≡ [] → Goal c es answer
+  none_open : (c : Command) (es : List Event) (answer : Answer) → (changed s c).link ≡ None → (behind c es answer).link ≡ None → beginning c es (Some answer) ≡ NothingBegins → Goal c es answer
   none_open c es answer ended gone none =
       let t : State = behind c es answer in
       plain c es answer none (subst (λ o. Kept o t (open_goes_on (changed s c).link (goes_on s (stretch c es answer) t) ys)) (sym gone)
@@ -303,6 +307,16 @@ module _ (s : State) (g : Given) (ys : List Story) (h : KeptIn s ys) where
   step_kept (Read id) es answer turns each law = none_open (Read id) es answer refl refl refl
   step_kept (Write id m) es answer turns each law = none_open (Write id m) es answer refl refl refl
   step_kept (Link id miu rw) es answer turns each law = link_kept id miu rw es answer law
+  step_kept (Forge id payloads) es answer turns each law = by (opens_link id payloads es) refl law.leaves
+    where
+      by : (v : Bool) → opens_link id payloads es ≡ v → ForgeLeaves v s g.joins id payloads es → Goal (Forge id payloads) es answer
+      by true opened sends =
+          let c : Command = Forge id payloads in
+          let t : State = behind c es answer in
+          over_kept s t (stretch c es answer) ys h.all refl refl
+          (begun_payloads s t (stretch c es answer) ByForge (length s.peers.links + 1) sends.peer forged_general (forged_numbers (opens_link id payloads es) s (A id) (world_after s g.joins c es).fars) id
+          (ap (λ v. if v then BeginsAndEnds ByForge id forged_general else NothingBegins) opened) sends.placed refl sends.came)
+      by false unopened stays = none_open (Forge id payloads) es answer refl refl (ap (λ v. if v then BeginsAndEnds ByForge id forged_general else NothingBegins) unopened)
   step_kept (Put m) es answer turns each law = plain (Put m) es answer refl (talk_kept (Does (Puts (message_of m))) (Put m) es answer refl law)
   step_kept (Get most key) es answer turns each law = plain (Get most key) es answer refl (talk_kept (Does (Gets most key)) (Get most key) es answer refl law)
   step_kept (Lookup name) es answer turns each law = plain (Lookup name) es answer refl (talk_kept (Does (Finds name)) (Lookup name) es answer refl law)

@@ -21,7 +21,7 @@ use Rattle.bench_world.specs.ByPayloads.{AcceptsUntil, IsByPayloads, Place, end_
 use Rattle.bench_world.specs.Calls.{IfLinked, OfEnd}
 use Rattle.bench_world.specs.Legal.{State, Joins}
 use Rattle.bench_world.specs.Links.{OpenLink, end_numbered}
-use Rattle.bench_world.specs.Stories.{ByLink, Story, Stretch, arrived_by, brought_by, first_of, last_goes_on, open_goes_on, story_if, values_in, values_of}
+use Rattle.bench_world.specs.Stories.{ByLink, Story, Stretch, arrived_by, brought_by, first_of, last_goes_on, new_story, open_goes_on, story_if, values_in, values_of}
 use Rattle.bench_world.proofs.CountedOn.{brought_on, counted_on}
 use Rattle.bench_world.proofs.PutsTold.{accepted_more}
 use Rattle.bench_world.proofs.ServerRuns.{AreOfBytes, answered_is, arrivals_front, arrivals_put, behind_then, bytes_are, bytes_then, payloads_are, payloads_then, place_front, place_puts}
@@ -39,6 +39,32 @@ pub record OnLink (l : OpenLink) (s : State) (y : Story) : Type 0 where
   pub counted : IsCounted 0 y.events l.initiator.core.number
   pub table : List Offer
   pub stands : end_numbered l.peer s.peers.numbers s.world.fars ≡ Some (giving_values table (end_behind y.begun y.arrivals))
+
+-- The story of a link whose peer's end, in this state, gives these values, and accepted what it accepts by what arrived so
+-- far, counted to this PNI.
+pub record UpTo (n : ℕ) (s : State) (y : Story) : Type 0 where
+  pub old : FarEnd
+  pub begins : y.begun ≡ restarted serving old y.general
+  pub bytes : AreOfBytes y.arrivals
+  pub payloads : payloads_of y.arrivals ≡ brought 0 y.events
+  pub accepted : (end_behind y.begun y.arrivals).service.accepted ≡ y.begun.service.accepted ++ y.gained
+  pub counted : IsCounted 0 y.events n
+  pub table : List Offer
+  pub gives : values_in y.peer s ≡ table
+  pub had : accepted_in y.peer s ≡ (end_behind y.begun y.arrivals).service.accepted
+
+abbrev pub up_to : (l : OpenLink) (s : State) (y : Story) → OnLink l s y → UpTo l.initiator.core.number s y
+up_to l s y on = record {
+  old = on.old;
+  begins = on.begins;
+  bytes = on.bytes;
+  payloads = on.payloads;
+  accepted = on.accepted;
+  counted = on.counted;
+  table = on.table;
+  gives = ap (λ n. values_in n s) on.own ∙ ap values_of on.stands;
+  had = ap (λ n. accepted_in n s) on.own ∙ ap accepted_of on.stands;
+}
 
 same_behind : (a b c : List (List ℕ)) → a ++ b ≡ a ++ c → b ≡ c
 same_behind a b c e = sym (drop-append_seam a b) ∙ ap (drop (length a)) e ∙ drop-append_seam a c
@@ -82,12 +108,12 @@ by_payloads y old begins bytes payloads accepted = record {
     until p = record { puts = (ordered p).0; front = subst (IsFront (end_there p).service.accepted) accepted (ordered p).1 }
 
 -- More was done on it, by what more arrived.
-module _ (l : OpenLink) (s : State) (y : Story) (on : OnLink l s y) (x : Stretch) (bytes : AllByRecursion AreBytes (brought l.initiator.core.number x.events)) where
+module _ (n : ℕ) (s : State) (y : Story) (on : UpTo n s y) (x : Stretch) (bytes : AllByRecursion AreBytes (brought n x.events)) where
   abbrev pub here : FarEnd
   here = end_behind y.begun y.arrivals
 
   abbrev payloads : List (List ℕ)
-  payloads = brought l.initiator.core.number x.events
+  payloads = brought n x.events
 
   -- the end behind it
   abbrev pub end_then : FarEnd
@@ -98,13 +124,13 @@ module _ (l : OpenLink) (s : State) (y : Story) (on : OnLink l s y) (x : Stretch
 
   brought_is : brought_by x y ≡ payloads
   brought_is =
-      ap (drop (length (brought 0 y.events))) (brought_on 0 l.initiator.core.number y.events x.events on.counted)
+      ap (drop (length (brought 0 y.events))) (brought_on 0 n y.events x.events on.counted)
       ∙ drop-append_seam (brought 0 y.events) payloads
 
   pub came_is : came ≡ arrivals_of on.table x.joins.far payloads
   came_is =
       ap (λ ps. arrivals_of (values_in y.peer s) x.joins.far ps) brought_is
-      ∙ ap (λ t. arrivals_of t x.joins.far payloads) (ap (λ n. values_in n s) on.own ∙ ap values_of on.stands)
+      ∙ ap (λ t. arrivals_of t x.joins.far payloads) on.gives
 
   pub all_bytes : AreOfBytes (y.arrivals ++ came)
   all_bytes = bytes_then y.arrivals came on.bytes (subst AreOfBytes (sym came_is) (bytes_are on.table x.joins.far payloads bytes))
@@ -113,7 +139,7 @@ module _ (l : OpenLink) (s : State) (y : Story) (on : OnLink l s y) (x : Stretch
   all_payloads =
       payloads_then y.arrivals came ∙ ap (λ ps. ps ++ payloads_of came) on.payloads
       ∙ ap (λ ps. brought 0 y.events ++ ps) (ap payloads_of came_is ∙ payloads_are on.table x.joins.far payloads)
-      ∙ sym (brought_on 0 l.initiator.core.number y.events x.events on.counted)
+      ∙ sym (brought_on 0 n y.events x.events on.counted)
 
   pub all_end : end_behind y.begun (y.arrivals ++ came) ≡ end_then
   all_end = behind_then y.begun y.arrivals came ∙ ap (end_behind here) came_is
@@ -121,9 +147,6 @@ module _ (l : OpenLink) (s : State) (y : Story) (on : OnLink l s y) (x : Stretch
   module _ (t : State) (now : accepted_in y.peer t ≡ end_then.service.accepted) where
     abbrev gained : List Accepted
     gained = gained_by y.peer s t
-
-    had : accepted_in y.peer s ≡ here.service.accepted
-    had = ap (λ n. accepted_in n s) on.own ∙ ap accepted_of on.stands
 
     grows : IsFront here.service.accepted end_then.service.accepted
     grows =
@@ -133,7 +156,7 @@ module _ (l : OpenLink) (s : State) (y : Story) (on : OnLink l s y) (x : Stretch
     gains : IsFront here.service.accepted end_then.service.accepted → end_then.service.accepted ≡ here.service.accepted ++ gained
     gains (rest, e) =
         let so : gained ≡ rest =
-        ap (λ xs. drop (length xs) (accepted_in y.peer t)) had ∙ ap (drop (length here.service.accepted)) (now ∙ e) ∙ drop-append_seam here.service.accepted rest in
+        ap (λ xs. drop (length xs) (accepted_in y.peer t)) on.had ∙ ap (drop (length here.service.accepted)) (now ∙ e) ∙ drop-append_seam here.service.accepted rest in
         e ∙ ap (λ xs. here.service.accepted ++ xs) (sym so)
 
     accepted_is : (end_behind y.begun (y.arrivals ++ came)).service.accepted ≡ y.begun.service.accepted ++ (y.gained ++ gained)
@@ -144,18 +167,18 @@ module _ (l : OpenLink) (s : State) (y : Story) (on : OnLink l s y) (x : Stretch
     pub more_payloads : IsByPayloads (goes_on s x t y)
     more_payloads = by_payloads (goes_on s x t y) on.old on.begins all_bytes all_payloads accepted_is
 
-    pub more_on : (k : OpenLink) → IsCounted l.initiator.core.number x.events k.initiator.core.number → k.peer ≡ l.peer
-        → (table : List Offer) → end_numbered l.peer t.peers.numbers t.world.fars ≡ Some (giving_values table end_then) → OnLink k t (goes_on s x t y)
-    more_on k counted peer table stands = record {
-      own = on.own ∙ sym peer;
+    pub more_on : (k : OpenLink) → IsCounted n x.events k.initiator.core.number → y.peer ≡ k.peer
+        → (table : List Offer) → end_numbered y.peer t.peers.numbers t.world.fars ≡ Some (giving_values table end_then) → OnLink k t (goes_on s x t y)
+    more_on k counted own table stands = record {
+      own = own;
       old = on.old;
       begins = on.begins;
       bytes = all_bytes;
       payloads = all_payloads;
       accepted = accepted_is;
-      counted = counted_on 0 l.initiator.core.number y.events x.events on.counted k.initiator.core.number counted;
+      counted = counted_on 0 n y.events x.events on.counted k.initiator.core.number counted;
       table = table;
-      stands = ap (λ n. end_numbered n t.peers.numbers t.world.fars) peer ∙ stands ∙ ap (λ e. Some (giving_values table e)) (sym all_end);
+      stands = ap (λ m. end_numbered m t.peers.numbers t.world.fars) (sym own) ∙ stands ∙ ap (λ e. Some (giving_values table e)) (sym all_end);
     }
 
 -- of some stories the last is that of the open link
@@ -230,7 +253,8 @@ stays_kept (Some l) s t c joins told ys h same =
     let now = same l refl (giving_values on.table there) on.stands in
     let is : end_numbered l.peer t.peers.numbers t.world.fars ≡ Some (giving_values now.0 there) = now.1 in
     going_kept l s ys h (goes_on s x t) l t
-    (more_on l s h.going.last on x tt t (accepted_there l s t h.going.last on there.service.accepted (ap accepted_of is)) l refl refl now.0 is)
+    (more_on l.initiator.core.number s h.going.last (up_to l s h.going.last on) x tt t (accepted_there l s t h.going.last on there.service.accepted (ap accepted_of is)) l refl on.own now.0
+    (ap (λ n. end_numbered n t.peers.numbers t.world.fars) on.own ∙ is))
 
 -- what is accepted above
 pub above_is : (x : List Accepted) (o : Option FarEnd) → OfEnd (λ e. e.service.accepted ≡ x) o → accepted_of o ≡ x
@@ -252,7 +276,7 @@ came_kept l s t x ys now h numbers came peer = by now came.going peer
     there = end_behind y.begun y.arrivals
 
     end : FarEnd
-    end = end_then l s y on x came.arrives.bytes
+    end = end_then l.initiator.core.number s y (up_to l s y on) x came.arrives.bytes
 
     same : came.old ≡ giving_values on.table there
     same = let both : Some came.old ≡ Some (giving_values on.table there) = sym came.stood ∙ on.stands in cc
@@ -273,10 +297,11 @@ came_kept l s t x ys now h numbers came peer = by now came.going peer
 
     by : (now : Option OpenLink) → IfLinked now (λ k. (end_numbered l.peer s.peers.numbers t.world.fars ≡ Some came.new.end) × IsCounted l.initiator.core.number x.events k.initiator.core.number) (Unit {0})
         → ((k : OpenLink) → now ≡ Some k → k.peer ≡ l.peer) → Kept now t (last_goes_on (goes_on s x t) ys)
-    by None g p = ended_kept l s ys h (goes_on s x t) t (more_payloads l s y on x came.arrives.bytes t accepted)
+    by None g p = ended_kept l s ys h (goes_on s x t) t (more_payloads l.initiator.core.number s y (up_to l s y on) x came.arrives.bytes t accepted)
     by (Some k) g p =
         going_kept l s ys h (goes_on s x t) k t
-        (more_on l s y on x came.arrives.bytes t accepted k g.1 (p k refl) on.table (end_is ∙ g.0 ∙ ap Some new_is))
+        (more_on l.initiator.core.number s y (up_to l s y on) x came.arrives.bytes t accepted k g.1 (on.own ∙ sym (p k refl)) on.table
+        (ap (λ n. end_numbered n t.peers.numbers t.world.fars) on.own ∙ end_is ∙ g.0 ∙ ap Some new_is))
 
 -- no link is open then
 pub none_kept : (o : Option OpenLink) (s t : State) (ys : List Story) → Kept o s ys → Kept None t ys
@@ -297,7 +322,7 @@ begun_kept (Some l) s t number general ys all numbers begins first = by (end_num
     by None b = absurd b
     by (Some old) b =
         let end : FarEnd = restarted serving old general in
-        let y : Story = record { number = number; opener = ByLink; peer = l.peer; general = general; begun = end; events = []; arrivals = []; puts = []; gained = [] } in
+        let y : Story = new_story number ByLink l.peer general end in
         let on : OnLink l t y = record {
           own = refl;
           old = old;

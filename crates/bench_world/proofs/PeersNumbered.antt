@@ -3,7 +3,7 @@ use Rattle.std.proofs.Common.{◌≡◌, ℕ, suc, ◌+◌, List, [], ◌∷◌,
 use Rattle.std.specs.Cmp.Lexicographic.{pointwise}
 use Rattle.far_air.specs.FarEnds.{first_far, later_fars}
 use Rattle.bench_devices.specs.declared.device.Device.{Device}
-use Rattle.bench_devices.specs.declared.device.Device.TheVariants.{T2, T4, Peer, T5}
+use Rattle.bench_devices.specs.declared.device.Device.TheVariants.{T2, T4, Peer, T5, T3}
 use Rattle.bench_devices.specs.Device.{device_busy, device_id, device_locked, is_tag}
 use Rattle.std.proofs.lemmas.List.{length-append}
 use Rattle.bench_devices.specs.Keeping.{AllStayDevices}
@@ -84,12 +84,14 @@ locked_kind block (T2 d) = refl
 locked_kind block (T4 d) = refl
 locked_kind block (Peer d) = refl
 locked_kind block (T5 p) = refl
+locked_kind block (T3 p) = refl
 
 pub busy_kind : (count times : ℕ) (d : Device) → is_tag (device_busy count times d) ≡ is_tag d
 busy_kind count times (T2 d) = refl
 busy_kind count times (T4 d) = refl
 busy_kind count times (Peer d) = refl
 busy_kind count times (T5 p) = refl
+busy_kind count times (T3 p) = refl
 
 -- each device has a place for a far end, and each peer a number
 pub record HavePlaces (ds : List Device) (ps : List (Option ℕ)) (os : List (Option FarEnd)) : Type 0 where

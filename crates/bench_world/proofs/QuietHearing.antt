@@ -1,4 +1,5 @@
 -- On quiet air no reception is bad but the silences of polling, and a script without noise comes to what it should.
+use Rattle.bench_world.specs.Legal.{ForgeLaw}
 use Rattle.std.proofs.Common.{◌≡◌, ◌⊎◌, inl, inr, ℕ, List, [], ◌∷◌, ◌++◌, true, false, Option, Some, None, IsSome, Ok, refl, sym, ◌∙◌, ap, subst}
 use Rattle.std.specs.List.{AllByRecursion}
 use Rattle.nfc_base.specs.Signal.{Signal}
@@ -7,7 +8,7 @@ use Rattle.nfc_base.specs.Trace.{noise}
 use Rattle.nfc_base.specs.declared.event.Fate.{Fate}
 use Rattle.air_core.specs.Conversation.{Note, Next, LightUp, AreTurns, FatesFrom, EachDue, Moment, receptions}
 use Rattle.bench_script.specs.declared.command.Command.{Command}
-use Rattle.bench_script.specs.declared.command.Command.TheVariants.{Skip, Fates, PlaceT2, PlaceT4, PlaceT5, PlacePeer, Lock, Busy, Offer, Remove, Dump, Inbox, Find, Crowd, Read, Write, Link, Put, Get, Lookup, Unlink}
+use Rattle.bench_script.specs.declared.command.Command.TheVariants.{Skip, Fates, PlaceT2, PlaceT4, PlaceT5, PlacePeer, Lock, Busy, Offer, Remove, Dump, Inbox, Find, Crowd, Read, Write, Link, Forge, Put, Get, Lookup, Unlink}
 use Rattle.bench_script.specs.declared.command.DeviceId.{DeviceId}
 use Rattle.bench_script.specs.declared.command.DeviceId.TheVariants.{A, V}
 use Rattle.bench_script.specs.declared.message.Msg.{Msg}
@@ -16,8 +17,8 @@ use Rattle.bench_script.specs.Messages.{message_of}
 use Rattle.bench_script.specs.Script.{Spells, SpellsId}
 use Rattle.tag_reader.specs.Asked.{ToRead}
 use Rattle.bench_devices.specs.declared.device.Device.{Device}
-use Rattle.bench_devices.specs.Device.{BenchWorld, air, how_of, seen_of, is_tag}
-use Rattle.bench_devices.proofs.TagOrPeer.{tag_or_peer, of_tag, of_peer, either_if}
+use Rattle.bench_devices.specs.Device.{BenchWorld, air, how_of, kind_of, may_be_read}
+use Rattle.bench_devices.proofs.TagOrPeer.{read_or_not, of_read, of_unread, either_if}
 use Rattle.isodep_link.proofs.Heeding.{AreBytes}
 use Rattle.bench_world.specs.Reading.{ReadAsks}
 use Rattle.bench_world.specs.Writing.{WriteAsks}
@@ -41,6 +42,7 @@ use Rattle.bench_world.specs.Legal.{State, Given, LegalStep, AnswerLaw, LinkingL
 use Rattle.bench_world.specs.Quiet.{AllPass}
 use Rattle.bench_world.specs.QuietHearing.{AllAlong, selected_by, AnswersAll, IsWellHeard, IsHeardIfQuiet, IsQuietLine, IsQuietEntry, QuietHears, QuietScript}
 use Rattle.bench_world.proofs.Complete.{of_first}
+use Rattle.bench_world.proofs.CompleteForging.{forges_quietly}
 use Rattle.bench_world.proofs.CompleteLinkings.{links_quietly}
 use Rattle.bench_world.proofs.Fronts.{on_field}
 use Rattle.bench_world.proofs.Placing.{IsWith, is_with, with_sound}
@@ -66,11 +68,11 @@ heed s r id asked Asks each asks d before behind split named =
     subst (λ (k : Kept). AllByRecursion (IsHeeded k.fixed.how) asked) w.same (each w.device (with_sound s.world.field.listeners (bytes_of id) w.device r.tame.sound w.found) readable here)
 
 -- it heeds what a write asks of it, and nothing is asked of a peer
-writes_heeded : (message : List ℕ) (d : Device) → (is_tag d ≡ true) ⊎ (is_tag d ≡ false) → (asked : List Signal) → IsSound (kept d) → IsReadable d → AreBytes message → WriteAsks message d asked
+writes_heeded : (message : List ℕ) (d : Device) → (may_be_read d ≡ true) ⊎ (may_be_read d ≡ false) → (asked : List Signal) → IsSound (kept d) → IsReadable d → AreBytes message → WriteAsks message d asked
     → AllByRecursion (IsHeeded (how_of d)) asked
-writes_heeded message d (inl tag) asked sound readable bytes asks = write_heeded message d asked tag sound readable bytes (of_tag d tag _ _ asks)
+writes_heeded message d (inl tag) asked sound readable bytes asks = write_heeded message d asked tag sound readable bytes (of_read d tag _ _ asks)
 writes_heeded message d (inr peer) asked sound readable bytes asks =
-    subst (AllByRecursion (IsHeeded (how_of d))) (sym (of_peer d peer _ _ asks)) tt
+    subst (AllByRecursion (IsHeeded (how_of d))) (sym (of_unread d peer _ _ asks)) tt
 
 -- a line names a device by an identifier that one may have
 spelled_id : (s : State) (r : IsReady s.world.field.listeners) (asked : List Signal) (word : List ℕ) (id : DeviceId) → SpellsId word id → IsId asked (start s) r.tame r.tidy id
@@ -89,14 +91,14 @@ module _ (s t : State) (g : Given) (line : List ℕ) (e : Entry) (r : IsReady s.
       let spelled : Spells line (Read id) = let C : Command → Type 0 = λ c. Spells line c in subst C is sp in
       tag_answered id (λ h. subst UsesFars is h) (ap (λ c. (changed s c).queue) is) (ap (λ c. (changed s c).world.field) is) (ap (λ c. due s g c) is) (spelled_id s r g.asked spelled.0 id spelled.2)
       (heed s r id g.asked (λ d. ReadAsks d g.asked)
-      (λ d sound bytes asks. either_if (seen_of d) _ _ _ (λ p. asked_heeded ToRead d g.asked sound bytes p) (λ none. subst (AllByRecursion (IsHeeded (how_of d))) (sym none) tt) asks) (subst (λ c. IsAskedBy s c g.asked) is step.front.asks))
+      (λ d sound bytes asks. either_if (kind_of d) _ _ _ (λ p. asked_heeded ToRead d g.asked sound bytes p) (λ none. subst (AllByRecursion (IsHeeded (how_of d))) (sym none) tt) asks) (subst (λ c. IsAskedBy s c g.asked) is step.front.asks))
 
   write_answered : (id : DeviceId) (m : Msg) → e.command ≡ Write id m → AnswersAll id e
   write_answered id m is =
       let spelled : Spells line (Write id m) = let C : Command → Type 0 = λ c. Spells line c in subst C is sp in
       tag_answered id (λ h. subst UsesFars is h) (ap (λ c. (changed s c).queue) is) (ap (λ c. (changed s c).world.field) is) (ap (λ c. due s g c) is) (spelled_id s r g.asked spelled.0 id spelled.3)
       (heed s r id g.asked (λ d. WriteAsks (message_of m) d g.asked)
-      (λ d sound bytes asks. writes_heeded (message_of m) d (tag_or_peer d) g.asked sound bytes (message_bytes spelled.1 m spelled.4) asks)
+      (λ d sound bytes asks. writes_heeded (message_of m) d (read_or_not d) g.asked sound bytes (message_bytes spelled.1 m spelled.4) asks)
       (subst (λ c. IsAskedBy s c g.asked) is step.front.asks))
 
   none : noise e.events ≡ 0
@@ -105,6 +107,12 @@ module _ (s t : State) (g : Given) (line : List ℕ) (e : Entry) (r : IsReady s.
   link_answered : (i : List ℕ) (miu window : ℕ) → e.command ≡ Link i miu window → AnswersAll (A i) e
   link_answered i miu window is kind since told =
       let law : LinkingLaw s g.joins i miu window e.events e.answer = (let L : Command → Type 0 = λ c. AnswerLaw s g c e.events e.answer in subst L is step.answered) in
+      let same = one_end law.tells.polled (Ok kind) law.tells.behind since (sym law.tells.selected ∙ told) in
+      subst (AllByRecursion IsAnswered) same.1 (law.tells.calm none)
+
+  forge_answered : (i : List ℕ) (payloads : List (List ℕ)) → e.command ≡ Forge i payloads → AnswersAll (A i) e
+  forge_answered i payloads is kind since told =
+      let law : ForgeLaw s g.joins i payloads e.events e.answer = (let L : Command → Type 0 = λ c. AnswerLaw s g c e.events e.answer in subst L is step.answered) in
       let same = one_end law.tells.polled (Ok kind) law.tells.behind since (sym law.tells.selected ∙ told) in
       subst (AllByRecursion IsAnswered) same.1 (law.tells.calm none)
 
@@ -150,6 +158,7 @@ module _ (s t : State) (g : Given) (line : List ℕ) (e : Entry) (r : IsReady s.
   by_command Find is id of = absurd cc
   by_command Crowd is id of = absurd cc
   by_command (Link i miu window) is id of = let same : A i ≡ id = cc in subst (λ x. AnswersAll x e) same (link_answered i miu window is)
+  by_command (Forge i payloads) is id of = let same : A i ≡ id = cc in subst (λ x. AnswersAll x e) same (forge_answered i payloads is)
   by_command (Put m) is id of = absurd cc
   by_command (Get most key) is id of = absurd cc
   by_command (Lookup name) is id of = absurd cc
@@ -201,6 +210,7 @@ passes_still s line Crowd h q sp = h
 passes_still s line (Read id) h q sp = h
 passes_still s line (Write id m) h q sp = h
 passes_still s line (Link id miu window) h q sp = h
+passes_still s line (Forge id payloads) h q sp = h
 passes_still s line (Put m) h q sp = h
 passes_still s line (Get most key) h q sp = h
 passes_still s line (Lookup name) h q sp = h
@@ -219,6 +229,7 @@ quiet_entry s t g line e calm q sp step =
         finds = λ is. quiet_finds s t g e step is calm.queue;
         tags = λ is. quiet_tags s t g e step is calm.queue;
         links = links_quietly s t g e calm.ready step calm.queue;
+        forges = forges_quietly s t g e calm.ready step calm.queue;
         talks = quiet_talks s t g e step calm.queue;
       },
       record { ready = ready_step s t g line e sp step calm.ready; queue = on.1 },

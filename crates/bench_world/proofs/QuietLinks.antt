@@ -42,7 +42,7 @@ record GoesOnWith (peer : ℕ) (o : Option OpenLink) : Type 0 where
   pub same : now.peer ≡ peer
 
 goes_on : (peer : ℕ) (c : CallStanding) (answer : Answer) → told_call c ≡ Some answer → GoesOn answer → GoesOnWith peer (link_behind peer c)
-goes_on peer (Carries w ns s) answer told on = absurd (none_told answer told)
+goes_on peer (Carries (w, ns) s) answer told on = absurd (none_told answer told)
 goes_on peer (Comes (Goes w) i) answer told on = absurd (none_told answer told)
 goes_on peer (Comes (GivesUp l) i) answer told on = absurd (none_told answer told)
 goes_on peer (Comes (Ends jobs l) i) answer told on = record { now = record { peer = peer; initiator = i; client = l }; is = refl; same = refl }

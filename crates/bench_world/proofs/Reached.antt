@@ -11,14 +11,14 @@ use Rattle.isodep_link.specs.Reader.{longest_extension}
 use Rattle.isodep_link.proofs.Heeding.{AreBytes, no_bytes}
 use Rattle.t4t_tag.specs.Store.{file_size}
 use Rattle.bench_script.specs.declared.command.Command.{Command}
-use Rattle.bench_script.specs.declared.command.Command.TheVariants.{Skip, Fates, PlaceT2, PlaceT4, PlaceT5, PlacePeer, Lock, Busy, Offer, Remove, Dump, Inbox, Find, Crowd, Read, Write, Link, Put, Get, Lookup, Unlink}
+use Rattle.bench_script.specs.declared.command.Command.TheVariants.{Skip, Fates, PlaceT2, PlaceT4, PlaceT5, PlacePeer, Lock, Busy, Offer, Remove, Dump, Inbox, Find, Crowd, Read, Write, Link, Forge, Put, Get, Lookup, Unlink}
 use Rattle.bench_script.specs.declared.message.Msg.{Msg}
 use Rattle.bench_script.specs.declared.message.Msg.TheVariants.{Hex, Gen}
 use Rattle.bench_script.specs.DeviceIds.{bytes_of}
 use Rattle.bench_script.specs.Messages.{message_of}
 use Rattle.bench_script.specs.Script.{Spells, SpellsHex, SpellsMsg, is_skipped}
 use Rattle.bench_devices.specs.declared.device.Device.{Device}
-use Rattle.bench_devices.specs.declared.device.Device.TheVariants.{T2, T4, Peer, T5}
+use Rattle.bench_devices.specs.declared.device.Device.TheVariants.{T2, T4, Peer, T5, T3}
 use Rattle.bench_devices.specs.Device.{most_devices, device_id, new_t2, new_t4, new_t5, new_peer, device_locked, device_busy}
 use Rattle.bench_devices.specs.Keeping.{Fixed, kept, container_of, IsSound, IsApart, AreSound, AreTame, AllStayDevices}
 use Rattle.bench_devices.specs.Phases.{IsTidy, AreTidy}
@@ -117,24 +117,28 @@ locked_stays block (T2 d) = record { same_id = refl; container = refl; sound = �
 locked_stays block (T4 d) = record { same_id = refl; container = refl; sound = λ s. s }
 locked_stays block (Peer d) = record { same_id = refl; container = refl; sound = λ s. s }
 locked_stays block (T5 p) = record { same_id = refl; container = refl; sound = λ s. s }
+locked_stays block (T3 p) = record { same_id = refl; container = refl; sound = λ s. s }
 
 locked_tidy : (block : ℕ) (d : Device) → IsTidy d → IsTidy (device_locked block d)
 locked_tidy block (T2 d) t = t
 locked_tidy block (T4 d) t = t
 locked_tidy block (Peer d) t = t
 locked_tidy block (T5 p) t = t
+locked_tidy block (T3 p) t = t
 
 busy_stays : (count times : ℕ) → count ≤ most_busy → (1 ≤ times) × (times ≤ longest_extension) → (d : Device) → StaysReady d (device_busy count times d)
 busy_stays count times few long (T2 d) = record { same_id = refl; container = refl; sound = λ s. s }
 busy_stays count times few long (T4 d) = record { same_id = refl; container = refl; sound = λ s. (s.0, s.1, s.2, s.3, s.4, record { made = refl; busy = few; times = long }) }
 busy_stays count times few long (Peer d) = record { same_id = refl; container = refl; sound = λ s. (s.0, s.1, busy_made d.id d.upper count times few long s.2) }
 busy_stays count times few long (T5 p) = record { same_id = refl; container = refl; sound = λ s. s }
+busy_stays count times few long (T3 p) = record { same_id = refl; container = refl; sound = λ s. s }
 
 busy_tidy : (count times : ℕ) (d : Device) → IsTidy d → IsTidy (device_busy count times d)
 busy_tidy count times (T2 d) t = t
 busy_tidy count times (T4 d) t = t
 busy_tidy count times (Peer d) t = t
 busy_tidy count times (T5 p) t = t
+busy_tidy count times (T3 p) t = t
 
 -- a device is taken away
 rest_of : {X : Type 0} (g : Device → X) (P : X → Type 0) (id : List ℕ) (ds : List Device) → AllByRecursion P (map g ds) → AllByRecursion P (map g (without id ds))
@@ -235,6 +239,7 @@ ready_changed s line Crowd sp is r = r
 ready_changed s line (Read id) sp is r = r
 ready_changed s line (Write id m) sp is r = r
 ready_changed s line (Link id miu window) sp is r = r
+ready_changed s line (Forge id payloads) sp is r = r
 ready_changed s line (Put m) sp is r = r
 ready_changed s line (Get most key) sp is r = r
 ready_changed s line (Lookup name) sp is r = r

@@ -18,7 +18,7 @@ use Rattle.nfc_base.specs.declared.event.Fate.{Fate}
 use Rattle.nfc_base.specs.declared.event.Fate.TheVariants.{Pass, Damage, Lose, Break}
 use Rattle.bench_script.specs.Canonical.{hex_text}
 use Rattle.bench_world.specs.declared.entry.Answer.{Answer as Said}
-use Rattle.bench_world.specs.declared.entry.Answer.TheVariants.{Done, Store, Found, Crowd, Message, NotNdef, Version, NoRead, Sectors, BadSize, NoMessageTlv, BadTlv, Disturbed, FieldLost, NotFound, SixBad, Written, Refused, ReadOnly, TooLong, ShortMlc, WrongKind, Inbox, Linked, Success, Reject, Value, NoValue, Excess, NotImplemented, Sap, LinkEnded, Unlinked, NoLink}
+use Rattle.bench_world.specs.declared.entry.Answer.TheVariants.{Done, Store, Found, Crowd, Message, NotNdef, Version, NoRead, Sectors, BadSize, NoMessageTlv, BadTlv, Disturbed, FieldLost, NotFound, SixBad, Written, Refused, ReadOnly, TooLong, ShortMlc, WrongKind, Inbox, Linked, Success, Reject, Value, NoValue, Excess, NotImplemented, Sap, LinkEnded, Replies, Unlinked, NoLink}
 use Rattle.bench_world.specs.Report.{tail_text, frame_text, fate_text, sent_text, event_text, answer_text, line_text}
 use Rattle.bench_world.specs.ReadBack.{IsOf, LinesTellEvents, AnswersApart}
 
@@ -235,6 +235,7 @@ letter_first Excess = omega arith
 letter_first NotImplemented = omega arith
 letter_first (Sap sap) = omega arith
 letter_first (LinkEnded loss) = omega arith
+letter_first (Replies replies) = omega arith
 letter_first Unlinked = omega arith
 letter_first NoLink = omega arith
 

@@ -18,8 +18,8 @@ use Rattle.bench_script.specs.declared.message.Msg.{Msg}
 use Rattle.bench_script.specs.DeviceIds.{bytes_of}
 use Rattle.bench_script.specs.Messages.{message_of}
 use Rattle.bench_devices.specs.declared.device.Device.{Device}
-use Rattle.bench_devices.specs.Device.{device_store, how_of, size_of, is_tag}
-use Rattle.bench_devices.proofs.TagOrPeer.{told_tag, of_tag, same_tag}
+use Rattle.bench_devices.specs.Device.{device_store, how_of, size_of, may_be_read}
+use Rattle.bench_devices.proofs.TagOrPeer.{told_read, of_read, same_read}
 use Rattle.bench_devices.specs.Keeping.{Fixed}
 use Rattle.bench_devices.specs.Writing.{ShowsWrite, KeepsWriteLaw}
 use Rattle.bench_world.specs.declared.entry.Answer.{Answer}
@@ -87,11 +87,11 @@ module _ (id : DeviceId) (tag : Device) (m : Msg) (answer : Answer) (message : L
   no_wrong : answers.Message message r.writable ≡ answers.WrongKind → ⊥
   no_wrong e = cc
 
-  tag_there : is_tag at_read.device ≡ true
-  tag_there = told_tag at_read.device _ _ no_wrong told_there
+  tag_there : may_be_read at_read.device ≡ true
+  tag_there = told_read at_read.device _ _ no_wrong told_there
 
-  is_one : is_tag tag ≡ true
-  is_one = same_tag tag at_read.device (sym (at_read.alike.kind ∙ ap (λ (k : Fixed). k.kind) behind.same)) ∙ tag_there
+  is_one : may_be_read tag ≡ true
+  is_one = same_read tag at_read.device (sym (at_read.alike.kind ∙ ap (λ (k : Fixed). k.kind) behind.same)) ∙ tag_there
 
   keeps : KeepsWriteLaw (message_of m) tag (ending_told answer) r.before.world.field r.write.events
   keeps = subst (λ a. KeepsWriteLaw (message_of m) tag (ending_told a) r.before.world.field r.write.events) r.answered (behind.keeps is_one)
@@ -99,7 +99,7 @@ module _ (id : DeviceId) (tag : Device) (m : Msg) (answer : Answer) (message : L
   -- what it holds then has this form
   form : IsStoreForm (how_of tag) (size_of tag) last (Message message)
   form =
-      let tells = of_tag at_read.device tag_there _ _ told_there in
+      let tells = of_read at_read.device tag_there _ _ told_there in
       let how : how_of at_read.device ≡ how_of tag = at_read.alike.how ∙ ap (λ (k : Fixed). k.how) behind.same in
       let size : size_of at_read.device ≡ size_of tag = at_read.alike.size ∙ ap (λ (k : Fixed). k.size) behind.same in
       let store : device_store at_read.device ≡ last = at_read.alike.store ∙ behind.store in

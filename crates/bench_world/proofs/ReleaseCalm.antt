@@ -32,7 +32,7 @@ use Rattle.nfca_poll.specs.Front.{Front, Off, Idle, Sleep, Ready, Active, is_act
 use Rattle.nfca_poll.specs.Fronted.{Fronted, active_answer}
 use Rattle.snep_core.specs.Server.{serving}
 use Rattle.bench_devices.specs.declared.device.Device.{Device}
-use Rattle.bench_devices.specs.declared.device.Device.TheVariants.{T2, T4, Peer, T5}
+use Rattle.bench_devices.specs.declared.device.Device.TheVariants.{T2, T4, Peer, T5, T3}
 use Rattle.bench_devices.specs.Beside.{InStepAt}
 use Rattle.bench_devices.specs.Device.{devices, device_end, device_linked, device_selected}
 use Rattle.bench_devices.specs.Keeping.{ghosts}
@@ -64,6 +64,7 @@ rls_says (T2 d) a linked heeds = absurd cc
 rls_says (T4 d) a linked heeds = absurd cc
 rls_says (Peer d) a linked heeds = says_by d.front d.id d.upper a linked heeds
 rls_says (T5 p) a linked heeds = absurd cc
+rls_says (T3 p) a linked heeds = absurd cc
 
 -- a turn in which something was said, and all passed
 said_calm : (f g : Signal) (x y : Fate) → noise (tag_events f x y (Some g)) ≡ 0 → bad_receptions (tag_events f x y (Some g)) ≡ 0

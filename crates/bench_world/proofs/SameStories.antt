@@ -4,10 +4,13 @@ use Rattle.std.specs.Prelude.{get_or}
 use Rattle.std.specs.List.{AllByRecursion}
 use Rattle.std.proofs.lemmas.List.{append-nil}
 use Rattle.far_air.specs.FarEnds.{first_far, later_fars}
+use Rattle.llcp_link.specs.State.{restarted}
+use Rattle.snep_core.specs.Server.{serving}
 use Rattle.nfc_base.specs.declared.event.Event.{Event}
 use Rattle.bench_script.specs.declared.command.Command.{Command}
-use Rattle.bench_script.specs.declared.command.Command.TheVariants.{Remove, Find, Crowd, Read, Write, Link, Put, Get, Lookup, Unlink}
+use Rattle.bench_script.specs.declared.command.Command.TheVariants.{Remove, Find, Crowd, Read, Write, Link, Forge, Put, Get, Lookup, Unlink}
 use Rattle.bench_world.specs.declared.entry.Answer.{Answer}
+use Rattle.bench_world.specs.declared.entry.Answer.TheVariants as answers
 use Rattle.bench_world.specs.declared.entry.Entry.{Entry}
 use Rattle.bench_world.specs.declared.inbox.LinkRange.{LinkRange}
 use Rattle.bench_world.specs.World.{FarEnd}
@@ -15,11 +18,16 @@ use Rattle.bench_world.specs.Inbox.{chosen, is_in}
 use Rattle.bench_world.specs.Legal.{State, Given, Joins, EachLegal, LegalStep, changed, is_linked_to, link_after, state_after, world_after}
 use Rattle.bench_world.specs.LinkLaw.{AreCounted}
 use Rattle.bench_world.specs.Links.{OpenLink, end_numbered, is_number}
+use Rattle.bench_world.specs.Peers.{placed_under}
+use Rattle.bench_script.specs.declared.command.DeviceId.TheVariants.{A}
+use Rattle.bench_world.specs.Forging.{opens_link}
+use Rattle.bench_world.proofs.ForgeLeft.{forged_numbers}
 use Rattle.bench_world.specs.Stories as told
-use Rattle.bench_world.specs.Stories.{Story, Stretch, accepted_of, accepted_in, begun_in, gained_by, gained_on, last_goes_on, open_goes_on, range_of, stretch_of}
+use Rattle.bench_world.specs.Stories.{Opener, Story, Stretch, new_story, story_within, whole_of, accepted_of, accepted_in, Beginning, NothingBegins, BeginsOpen, BeginsAndEnds, beginning, begins_in, begun_by, gained_by, gained_on, last_goes_on, open_goes_on, range_of, stretch_of}
 use Rattle.bench_world.proofs.AtNumbers.{AreHeld, HasHeld, Held, IfHeld, at_number, held, held_at}
 use Rattle.bench_world.proofs.PayloadsKept.{unless_numbers}
 use Rattle.bench_world.proofs.StoriesHere.{Stand, StandBy, view_of}
+use Rattle.bench_world.proofs.StoriesStep.{base_held}
 use Rattle.bench_world.proofs.StoriesStand.{Fits, IsDone, Open, Paired, at, last_story, ranges, stories}
 use Rattle.bench_world.proofs.Tales.{goes_on, stories_behind, stories_from}
 use Rattle.bench_world.proofs.Unlinking.{same_numbers}
@@ -145,6 +153,7 @@ open_before s Crowd l e = absurd (let clash : None ≡ Some l = e in cc)
 open_before s (Read id) l e = absurd (let clash : None ≡ Some l = e in cc)
 open_before s (Write id m) l e = absurd (let clash : None ≡ Some l = e in cc)
 open_before s (Link id miu window) l e = absurd (let clash : None ≡ Some l = e in cc)
+open_before s (Forge id payloads) l e = absurd (let clash : None ≡ Some l = e in cc)
 open_before s (Remove id) l e = by (is_linked_to s id) e
   where
     by : (v : Bool) → (if v then None else s.link) ≡ Some l → s.link ≡ Some l
@@ -160,18 +169,28 @@ ended_in s joins (Get most key) es a l open_ ended = unless_numbers (link_after 
 ended_in s joins (Lookup name) es a l open_ ended = unless_numbers (link_after s joins (Lookup name) es a) s.link (world_after s joins (Lookup name) es).fars s.peers
 ended_in s joins Unlink es a l open_ ended = same_numbers s.link s.peers (world_after s joins Unlink es).fars
 ended_in s joins (Link id miu window) es a l open_ ended = absurd (let clash : None ≡ Some l = open_ in cc)
+ended_in s joins (Forge id payloads) es a l open_ ended = absurd (let clash : None ≡ Some l = open_ in cc)
 ended_in s joins c es a l open_ ended = absurd (let clash : Some l ≡ None = sym open_ ∙ ended in cc)
 
--- In a stretch in which a link was open, and ended, no peer came or went.
-abbrev pub KeepsNumbers : State → Command → State → Type 0
-KeepsNumbers s c t = (l : OpenLink) → (changed s c).link ≡ Some l → t.link ≡ None → t.peers.numbers ≡ s.peers.numbers
+-- nor did one where a link began and ended in it
+pub begun_within : (s : State) (joins : Joins) (c : Command) (es : List Event) (a : Option Answer) (opener : Opener) (id general : List ℕ) → beginning c es a ≡ BeginsAndEnds opener id general
+    → (state_after s joins c es a).peers.numbers ≡ s.peers.numbers
+begun_within s joins (Link id miu window) es (Some (answers.Linked n)) opener device general is = absurd cc
+begun_within s joins (Forge id payloads) es a opener device general is = forged_numbers (opens_link id payloads es) s (A id) (world_after s joins (Forge id payloads) es).fars
+begun_within s joins c es a opener device general is = absurd (let clash : NothingBegins ≡ BeginsAndEnds opener device general = is in cc)
+
+-- In a stretch in which a link ended, one that was open or one that began in it, no peer came or went.
+pub record KeepsNumbers (s : State) (x : Stretch) (t : State) : Type 0 where
+  pub over : (l : OpenLink) → (changed s x.command).link ≡ Some l → t.link ≡ None → t.peers.numbers ≡ s.peers.numbers
+  pub within : (opener : Opener) (id general : List ℕ) → begins_in x ≡ BeginsAndEnds opener id general → t.peers.numbers ≡ s.peers.numbers
 
 -- One stretch: the story of the link that is open in it goes on alike.
-module _ (s t : State) (x : Stretch) (ys : List Story) (stand : Stand s ys) (ended : KeepsNumbers s x.command t) (after : Stand t (stories_behind s x t ys)) where
+module _ (s t : State) (x : Stretch) (ys : List Story) (stand : Stand s ys) (numbers : KeepsNumbers s x t) (after : Stand t (stories_behind s x t ys)) where
   -- no link begins in a stretch in which one is open
-  none_begins : (c : Command) (a : Option Answer) (l : OpenLink) → (changed s c).link ≡ Some l → begun_in c a t ≡ []
-  none_begins (Link id miu window) a l open_ = absurd (let clash : None ≡ Some l = open_ in cc)
-  none_begins c a l open_ = refl
+  none_begins : (c : Command) (es : List Event) (a : Option Answer) (l : OpenLink) → (changed s c).link ≡ Some l → beginning c es a ≡ NothingBegins
+  none_begins (Link id miu window) es a l open_ = absurd (let clash : None ≡ Some l = open_ in cc)
+  none_begins (Forge id payloads) es a l open_ = absurd (let clash : None ≡ Some l = open_ in cc)
+  none_begins c es a l open_ = refl
 
   placed : (l : OpenLink) → (changed s x.command).link ≡ Some l → (k : Held) → at (view_of s) l.peer ≡ Some k → (before : List Story) (y : Story) → y.peer ≡ l.peer → StandBy (view_of t) t.link (before ++ y ∷ [])
       → (h : Held) × (at (view_of t) y.peer ≡ Some h)
@@ -179,10 +198,10 @@ module _ (s t : State) (x : Stretch) (ys : List Story) (stand : Stand s ys) (end
     where
       by : (o : Option OpenLink) → t.link ≡ o → StandBy (view_of t) o (before ++ y ∷ []) → (h : Held) × (at (view_of t) y.peer ≡ Some h)
       by None none stood =
-          let numbers : t.peers.numbers ≡ s.peers.numbers = ended l open_ none in
-          let all : AreHeld s.peers.numbers (map held t.world.fars) = subst (λ ps. AreHeld ps (map held t.world.fars)) numbers stood.base.held in
+          let same : t.peers.numbers ≡ s.peers.numbers = numbers.over l open_ none in
+          let all : AreHeld s.peers.numbers (map held t.world.fars) = subst (λ ps. AreHeld ps (map held t.world.fars)) same stood.base.held in
           let there = still_held l.peer s.peers.numbers (map held s.world.fars) (map held t.world.fars) k all found in
-          (there.0, ap (at (view_of t)) own ∙ ap (λ ps. at_number l.peer ps (map held t.world.fars)) numbers ∙ there.1)
+          (there.0, ap (at (view_of t)) own ∙ ap (λ ps. at_number l.peer ps (map held t.world.fars)) same ∙ there.1)
       by (Some m) some stood =
           let both = last_equal (stories stood.opened.done) before stood.opened.now.story y (sym stood.opened.told) in
           let at_own : y.peer ≡ m.peer = ap (λ (z : Story). z.peer) (sym both.1) ∙ stood.opened.going.own in
@@ -193,10 +212,10 @@ module _ (s t : State) (x : Stretch) (ys : List Story) (stand : Stand s ys) (end
       let before : List Story = stories o.opened.done in
       let y : Story = o.opened.now.story in
       let next : Story = goes_on s x t y in
-      let none : begun_in x.command x.told t ≡ [] = none_begins x.command x.told l open_ in
+      let none : begins_in x ≡ NothingBegins = none_begins x.command x.events x.told l open_ in
       let goes : last_goes_on (goes_on s x t) ys ≡ before ++ next ∷ [] = ap (last_goes_on (goes_on s x t)) o.opened.told ∙ last_story (goes_on s x t) before y in
       let behind : stories_behind s x t ys ≡ before ++ next ∷ [] =
-      ap (λ zs. open_goes_on (changed s x.command).link (goes_on s x t) ys ++ zs) none ∙ append-nil (open_goes_on (changed s x.command).link (goes_on s x t) ys)
+      ap (λ (b : Beginning). open_goes_on (changed s x.command).link (goes_on s x t) ys ++ begun_by b (goes_on s x t) s t) none ∙ append-nil (open_goes_on (changed s x.command).link (goes_on s x t) ys)
       ∙ ap (λ k. open_goes_on k (goes_on s x t) ys) open_ ∙ goes in
       let stands : StandBy (view_of t) t.link (before ++ next ∷ []) = subst (StandBy (view_of t) t.link) behind after.stand in
       let k = placed l open_ o.opened.going.there o.opened.going.found before next o.opened.going.own stands in
@@ -208,14 +227,60 @@ module _ (s t : State) (x : Stretch) (ys : List Story) (stand : Stand s ys) (end
   by_link None at = refl
   by_link (Some l) at = on_link l at (subst (λ o. StandBy (view_of s) o ys) (open_before s x.command l at) stand.stand)
 
+  -- So does that of a link that begins and ends in it: of these, where its peer stands.
+  abbrev before_it : List Story
+  before_it = open_goes_on (changed s x.command).link (goes_on s x t) ys
+
+  whole_same : (y : Story) (k : Held) → at (view_of s) y.peer ≡ Some k → t.peers.numbers ≡ s.peers.numbers → StandBy (view_of t) t.link (before_it ++ goes_on s x t y ∷ [])
+      → told.goes_on s x t y ≡ goes_on s x t y
+  whole_same y k found same stands =
+      let next : Story = goes_on s x t y in
+      let all : AreHeld s.peers.numbers (map held t.world.fars) =
+      subst (λ ps. AreHeld ps (map held t.world.fars)) same (base_held (view_of t) t.link (before_it ++ next ∷ []) stands).0 in
+      let there = still_held y.peer s.peers.numbers (map held s.world.fars) (map held t.world.fars) k all found in
+      let now : at (view_of t) y.peer ≡ Some there.0 = ap (λ ps. at_number y.peer ps (map held t.world.fars)) same ∙ there.1 in
+      let gained : gained_on t next.number ≡ next.gained = last_gained t t.link before_it next there.0 stands now in
+      ap (λ gs. record next { gained = gs }) gained
+
+  module _ (opener : Opener) (id general : List ℕ) (begins : begins_in x ≡ BeginsAndEnds opener id general) where
+    abbrev number : ℕ
+    number = length s.peers.links + 1
+
+    by_end : (peer : ℕ) (o : Option FarEnd) → placed_under id s.world.field.listeners s.peers.numbers ≡ Some peer → end_numbered peer s.peers.numbers s.world.fars ≡ o
+        → whole_of opener general number peer o (told.goes_on s x t) ≡ whole_of opener general number peer o (goes_on s x t)
+    by_end peer None placed is = refl
+    by_end peer (Some old) placed is =
+        let y : Story = new_story number opener peer general (restarted serving old general) in
+        let k : Held = record { limit = old.service.limit; accepted = old.service.accepted } in
+        let there : at (view_of s) peer ≡ Some k = sym (held_at peer s.peers.numbers s.world.fars) ∙ ap held is in
+        let one : begun_by (begins_in x) (goes_on s x t) s t ≡ goes_on s x t y ∷ [] =
+        ap (λ (b : Beginning). begun_by b (goes_on s x t) s t) begins ∙ ap (λ p. story_within opener general p (goes_on s x t) s) placed
+        ∙ ap (λ o. whole_of opener general number peer o (goes_on s x t)) is in
+        ap (λ z. z ∷ []) (whole_same y k there (numbers.within opener id general begins) (subst (λ zs. StandBy (view_of t) t.link (before_it ++ zs)) one after.stand))
+
+    by_place : (p : Option ℕ) → placed_under id s.world.field.listeners s.peers.numbers ≡ p → story_within opener general p (told.goes_on s x t) s ≡ story_within opener general p (goes_on s x t) s
+    by_place None placed = refl
+    by_place (Some peer) placed = by_end peer (end_numbered peer s.peers.numbers s.world.fars) placed refl
+
+  begun_same : (b : Beginning) → begins_in x ≡ b → begun_by b (told.goes_on s x t) s t ≡ begun_by b (goes_on s x t) s t
+  begun_same NothingBegins is = refl
+  begun_same (BeginsOpen n general) is = refl
+  begun_same (BeginsAndEnds opener id general) is = by_place opener id general is (placed_under id s.world.field.listeners s.peers.numbers) refl
+
   pub same_behind : told.stories_behind s x t ys ≡ stories_behind s x t ys
-  same_behind = ap (λ zs. zs ++ begun_in x.command x.told t) (by_link (changed s x.command).link refl)
+  same_behind =
+      ap (λ zs. zs ++ begun_by (begins_in x) (told.goes_on s x t) s t) (by_link (changed s x.command).link refl)
+      ∙ ap (λ zs. before_it ++ zs) (begun_same (begins_in x) refl)
 
 -- so a step keeps them
-step_keeps_numbers : (s t : State) (g : Given) (e : Entry) → LegalStep s g e t → KeepsNumbers s e.command t
-step_keeps_numbers s t g e legal l open_ none =
-    ap (λ (z : State). z.peers.numbers) legal.front.after
-    ∙ ended_in s g.joins e.command e.events (Some e.answer) l open_ (sym (ap (λ (z : State). z.link) legal.front.after) ∙ none)
+step_keeps_numbers : (s t : State) (g : Given) (e : Entry) → LegalStep s g e t → KeepsNumbers s (stretch_of g.joins e) t
+step_keeps_numbers s t g e legal = record {
+  over = λ l open_ none. after ∙ ended_in s g.joins e.command e.events (Some e.answer) l open_ (sym (ap (λ (z : State). z.link) legal.front.after) ∙ none);
+  within = λ opener id general begins. after ∙ begun_within s g.joins e.command e.events (Some e.answer) opener id general begins;
+}
+  where
+    after : t.peers.numbers ≡ (state_after s g.joins e.command e.events (Some e.answer)).peers.numbers
+    after = ap (λ (z : State). z.peers.numbers) legal.front.after
 
 -- through some entries, by a step that keeps the stories
 pub same_from : ((s t : State) (g : Given) (e : Entry) (ys : List Story) → Stand s ys → LegalStep s g e t → Stand t (stories_behind s (stretch_of g.joins e) t ys))

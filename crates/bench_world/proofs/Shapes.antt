@@ -5,15 +5,14 @@ use Rattle.std.proofs.lemmas.List.{map-append, length-map}
 use Rattle.std.specs.Cmp.Lexicographic.{pointwise}
 use Rattle.nfc_base.specs.declared.event.Event.{Event}
 use Rattle.air_core.specs.Conversation.{replay}
-use Rattle.bench_devices.specs.declared.polling.SeenKind.{SeenKind}
-use Rattle.bench_devices.specs.declared.polling.SeenKind.TheVariants as seen
 use Rattle.bench_script.specs.declared.command.Command.{Command}
-use Rattle.bench_script.specs.declared.command.Command.TheVariants.{Skip, Fates, PlaceT2, PlaceT4, PlaceT5, PlacePeer, Lock, Busy, Offer, Remove, Dump, Inbox, Find, Crowd, Read, Write, Link, Put, Get, Lookup, Unlink}
+use Rattle.bench_script.specs.declared.command.Command.TheVariants.{Skip, Fates, PlaceT2, PlaceT4, PlaceT5, PlacePeer, Lock, Busy, Offer, Remove, Dump, Inbox, Find, Crowd, Read, Write, Link, Forge, Put, Get, Lookup, Unlink}
 use Rattle.bench_script.specs.DeviceIds.{bytes_of}
 use Rattle.bench_script.specs.Script.{Spells, is_skipped}
 use Rattle.bench_script.proofs.Spelling.{spells_one}
 use Rattle.bench_devices.specs.declared.device.Device.{Device}
-use Rattle.bench_devices.specs.declared.device.Device.TheVariants.{T2, T4, Peer, T5}
+use Rattle.bench_devices.specs.declared.device.Device.TheVariants.{T2, T4, Peer, T5, T3}
+use Rattle.bench_devices.specs.Kinds.{DeviceKind, T2Kind, T3Kind, T4Kind, PeerKind, T5Kind}
 use Rattle.bench_devices.specs.Device.{most_devices, device_id, device_store, blocks_of, may_be_busy, is_tag, device_locked, device_busy}
 use Rattle.bench_devices.specs.Keeping.{Fixed, fixed, AllStayDevices}
 use Rattle.bench_devices.specs.Placed.{device_with, without, with_changed, OfPlaced}
@@ -40,23 +39,26 @@ abbrev pub AreAlike : State → State → Type 0
 AreAlike s t = map shape s.world.field.listeners ≡ map shape t.world.field.listeners
 
 -- It is a function of what no event changes.
-blocks_by : SeenKind → ℕ → ℕ → ℕ
-blocks_by seen.T2 size long = long / 4
-blocks_by seen.T4 size long = 0
-blocks_by seen.Peer size long = 0
-blocks_by seen.T5 size long = long / size
+blocks_by : DeviceKind → ℕ → ℕ → ℕ
+blocks_by T2Kind size long = long / 4
+blocks_by T3Kind size long = long / 16
+blocks_by T4Kind size long = 0
+blocks_by PeerKind size long = 0
+blocks_by T5Kind size long = long / size
 
-busy_by : SeenKind → Bool
-busy_by seen.T2 = false
-busy_by seen.T4 = true
-busy_by seen.Peer = true
-busy_by seen.T5 = false
+busy_by : DeviceKind → Bool
+busy_by T2Kind = false
+busy_by T3Kind = false
+busy_by T4Kind = true
+busy_by PeerKind = true
+busy_by T5Kind = false
 
-tag_by : SeenKind → Bool
-tag_by seen.T2 = true
-tag_by seen.T4 = true
-tag_by seen.Peer = false
-tag_by seen.T5 = true
+tag_by : DeviceKind → Bool
+tag_by T2Kind = true
+tag_by T3Kind = true
+tag_by T4Kind = true
+tag_by PeerKind = false
+tag_by T5Kind = true
 
 shape_by : Fixed → ℕ → Shape
 shape_by x long = record { id = x.id; blocks = blocks_by x.kind x.size long; busy = busy_by x.kind; tag = tag_by x.kind }
@@ -67,6 +69,7 @@ shape_is (T2 d) = refl
 shape_is (T4 d) = refl
 shape_is (Peer d) = refl
 shape_is (T5 p) = refl
+shape_is (T3 p) = refl
 
 stay_alike : (ds es : List Device) → AllStayDevices ds es → map shape es ≡ map shape ds
 stay_alike [] [] p = refl
@@ -150,6 +153,7 @@ accepts_too s t Crowd alike is = tt
 accepts_too s t (Read id) alike is = tt
 accepts_too s t (Write id m) alike is = tt
 accepts_too s t (Link id miu window) alike is = is
+accepts_too s t (Forge id payloads) alike is = is
 accepts_too s t (Put m) alike is = is
 accepts_too s t (Get most key) alike is = is
 accepts_too s t (Lookup name) alike is = is
@@ -188,12 +192,14 @@ locked_shape block (T2 d) = refl
 locked_shape block (T4 d) = refl
 locked_shape block (Peer d) = refl
 locked_shape block (T5 p) = refl
+locked_shape block (T3 p) = refl
 
 busy_shape : (count times : ℕ) (d : Device) → shape (device_busy count times d) ≡ shape d
 busy_shape count times (T2 d) = refl
 busy_shape count times (T4 d) = refl
 busy_shape count times (Peer d) = refl
 busy_shape count times (T5 p) = refl
+busy_shape count times (T3 p) = refl
 
 changes_alike : (s t : State) (c : Command) → AreAlike s t → AreAlike (changed s c) (changed t c)
 changes_alike s t Skip alike = alike
@@ -217,6 +223,7 @@ changes_alike s t Crowd alike = alike
 changes_alike s t (Read id) alike = alike
 changes_alike s t (Write id m) alike = alike
 changes_alike s t (Link id miu window) alike = alike
+changes_alike s t (Forge id payloads) alike = alike
 changes_alike s t (Put m) alike = alike
 changes_alike s t (Get most key) alike = alike
 changes_alike s t (Lookup name) alike = alike

@@ -66,7 +66,7 @@ came_to_end n (Comes (Ends (x ∷ []) k) i) a m told is =
 came_to_end n (Comes (Ends (x ∷ y ∷ xs) k) i) a m told is = absurd cc
 came_to_end n (Comes (Goes w) i) a m told is = absurd cc
 came_to_end n (Comes (GivesUp k) i) a m told is = absurd cc
-came_to_end n (Carries w ns s) a m told is = absurd cc
+came_to_end n (Carries (w, ns) s) a m told is = absurd cc
 came_to_end n (BrokenBy why) a m told is = absurd cc
 came_to_end n Strays a m told is = absurd cc
 

@@ -14,7 +14,7 @@ use Rattle.bench_world.specs.Inbox.{is_in, came_on_link, chosen, told_of, told_b
 use Rattle.bench_world.specs.LinkLaw.{puts_from, AcceptsPuts, KeepsLinkLaw, AreCounted, told_by_stories}
 use Rattle.bench_world.specs.Links.{last_ended}
 use Rattle.bench_world.specs.Opened.{AreNumbered}
-use Rattle.bench_world.specs.Stories.{Opener, ByLink, LinkPut, Story, last_goes_on}
+use Rattle.bench_world.specs.Stories.{Opener, ByLink, ByForge, LinkPut, Story, last_goes_on}
 use Rattle.bench_world.proofs.AtNumbers.{Held, IfHeld, at_number, AreHeld, with_held, adding, held_more, at_own, at_other, at_below}
 use Rattle.bench_world.proofs.InRanges.{chosen_append, chosen_all, chosen_as, chosen_none, in_open, out_of_closed, in_closing, out_of_begun, came_before, came_last, came_closing}
 use Rattle.bench_world.proofs.PutsTold.{InStep, in_step_accepts, none_put}
@@ -107,7 +107,7 @@ last_story go [] y = refl
 last_story go (x ∷ []) y = refl
 last_story go (x ∷ z ∷ xs) y = ap (λ ys. x ∷ ys) (last_story go (z ∷ xs) y)
 
-last_range : (n : ℕ) (xs : List LinkRange) (r : LinkRange) → last_ended n (xs ++ r ∷ []) ≡ xs ++ record { peer = r.peer; start = r.start; end = Some n } ∷ []
+pub last_range : (n : ℕ) (xs : List LinkRange) (r : LinkRange) → last_ended n (xs ++ r ∷ []) ≡ xs ++ record { peer = r.peer; start = r.start; end = Some n } ∷ []
 last_range n [] r = refl
 last_range n (x ∷ []) r = refl
 last_range n (x ∷ z ∷ xs) r = ap (λ rs. x ∷ rs) (last_range n (z ∷ xs) r)
@@ -145,6 +145,7 @@ pub in_step_keeps : (y : Story) → IsInStep y → KeepsLinkLaw y
 in_step_keeps y step = by_opener y.opener
   where
     by_opener : (o : Opener) → AcceptsPuts o y
+    by_opener ByForge = tt
     by_opener ByLink = λ client. in_step_accepts y.begun.service.limit (puts_from client y.puts) (accepted_from client y.gained) (step client)
 
 -- as many stories as links
@@ -218,6 +219,7 @@ module _ (v : View) (n : ℕ) (ys : List Story) (o : Open v n ys) (go : Story �
 
   keeps_still : (opener : Opener) → AcceptsPuts opener before_it → AcceptsPuts opener behind_it
   keeps_still ByLink keeps = keeps
+  keeps_still ByForge keeps = tt
 
   came_going : IsGoing v n (record { range = o.opened.now.range; story = behind_it })
   came_going = record {

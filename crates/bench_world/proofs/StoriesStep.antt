@@ -15,7 +15,7 @@ use Rattle.bench_world.specs.Links.{OpenLink, is_number, is_with, ended}
 use Rattle.bench_world.specs.Legal.{State, changed, begun}
 use Rattle.bench_world.specs.Opened.{AreNumbered}
 use Rattle.bench_world.specs.Peers.{Peers, next_number, placed_under, without_place, without_number, with_place_changed}
-use Rattle.bench_world.specs.Stories.{Story, Stretch, puts_in, open_goes_on, begun_in}
+use Rattle.bench_world.specs.Stories.{Story, Stretch, Beginning, NothingBegins, begins_in, begun_by, puts_in, open_goes_on}
 use Rattle.bench_world.proofs.AtNumbers.{Held, adding, held, IfHeld, AreHeld, with_held, held_placed, at_placed, at_new, at_left, still_held, held_without, held_gone, numbered_without}
 use Rattle.bench_world.proofs.PeersNumbered.{HavePlaces, places_less}
 use Rattle.bench_world.proofs.PlacesKept.{numbered_tag, numbered_peer}
@@ -48,23 +48,23 @@ many_held (p ∷ ps) [] all = absurd all
 many_held (p ∷ ps) (k ∷ ks) all = ap suc (many_held ps ks all.1)
 
 -- the link is the same before and behind, and its story too
-pub same_link : (s t : State) (x : Stretch) (ys : List Story) → Stand s ys → puts_in x.command x.told ≡ [] → begun_in x.command x.told t ≡ [] → (changed s x.command).link ≡ s.link → t.link ≡ s.link
+pub same_link : (s t : State) (x : Stretch) (ys : List Story) → Stand s ys → puts_in x.command x.told ≡ [] → begins_in x ≡ NothingBegins → (changed s x.command).link ≡ s.link → t.link ≡ s.link
     → PlacesOf t → ((l : OpenLink) → s.link ≡ Some l → at (view_of t) l.peer ≡ at (view_of s) l.peer)
     → (StandBy (view_of s) s.link ys → StandBy (view_of t) s.link ys) → Stand t (stories_behind s x t ys)
 same_link s t x ys stand puts begun still same places own moves =
     let zs : List Story = open_goes_on s.link (goes_on s x t) ys in
     let told : stories_behind s x t ys ≡ zs =
-    ap (λ zs. open_goes_on (changed s x.command).link (goes_on s x t) ys ++ zs) begun ∙ append-nil (open_goes_on (changed s x.command).link (goes_on s x t) ys)
+    ap (λ (b : Beginning). open_goes_on (changed s x.command).link (goes_on s x t) ys ++ begun_by b (goes_on s x t) s t) begun ∙ append-nil (open_goes_on (changed s x.command).link (goes_on s x t) ys)
     ∙ ap (λ o. open_goes_on o (goes_on s x t) ys) still in
     let stands : StandBy (view_of t) s.link zs = still_stands s t x ys (view_of t) s.link (moves stand.stand) puts own in
     subst (Stand t) (sym told) (record { places = places; stand = subst (λ o. StandBy (view_of t) o zs) (sym same) stands })
 
 -- no link is open in the stretch, nor behind it
-pub no_link : (s t : State) (x : Stretch) (ys : List Story) → begun_in x.command x.told t ≡ [] → (changed s x.command).link ≡ None → t.link ≡ None
+pub no_link : (s t : State) (x : Stretch) (ys : List Story) → begins_in x ≡ NothingBegins → (changed s x.command).link ≡ None → t.link ≡ None
     → PlacesOf t → Closed (view_of t) ys → Stand t (stories_behind s x t ys)
 no_link s t x ys begun none gone places closed =
     let told : stories_behind s x t ys ≡ ys =
-    ap (λ zs. open_goes_on (changed s x.command).link (goes_on s x t) ys ++ zs) begun ∙ append-nil (open_goes_on (changed s x.command).link (goes_on s x t) ys)
+    ap (λ (b : Beginning). open_goes_on (changed s x.command).link (goes_on s x t) ys ++ begun_by b (goes_on s x t) s t) begun ∙ append-nil (open_goes_on (changed s x.command).link (goes_on s x t) ys)
     ∙ ap (λ o. open_goes_on o (goes_on s x t) ys) none in
     subst (Stand t) (sym told) (record { places = places; stand = subst (λ o. StandBy (view_of t) o ys) (sym gone) closed })
 

@@ -6,7 +6,7 @@ use Rattle.bench_world.specs.declared.entry.Entry.{Entry}
 use Rattle.bench_world.specs.World.{FarEnd}
 use Rattle.bench_world.specs.Legal.{State, Joins, changed}
 use Rattle.bench_world.specs.Links.{end_numbered}
-use Rattle.bench_world.specs.Stories.{Story, Stretch, arrived_by, begun_in, open_goes_on, puts_in, state_behind, stretch_of}
+use Rattle.bench_world.specs.Stories.{Story, Stretch, arrived_by, begins_in, begun_by, open_goes_on, puts_in, state_behind, stretch_of}
 
 -- what the server of the peer with a number accepted so far, while it stands
 abbrev pub accepted_of : Option FarEnd → List Accepted
@@ -29,7 +29,7 @@ goes_on s x t y = record y {
 }
 
 abbrev pub stories_behind : State → Stretch → State → List Story → List Story
-stories_behind s x t ys = open_goes_on (changed s x.command).link (goes_on s x t) ys ++ begun_in x.command x.told t
+stories_behind s x t ys = open_goes_on (changed s x.command).link (goes_on s x t) ys ++ begun_by (begins_in x) (goes_on s x t) s t
 
 abbrev pub stories_from : State → List Story → List Joins → List Entry → List Story
 stories_from s ys [] es = ys

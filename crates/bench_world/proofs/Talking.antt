@@ -27,7 +27,7 @@ use Rattle.bench_world.specs.declared.entry.Loss.TheVariants as losses
 use Rattle.bench_world.specs.World.{FarEnd}
 use Rattle.bench_world.specs.Asked.{asked_on_link}
 use Rattle.bench_world.specs.Calls.{PeerAdds, PeerMayAdd, PeerTells, told_ending, told_loss}
-use Rattle.bench_world.specs.Legal.{Accepts, AnswerBy, CallLaw, CutFront, CutLeft, CutCall, CutShort, HaltAdded, Joins, PeerHalts, joins_by, due_by, link_left, peers_left}
+use Rattle.bench_world.specs.Legal.{Accepts, AnswerBy, CallLaw, CutFront, CutLeft, CutCall, CutShort, HaltAdded, Halts, Joins, PeerHalts, joins_by, due_by, link_left, peers_left}
 use Rattle.bench_world.specs.Links.{OpenLink}
 use Rattle.bench_world.specs.Obeying.{Machines, IsCutOffBy, IsSettled, ObeyedBy, state_at, under}
 use Rattle.bench_world.specs.Peers.{Peers}
@@ -136,7 +136,7 @@ module _ (air : Air Device) (ends : FarEnds) (peers : Peers) (l : OpenLink) (set
         still = still_on s c (on_link c (Does task) asks);
         accepts = may;
         asks = asks_none s c (on_link c (Does task) asks);
-        takes = λ joins. sym (ap (λ o. joins_by o joins) asks);
+        takes = λ joins. sym (ap (λ o. joins_by o c joins) asks);
         same = λ joins ns. ap (λ o. due_by o s (given_by joins) c ns) asks;
         link_on = λ joins es answer. ap (λ o. link_left o s joins c es (Some answer)) asks;
         link_off = λ joins es. ap (λ o. link_left o s joins c es None) asks;
@@ -210,6 +210,6 @@ module _ (air : Air Device) (ends : FarEnds) (peers : Peers) (l : OpenLink) (set
         x.more x.accepted (subst (λ o. HaltAdded o far x.more) (sym asks) x.adds)))
       where
         by : CutFront joins (from_state air ends peers l settled) c b.trace (state_at gone) ⊎ PeerHalts joins (from_state air ends peers l settled) c b.trace (state_at gone)
-            → CutShort joins (from_state air ends peers l settled) c b.trace (state_at gone) ⊎ PeerHalts joins (from_state air ends peers l settled) c b.trace (state_at gone)
+            → CutShort joins (from_state air ends peers l settled) c b.trace (state_at gone) ⊎ Halts joins (from_state air ends peers l settled) c b.trace (state_at gone)
         by (inl f) = inl (short_of joins (from_state air ends peers l settled) c b.trace (state_at gone) (on_link c (Does task) asks) f)
-        by (inr h) = inr h
+        by (inr h) = inr (inl h)

@@ -1,20 +1,23 @@
 -- What a command that want of memory cut off leaves of what devices hold.
+use Rattle.bench_world.specs.Forging.{opens_link}
+use Rattle.bench_world.specs.Legal.{ForgeHalts}
+use Rattle.bench_world.proofs.ForgeLeft.{cut_devices}
 use Rattle.std.proofs.Common.{◌≡◌, ℕ, List, [], ◌∷◌, map, Option, Some, None, inl, inr, refl, sym, ◌∙◌, ap, subst}
 use Rattle.nfc_base.specs.declared.event.Event.{Event}
 use Rattle.air_core.specs.Conversation.{replay}
 use Rattle.tag_writer.specs.Law.{Stopped}
 use Rattle.bench_script.specs.declared.command.Command.{Command}
-use Rattle.bench_script.specs.declared.command.Command.TheVariants.{Find, Crowd, Read, Write, Link, Put, Get, Lookup, Unlink}
+use Rattle.bench_script.specs.declared.command.Command.TheVariants.{Find, Crowd, Read, Write, Link, Forge, Put, Get, Lookup, Unlink}
 use Rattle.bench_script.specs.declared.command.DeviceId.{DeviceId}
 use Rattle.bench_script.specs.declared.message.Msg.{Msg}
 use Rattle.bench_script.specs.DeviceIds.{bytes_of}
 use Rattle.bench_script.specs.Messages.{message_of}
 use Rattle.bench_devices.specs.declared.device.Device.{Device}
-use Rattle.bench_devices.specs.Device.{BenchWorld, air, device_id, device_store, seen_of, stable_of}
+use Rattle.bench_devices.specs.Device.{BenchWorld, air, device_id, device_store, stable_of, kind_of}
 use Rattle.bench_devices.specs.Keeping.{AllKeepBut, held_by}
 use Rattle.bench_devices.specs.Placed.{device_with, IfPlaced}
 use Rattle.bench_devices.proofs.ImagesJoin.{law_start}
-use Rattle.bench_devices.proofs.TagOrPeer.{if_tag}
+use Rattle.bench_devices.proofs.TagOrPeer.{if_read}
 use Rattle.bench_world.specs.World.{Stable, WholeWorld}
 use Rattle.snep_core.specs.Talk.{Puts, Gets, Finds}
 use Rattle.link_calls.specs.Asking.{LinkAsking, Does, Closes}
@@ -53,7 +56,7 @@ nothing_written s id m = record {
     by_found (Some d) found =
         let ds : List Device = s.world.field.listeners in
         let holds : held_by (device_with (device_id d) ds) ≡ device_store d = ap (λ i. held_by (device_with i ds)) (found_named (bytes_of id) ds d found) ∙ ap held_by found in
-        if_tag (seen_of d) _ _ (law_start (message_of m) d s.world.field holds) tt
+        if_read (kind_of d) _ _ (law_start (message_of m) d s.world.field holds) tt
 
 nothing_left : (s : State) (c : Command) → Unfinished s c [] s
 nothing_left s (Write id m) = nothing_written s id m
@@ -89,6 +92,7 @@ front_left s t g Crowd cut front stores = front_stays s t g Crowd cut front (ap 
 front_left s t g (Read id) cut front stores = front_stays s t g (Read id) cut front (ap (λ (z : Stable). z.devices) stores)
 front_left s t g (Write id m) cut front stores = front_written s t g id m cut front stores
 front_left s t g (Link id miu window) cut front stores = front_stays s t g (Link id miu window) cut front (ap (λ (z : Stable). z.devices) stores)
+front_left s t g (Forge id payloads) cut front stores = front_stays s t g (Forge id payloads) cut front (cut_devices (opens_link id payloads cut) s g.joins id payloads cut stores)
 front_left s t g (Put m) cut front stores = front_stays s t g (Put m) cut front (call_stays s g.joins (Does (Puts (message_of m))) (Put m) cut s.link refl stores)
 front_left s t g (Get most key) cut front stores = front_stays s t g (Get most key) cut front (call_stays s g.joins (Does (Gets most key)) (Get most key) cut s.link refl stores)
 front_left s t g (Lookup name) cut front stores = front_stays s t g (Lookup name) cut front (call_stays s g.joins (Does (Finds name)) (Lookup name) cut s.link refl stores)
@@ -106,7 +110,12 @@ halt_left joins s t c cut h = by_command c h.on_link
     by_command (Write id m) talks = off talks
     by_command x talks = stays
 
+forge_halt_left : (joins : Joins) (s t : State) (c : Command) (cut : List Event) → ForgeHalts joins s c cut t → Unfinished s c cut t
+forge_halt_left joins s t c cut h =
+    subst (λ x. Unfinished s x cut t) (sym h.command) (kept_stable s.world.field.listeners t.world.field.listeners h.leaves.talk.2.same)
+
 pub unfinished : (joins : Joins) (s t : State) (c : Command) (cut : List Event) → CutOff joins s c cut t → Unfinished s c cut t
 unfinished joins s t c cut (inl (none, same)) = subst (λ es. Unfinished s c es t) (sym none) (subst (Unfinished s c []) (sym same) (nothing_left s c))
 unfinished joins s t c cut (inr (inl f)) = let front = short_front joins s c cut t f in front_left s t front.0 c cut front.2 front.3
-unfinished joins s t c cut (inr (inr h)) = halt_left joins s t c cut h
+unfinished joins s t c cut (inr (inr (inl h))) = halt_left joins s t c cut h
+unfinished joins s t c cut (inr (inr (inr h))) = forge_halt_left joins s t c cut h

@@ -18,8 +18,8 @@ use Rattle.bench_script.specs.DeviceIds.{bytes_of}
 use Rattle.bench_script.specs.Messages.{message_of}
 use Rattle.bench_devices.specs.declared.device.Device.{Device}
 use Rattle.bench_devices.specs.declared.polling.SeenKind.{SeenKind}
-use Rattle.bench_devices.specs.Device.{BenchWorld, air, device_id, device_store, is_tag}
-use Rattle.bench_devices.proofs.TagOrPeer.{told_tag, of_tag}
+use Rattle.bench_devices.specs.Device.{BenchWorld, air, device_id, device_store, may_be_read}
+use Rattle.bench_devices.proofs.TagOrPeer.{told_read, of_read}
 use Rattle.bench_devices.specs.Keeping.{fixed, held_by, images_of, AllKeepBut}
 use Rattle.bench_devices.specs.Placed.{device_with, OfPlaced, IfPlaced}
 use Rattle.bench_devices.specs.Writing.{ShowsWrite, KeepsWriteLaw}
@@ -90,7 +90,7 @@ last_behind tag s e = last_store (device_store tag) (images_behind tag s e)
 
 -- Where it was a success: what it is by the tag's store.
 pub record Done (tag : Device) (m : Msg) : Type 0 where
-  pub is_one : is_tag tag ≡ true
+  pub is_one : may_be_read tag ≡ true
   pub shows : ShowsWrite (message_of m) tag (Ok tt)
 
 -- The tag is there still, the same but for its store, which is the last that it passed; they keep the law of a write.
@@ -99,7 +99,7 @@ pub record Behind (id : DeviceId) (tag : Device) (m : Msg) (s t : State) (e : En
   pub there : device_with (bytes_of id) t.world.field.listeners ≡ Some device
   pub same : fixed device ≡ fixed tag
   pub store : device_store device ≡ last_behind tag s e
-  pub keeps : is_tag tag ≡ true → KeepsWriteLaw (message_of m) tag (ending_told e.answer) s.world.field e.events
+  pub keeps : may_be_read tag ≡ true → KeepsWriteLaw (message_of m) tag (ending_told e.answer) s.world.field e.events
   pub done : e.answer ≡ answers.Written → Done tag m
 
 module _ (id : DeviceId) (tag : Device) (m : Msg) (s t : State) (g : Given) (e : Entry) (placed : device_with (bytes_of id) s.world.field.listeners ≡ Some tag) (step : LegalStep s g e t)
@@ -128,8 +128,8 @@ module _ (id : DeviceId) (tag : Device) (m : Msg) (s t : State) (g : Given) (e :
       let after : t ≡ state_after s g.joins (Write id m) e.events (Some e.answer) = step.front.after ∙ ap (λ c. state_after s g.joins c e.events (Some e.answer)) writing in
       ap (λ (x : State). device_with (bytes_of id) x.world.field.listeners) after ∙ ap (λ (w : BenchWorld). device_with (bytes_of id) w.listeners) on_air ∙ found.1
 
-  keeps_law : is_tag tag ≡ true → KeepsWriteLaw (message_of m) tag (ending_told e.answer) s.world.field e.events
-  keeps_law is_one = of_tag tag is_one _ _ (subst (λ o. IfPlaced (λ d. KeepsStores (message_of m) d (ending_told e.answer) s.world.field e.events) (Unit {0}) o) placed law.stores.law)
+  keeps_law : may_be_read tag ≡ true → KeepsWriteLaw (message_of m) tag (ending_told e.answer) s.world.field e.events
+  keeps_law is_one = of_read tag is_one _ _ (subst (λ o. IfPlaced (λ d. KeepsStores (message_of m) d (ending_told e.answer) s.world.field e.events) (Unit {0}) o) placed law.stores.law)
 
   no_wrong : answers.Written ≡ answers.WrongKind → ⊥
   no_wrong e = cc
@@ -140,8 +140,8 @@ module _ (id : DeviceId) (tag : Device) (m : Msg) (s t : State) (g : Given) (e :
       subst (TagTells (TellsWrite (message_of m)) id s.world.field.listeners g.asked e.events) written law.tells in
       let by_tag : TellsWrite (message_of m) tag answers.Written =
       told_of (TellsWrite (message_of m)) id s.world.field.listeners g.asked answers.Written tag placed written_polled written_failed told.polled told.behind told.ends in
-      let is_one : is_tag tag ≡ true = told_tag tag _ _ no_wrong by_tag in
-      let tells : TellsTag (message_of m) tag answers.Written = of_tag tag is_one _ _ by_tag in
+      let is_one : may_be_read tag ≡ true = told_read tag _ _ no_wrong by_tag in
+      let tells : TellsTag (message_of m) tag answers.Written = of_read tag is_one _ _ by_tag in
       record { is_one = is_one; shows = subst (ShowsWrite (message_of m) tag) (done_written tells.0 tells.2) tells.1 }
 
   pub tag_behind : Behind id tag m s t e

@@ -16,8 +16,8 @@ use Rattle.bench_script.specs.declared.message.Msg.{Msg}
 use Rattle.bench_script.specs.DeviceIds.{bytes_of}
 use Rattle.bench_script.specs.Messages.{message_of}
 use Rattle.bench_devices.specs.declared.device.Device.{Device}
-use Rattle.bench_devices.specs.Device.{BenchWorld, air, devices, device_id, device_store, seen_of, is_tag}
-use Rattle.bench_devices.proofs.TagOrPeer.{tag_or_peer, as_tag, as_peer, if_tag, if_as, same_tag}
+use Rattle.bench_devices.specs.Device.{BenchWorld, air, devices, device_id, device_store, seen_of, kind_of, may_be_read}
+use Rattle.bench_devices.proofs.TagOrPeer.{read_or_not, as_read, as_unread, if_read, if_as, same_read}
 use Rattle.bench_devices.specs.Polling.{asks, selecting}
 use Rattle.bench_devices.specs.TagAsking.{then_asks, tag_due}
 use Rattle.bench_devices.specs.CardAsking.{tag_next}
@@ -50,11 +50,11 @@ write_asked old id m idle = by_found (device_with (bytes_of id) old.listeners) r
   where
     by_found : (o : Option Device) → device_with (bytes_of id) old.listeners ≡ o → (asked : List Signal) × IfPlaced (λ d. WriteAsks (message_of m) d asked) (asked ≡ []) o
     by_found None found = ([], refl)
-    by_found (Some d) found = by_kind d (tag_or_peer d) (with_sound old.listeners (bytes_of id) d idle.tame.sound found)
+    by_found (Some d) found = by_kind d (read_or_not d) (with_sound old.listeners (bytes_of id) d idle.tame.sound found)
       where
-        by_kind : (e : Device) → (is_tag e ≡ true) ⊎ (is_tag e ≡ false) → IsSound (kept e) → (asked : List Signal) × WriteAsks (message_of m) e asked
-        by_kind e (inl tag) sound = let some = some_write (message_of m) e tag sound in (some.0, as_tag e tag _ _ some.1)
-        by_kind e (inr peer) sound = ([], as_peer e peer _ _ refl)
+        by_kind : (e : Device) → (may_be_read e ≡ true) ⊎ (may_be_read e ≡ false) → IsSound (kept e) → (asked : List Signal) × WriteAsks (message_of m) e asked
+        by_kind e (inl tag) sound = let some = some_write (message_of m) e tag sound in (some.0, as_read e tag _ _ some.1)
+        by_kind e (inr peer) sound = ([], as_unread e peer _ _ refl)
 
 -- the device that is found by an identifier has it
 pub found_named : (id : List ℕ) (ds : List Device) (d : Device) → device_with id ds ≡ Some d → device_id d ≡ id
@@ -94,7 +94,7 @@ module _ (id : DeviceId) (message : List ℕ) (a b : Moment BenchWorld) (ns : Li
       let named : bytes_of id ≡ device_id d = sym (found_named (bytes_of id) a.world.listeners d found) in
       let holds : held_by (device_with (device_id d) b.world.listeners) ≡ device_store d =
       held_kept (device_id d) a.world.listeners b.world.listeners same ∙ ap (λ i. held_by (device_with i a.world.listeners)) (sym named) ∙ ap held_by found in
-      if_tag (seen_of d) _ _ (subst (λ es. KeepsWriteLaw message d Stopped a.world es) (append-nil g.events) (law_selected id a b ns g message d Stopped [] holds (law_start message d b.world holds))) tt
+      if_read (kind_of d) _ _ (subst (λ es. KeepsWriteLaw message d Stopped a.world es) (append-nil g.events) (law_selected id a b ns g message d Stopped [] holds (law_start message d b.world holds))) tt
 
   -- and no other one changed
   polled_stores : IsSoundOne (bytes_of id) a.world.listeners → FieldStores a.world (bytes_of id) message Stopped g.events
@@ -136,14 +136,14 @@ module _ (old mid : Air Device) (id : DeviceId) (m : Msg) (place : ℕ) (idle : 
   abbrev with_id : IsWith old.listeners (bytes_of id) (kept s.device)
   with_id = selected_with old mid id place idle s
 
-  same_seen : seen_of s.device ≡ seen_of with_id.device
-  same_seen = ap (λ (k : Kept). k.fixed.kind) (sym with_id.same)
+  same_kind : kind_of s.device ≡ kind_of with_id.device
+  same_kind = ap (λ (k : Kept). k.fixed.kind) (sym with_id.same)
 
   placed_write : (commands : List Signal) → WriteAsks (message_of m) s.device commands
       → IfPlaced (λ d. WriteAsks (message_of m) d commands) (commands ≡ []) (device_with (bytes_of id) old.listeners)
   placed_write commands asks' =
       subst (λ o. IfPlaced (λ d. WriteAsks (message_of m) d commands) (commands ≡ []) o) (sym with_id.found)
-      (if_as (seen_of s.device) (seen_of with_id.device) same_seen _ _ _ _ (asks_same s.device with_id.device (sym with_id.same) (message_of m) commands) (λ q. q) asks')
+      (if_as (kind_of s.device) (kind_of with_id.device) same_kind _ _ _ _ (asks_same s.device with_id.device (sym with_id.same) (message_of m) commands) (λ q. q) asks')
 
   -- the selected device holds what is written
   holds_there : held_by (device_with (device_id s.device) (moment mid).world.listeners) ≡ device_store s.device
@@ -172,12 +172,12 @@ module _ (old mid : Air Device) (id : DeviceId) (m : Msg) (place : ℕ) (idle : 
       let world : (moment new).world ≡ replay air (moment old).world (es ++ h.events) = ap (λ (x : Moment BenchWorld). x.world) (of_both new commands ks h).moment in
       record {
         law = subst (λ o. IfPlaced (λ d. KeepsStores (message_of m) d ending (moment old).world (es ++ h.events)) (Unit {0}) o) (sym with_id.found)
-            (if_tag (seen_of with_id.device) _ _ (law_same s.device with_id.device (sym with_id.same) (message_of m) ending (moment old).world (es ++ h.events) whole) tt);
+            (if_read (kind_of with_id.device) _ _ (law_same s.device with_id.device (sym with_id.same) (message_of m) ending (moment old).world (es ++ h.events) whole) tt);
         others = subst (λ (w : BenchWorld). AllKeepBut (bytes_of id) old.listeners w.listeners) world (left_behind new h.events left).0;
       }
 
   -- it was written
-  pub write_obeyed : (new : Air Device) (r : WriteEnd) (answer : Answer) → written_by r ≡ Some answer → is_tag s.device ≡ true → Writes (moment mid) (moment new) s.device (message_of m) r → ObeyedUnlinked old new (Write id m) answer
+  pub write_obeyed : (new : Air Device) (r : WriteEnd) (answer : Answer) → written_by r ≡ Some answer → may_be_read s.device ≡ true → Writes (moment mid) (moment new) s.device (message_of m) r → ObeyedUnlinked old new (Write id m) answer
   write_obeyed new r answer told tag w = λ ends peers places.
       let os : Upon = record { ends = ends; peers = peers; link = None } in
       let commands : List Signal = w.told.commands in
@@ -185,11 +185,11 @@ module _ (old mid : Air Device) (id : DeviceId) (m : Msg) (place : ℕ) (idle : 
       let g : Going air (tag_due id commands) (moment old) (moment new) (s.selects.asked.notes ++ ks) = of_both new commands ks w.told.asked.going in
       let says : ShowsWrite (message_of m) s.device r → OfPlaced (λ d. TellsWrite (message_of m) d answer) (device_with (bytes_of id) old.listeners) =
       λ shows. subst (λ o. OfPlaced (λ d. TellsWrite (message_of m) d answer) o) (sym with_id.found)
-      (as_tag with_id.device (same_tag with_id.device s.device (sym same_seen) ∙ tag) _ _ (r, outcome_same s.device with_id.device (sym with_id.same) (message_of m) r shows, told)) in
+      (as_read with_id.device (same_read with_id.device s.device (sym same_kind) ∙ tag) _ _ (r, outcome_same s.device with_id.device (sym with_id.same) (message_of m) r shows, told)) in
       let tells : TagTells (TellsWrite (message_of m)) id old.listeners commands g.events answer =
       tells_behind (StoreOf (device_id s.device)) (AsksWriteOf (message_of m) s.device) (ShowsWrite (message_of m) s.device) FailsWrite (TellsWrite (message_of m)) old mid new id place r answer s w.told
       says (fails_written r answer told) (lost_written r answer told) (six_written r answer told) in
-      let asked = placed_write commands (as_tag s.device tag _ _ w.told.asks) in
+      let asked = placed_write commands (as_read s.device tag _ _ w.told.asks) in
       let none : NoneHands devices (moment old).world g.events = none_in (Write id m) (λ h. h) os old new commands (s.selects.asked.notes ++ ks) g asked in
       let stores : StoresLaw (above os old) no_joins id m (ending_told answer) g.events =
       stores_above os old id m (ending_told answer) g.events none (stores_behind new commands ks w.told.asked.going (ending_told answer) w.told.asked.same
@@ -199,17 +199,17 @@ module _ (old mid : Air Device) (id : DeviceId) (m : Msg) (place : ℕ) (idle : 
       (record { tells = tells; stores = stores }) (left_behind new w.told.asked.going.events w.told.asked.same)
 
   -- it was a peer, to which nothing is written
-  pub peer_write : is_tag s.device ≡ false → ObeyedUnlinked old mid (Write id m) answers.WrongKind
+  pub peer_write : may_be_read s.device ≡ false → ObeyedUnlinked old mid (Write id m) answers.WrongKind
   peer_write peer = λ ends peers places.
       let os : Upon = record { ends = ends; peers = peers; link = None } in
       let Tells : Device → Answer → Type 0 = TellsWrite (message_of m) in
       let es : List Event = s.selects.asked.going.events in
       let there : OfPlaced (λ d. TellsWrite (message_of m) d answers.WrongKind) (device_with (bytes_of id) old.listeners) =
       subst (λ o. OfPlaced (λ d. TellsWrite (message_of m) d answers.WrongKind) o) (sym with_id.found)
-      (as_peer with_id.device (same_tag with_id.device s.device (sym same_seen) ∙ peer) _ _ refl) in
+      (as_unread with_id.device (same_read with_id.device s.device (sym same_kind) ∙ peer) _ _ refl) in
       let sound : IsSoundOne (bytes_of id) old.listeners = sound_one old id idle in
       let g : Going air (tag_due id []) (moment old) (moment mid) s.selects.asked.notes = peer_going Tells old mid id place s peer in
-      let asked = placed_write [] (as_peer s.device peer _ _ refl) in
+      let asked = placed_write [] (as_unread s.device peer _ _ refl) in
       let stores : StoresLaw (above os old) no_joins id m (ending_told answers.WrongKind) es =
       stores_above os old id m Stopped es (none_in (Write id m) (λ h. h) os old mid [] s.selects.asked.notes g asked)
       (polled_stores id (message_of m) (moment old) (moment mid) s.selects.asked.notes s.selects.asked.going s.selects.asked.same sound) in
@@ -218,13 +218,13 @@ module _ (old mid : Air Device) (id : DeviceId) (m : Msg) (place : ℕ) (idle : 
       (leaves_more (StoreOf (bytes_of id)) (moment old).world (moment mid).world es sound s.selects.asked.same)
 
   -- writing was cut off
-  pub write_cut : (new : Air Device) → is_tag s.device ≡ true → WritesSome (moment mid) (moment new) s.device (message_of m) → CutOffUnlinked old new (Write id m)
+  pub write_cut : (new : Air Device) → may_be_read s.device ≡ true → WritesSome (moment mid) (moment new) s.device (message_of m) → CutOffUnlinked old new (Write id m)
   write_cut new tag w = λ ends peers.
       let os : Upon = record { ends = ends; peers = peers; link = None } in
       let commands : List Signal = w.told.commands in
       let ns : List Note = s.selects.asked.notes ++ w.told.asked.notes in
       let g : Going air (tag_due id commands) (moment old) (moment new) ns = of_both new commands w.told.asked.notes w.told.asked.going in
-      let asked = placed_write commands (as_tag s.device tag _ _ w.told.asks) in (
+      let asked = placed_write commands (as_read s.device tag _ _ w.told.asks) in (
         asks_for commands,
         refl,
         front_of None (Write id m) (λ h. h) os old new commands ns idle tt refl g asked,

@@ -7,6 +7,7 @@ use Rattle.nfc_base.specs.declared.tag_link.AskFault.{AskFault}
 use Rattle.nfc_base.specs.declared.tag_link.AskFault.TheVariants as asking
 use Rattle.air_core.specs.World.{World}
 use Rattle.air_core.specs.Conversation.{Moment}
+use Rattle.t3t_tag.specs.Linked.{t3_step}
 use Rattle.tag_reader.specs.Kinds.{t2_step, t5_step}
 use Rattle.tag_reader.specs.Files.{t4_link_step}
 use Rattle.tag_writer.specs.declared.fault.WriteFault.TheVariants as writing
@@ -16,10 +17,9 @@ use Rattle.tag_writer.specs.Outcome.{IsOutcome}
 use Rattle.tag_writer.specs.WriteAsked.{IsWriteAsked}
 use Rattle.tag_writer.proofs.OneOutcome.{one_outcome_by}
 use Rattle.bench_devices.specs.declared.device.Device.{Device}
-use Rattle.bench_devices.specs.declared.device.Device.TheVariants.{T2, T4, Peer, T5}
-use Rattle.bench_devices.specs.Device.{BenchWorld, device_store, device_commands, how_of, size_of, seen_of}
-use Rattle.bench_devices.specs.declared.polling.SeenKind.{SeenKind}
-use Rattle.bench_devices.specs.declared.polling.SeenKind.TheVariants as seen
+use Rattle.bench_devices.specs.declared.device.Device.TheVariants.{T2, T4, Peer, T5, T3}
+use Rattle.bench_devices.specs.Kinds.{DeviceKind, T2Kind, T3Kind, T4Kind, PeerKind, T5Kind}
+use Rattle.bench_devices.specs.Device.{BenchWorld, device_store, device_commands, how_of, size_of, kind_of}
 use Rattle.bench_devices.specs.Peers.{no_commands}
 use Rattle.bench_devices.specs.Keeping.{Fixed, fixed, Kept, kept, images_of}
 use Rattle.bench_devices.specs.Phases.{WriteEnd, FailsWrite, Writes}
@@ -33,18 +33,20 @@ use Rattle.bench_world.proofs.OneForm.{one_store_form}
 use Rattle.bench_world.proofs.Telling.{tells_either}
 
 -- What a device does with commands is a function of what stays of it.
-commands_by : SeenKind → Fixed → TagState → Signal → TagStep
-commands_by seen.T2 x = t2_step x.locked
-commands_by seen.T4 x = t4_link_step x.code
-commands_by seen.Peer x = no_commands
-commands_by seen.T5 x = t5_step x.id x.size x.locked false
+commands_by : DeviceKind → Fixed → TagState → Signal → TagStep
+commands_by T2Kind x = t2_step x.locked
+commands_by T3Kind x = t3_step x.id x.locked
+commands_by T4Kind x = t4_link_step x.code
+commands_by PeerKind x = no_commands
+commands_by T5Kind x = t5_step x.id x.size x.locked false
 
-commands_are : (d : Device) → device_commands d ≡ commands_by (seen_of d) (fixed d)
+commands_are : (d : Device) → device_commands d ≡ commands_by (kind_of d) (fixed d)
 unfolding commands_by
 commands_are (T2 d) = refl
 commands_are (T4 d) = refl
 commands_are (Peer d) = refl
 commands_are (T5 p) = refl
+commands_are (T3 p) = refl
 
 pub same_commands : (d e : Device) → kept d ≡ kept e → device_commands d ≡ device_commands e
 same_commands d e same = commands_are d ∙ ap (λ (k : Kept). commands_by k.fixed.kind k.fixed) same ∙ sym (commands_are e)
@@ -174,4 +176,4 @@ one_of_tag : (message : List ℕ) (d : Device) (a b : Answer) → TellsTag messa
 one_of_tag message d a b p q = told_once a b (sym p.2 ∙ ap written_by (one_outcome_of message d p.0 q.0 p.1 q.1) ∙ q.2)
 
 pub one_written : (message : List ℕ) (d : Device) (a b : Answer) → TellsWrite message d a → TellsWrite message d b → a ≡ b
-one_written message d a b p q = one_if (seen_of d) (TellsTag message d) answers.WrongKind (one_of_tag message d) a b p q
+one_written message d a b p q = one_if (kind_of d) (TellsTag message d) answers.WrongKind (one_of_tag message d) a b p q

@@ -1,5 +1,5 @@
--- What arrives at the peer of the open link in a command on it, and how a link begins at its peer (NFCIP-1, ISO/IEC
--- 18092; NFC Forum LLCP 1.3 and SNEP 1.0).
+-- What arrives at the peer of the open link in a command on it, or at that of a link that begins and ends in a command, and
+-- how a link begins at its peer (NFCIP-1, ISO/IEC 18092; NFC Forum LLCP 1.3 and SNEP 1.0).
 use Rattle.std.specs.Prelude.{◌≡◌, ℕ, List, Option, Some}
 use Rattle.nfc_base.specs.Choosing.{Choosing}
 use Rattle.nfc_base.specs.declared.event.Event.{Event}
@@ -34,3 +34,21 @@ pub record ArrivesCutAt (l : OpenLink) (numbers : List (Option ℕ)) (counts : L
 abbrev pub BeginsAt : OpenLink → List ℕ → List (Option ℕ) → List (Option FarEnd) → List (Option FarEnd) → Type 0
 BeginsAt l general numbers before behind =
     OfEnd (λ old. end_numbered l.peer numbers behind ≡ Some (restarted serving old general)) (end_numbered l.peer numbers before)
+
+-- A link to the peer with a number began, with these general bytes, and is over: from these far ends to those the frames of
+-- the same events brought payloads to it, counted from PNI 0. Its end, which began the link, answered just these, by the
+-- entry's numbers of PDUs, and what its server accepted then it has accepted.
+pub record ArrivesWithin (peer : ℕ) (general : List ℕ) (numbers : List (Option ℕ)) (counts : List ℕ) (before behind : List (Option FarEnd)) (events : List Event) : Type 0 where
+  pub old : FarEnd
+  pub stood : end_numbered peer numbers before ≡ Some old
+  pub new : Choosing FarEnd
+  pub arrives : Arrives 0 events (record { end = restarted serving old general; numbers = counts }) new
+  pub accepted : OfEnd (λ end. end.service.accepted ≡ new.end.service.accepted) (end_numbered peer numbers behind)
+
+-- So it is in a command that want of memory cut off, but for the last payload, at which the end may have stopped.
+pub record ArrivesCutWithin (peer : ℕ) (general : List ℕ) (numbers : List (Option ℕ)) (counts : List ℕ) (before behind : List (Option FarEnd)) (events : List Event) : Type 0 where
+  pub old : FarEnd
+  pub stood : end_numbered peer numbers before ≡ Some old
+  pub new : Choosing FarEnd
+  pub arrives : ArrivesCut 0 events (record { end = restarted serving old general; numbers = counts }) new
+  pub accepted : OfEnd (λ end. end.service.accepted ≡ new.end.service.accepted) (end_numbered peer numbers behind)

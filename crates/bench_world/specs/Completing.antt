@@ -23,7 +23,7 @@ use Rattle.bench_script.specs.DeviceIds.{bytes_of}
 use Rattle.bench_script.specs.Messages.{message_of}
 use Rattle.bench_script.specs.declared.message.Msg.{Msg}
 use Rattle.bench_devices.specs.declared.device.Device.{Device}
-use Rattle.bench_devices.specs.Device.{device_store, device_locks, how_of, size_of, is_tag}
+use Rattle.bench_devices.specs.Device.{device_store, device_locks, how_of, size_of, may_be_read}
 use Rattle.bench_devices.specs.declared.polling.SeenKind.{SeenKind}
 use Rattle.bench_devices.specs.declared.polling.SeenKind.TheVariants as seen
 use Rattle.bench_devices.specs.Answering.{IsNamed}
@@ -77,12 +77,12 @@ WritesComplete =
 abbrev pub ShownIsWritten : Type 0
 ShownIsWritten =
     (s t : State) (g : Given) (e : Entry) (id : DeviceId) (m : Msg) (d : Device) → LegalStep s g e t → e.command ≡ Write id m → device_with (bytes_of id) s.world.field.listeners ≡ Some d
-    → is_tag d ≡ true → IsNamed id d → IsUndisturbed id g.asked e.events → ShowsWrite (message_of m) d (Ok tt) → e.answer ≡ answers.Written
+    → may_be_read d ≡ true → IsNamed id d → IsUndisturbed id g.asked e.events → ShowsWrite (message_of m) d (Ok tt) → e.answer ≡ answers.Written
 
 -- A tag takes a message, which it has room for in the place of the one that it holds, and none of the blocks that are written for it
 -- is locked. Of a Type 4 tag none is, and one update may bring two bytes.
 abbrev pub MayBeWritten : List ℕ → Device → Type 0
-MayBeWritten message d = (is_tag d ≡ true) × IsFreeFor (how_of d) (size_of d) (device_locks d) (device_store d) message
+MayBeWritten message d = (may_be_read d ≡ true) × IsFreeFor (how_of d) (size_of d) (device_locks d) (device_store d) message
 
 -- It refuses none then, so the message is written, wherever the lines of a script lead.
 abbrev pub ValidIsWritten : Type 0

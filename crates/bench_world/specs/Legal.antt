@@ -11,7 +11,7 @@ use Rattle.t2t_tag.specs.Store.{IsT2Store}
 use Rattle.t4t_tag.specs.Store.{IsT4Store, file_size}
 use Rattle.t5t_tag.specs.Store.{IsT5Store}
 use Rattle.bench_script.specs.declared.command.Command.{Command}
-use Rattle.bench_script.specs.declared.command.Command.TheVariants.{Skip, Fates, PlaceT2, PlaceT4, PlaceT5, PlacePeer, Lock, Busy, Offer, Remove, Dump, Inbox, Find, Crowd, Read, Write, Link, Put, Get, Lookup, Unlink}
+use Rattle.bench_script.specs.declared.command.Command.TheVariants.{Skip, Fates, PlaceT2, PlaceT4, PlaceT5, PlacePeer, Lock, Busy, Offer, Remove, Dump, Inbox, Find, Crowd, Read, Write, Link, Forge, Put, Get, Lookup, Unlink}
 use Rattle.bench_script.specs.declared.command.DeviceId.{DeviceId}
 use Rattle.bench_devices.specs.Crowding.{crowding}
 use Rattle.bench_devices.specs.declared.device.Device.{Device}
@@ -41,12 +41,13 @@ use Rattle.bench_world.specs.Peers.{Peers, no_peers, with_tag, with_peer, withou
 use Rattle.snep_core.specs.Server.{Received as Accepted}
 use Rattle.bench_script.specs.Script.{SpellsName, longest_message}
 use Rattle.bench_devices.specs.Opening.{linking}
-use Rattle.bench_world.specs.Links.{OpenLink, ended, is_with, end_numbered, begun_if, ended_unless}
+use Rattle.bench_world.specs.Links.{OpenLink, ended, is_with, end_numbered, begun_if, ended_unless, with_link_if, with_link_within}
 use Rattle.bench_world.specs.Linking.{LinkTells, link_if, own_general}
 use Rattle.link_calls.specs.Asking.{LinkAsking}
 use Rattle.bench_world.specs.Asked.{IsOnLink, asked_on_link}
 use Rattle.bench_world.specs.Calls.{IfLinked, IsTold, OfEnd, PeerAdds, PeerMayAdd, PeerTells, asked_behind, due_asked, due_if, told_asked, with_accepted}
-use Rattle.bench_world.specs.Arriving.{ArrivesAt, ArrivesCutAt, BeginsAt}
+use Rattle.bench_world.specs.Arriving.{ArrivesAt, ArrivesCutAt, ArrivesCutWithin, ArrivesWithin, BeginsAt}
+use Rattle.bench_world.specs.Forging.{ForgeTells, forged_general, forging, opens_link}
 use Rattle.bench_world.specs.Answering.{TagTells, TellsFound, TagsTell, CutTag}
 use Rattle.bench_world.specs.Reading.{TellsOf, ReadAsks}
 use Rattle.bench_world.specs.Writing.{TellsWrite, WriteAsks, KeepsStores, ending_told}
@@ -155,7 +156,7 @@ pub record MayBeBusy (s : State) (id : DeviceId) (count times : ℕ) : Type 0 wh
   pub long : (1 ≤ times) × (times ≤ longest_extension)
 
 -- The conditions of a command beside its grammar, in a state. Only what is placed can be taken away, and a tag alone
--- shows what it holds, and a peer alone what it accepted.
+-- shows what it holds, and a peer alone what it accepted. Payloads that are written by hand no bench takes yet.
 abbrev pub Accepts : State → Command → Type 0
 Accepts s Skip = Unit {0}
 Accepts s (Fates fates) = Unit {0}
@@ -174,6 +175,7 @@ Accepts s Crowd = Unit {0}
 Accepts s (Read id) = Unit {0}
 Accepts s (Write id message) = Unit {0}
 Accepts s (Link id miu window) = MayLink miu window
+Accepts s (Forge id payloads) = ⊥
 Accepts s (Put message) = length (message_of message) ≤ longest_message
 Accepts s (Get most key) = MayGet most key
 Accepts s (Lookup name) = SpellsName name name
@@ -261,6 +263,7 @@ changed s Crowd = unlinked s
 changed s (Read id) = unlinked s
 changed s (Write id message) = unlinked s
 changed s (Link id miu window) = unlinked s
+changed s (Forge id payloads) = unlinked s
 changed s c = s
 
 -- What a command asks of its tag, from the first command of the tag to the last. Only a read and a write of a placed
@@ -279,6 +282,7 @@ due_alone g Crowd ns = crowding ns
 due_alone g (Read id) ns = tag_due id g.asked ns
 due_alone g (Write id message) ns = tag_due id g.asked ns
 due_alone g (Link id miu window) ns = linking (DeviceId.A id) (own_general miu) ns
+due_alone g (Forge id payloads) ns = forging id payloads ns
 due_alone g c ns = Over
 
 -- what is due in a command, by what it asks on the open link; where none is open nothing is sent
@@ -312,13 +316,20 @@ link_left (Some asked) s joins c events told = asked_behind asked told s.link jo
 abbrev pub link_after : State → Joins → Command → List Event → Option Answer → Option OpenLink
 link_after s joins c events told = link_left (asked_on_link c) s joins c events told
 
--- the peers behind it, with their links: one more where the command opened one; and the one that ended has its end
-abbrev pub peers_alone : State → Command → Option Answer → Peers
-peers_alone s (Link id miu window) told = begun_if (link_alone s (Link id miu window) told) (unlinked s).world.fars (unlinked s).peers
-peers_alone s c told = (changed s c).peers
+-- the peers behind it, with their links: one more where the command opened one, which of a `forge` has its end; and the one
+-- that ended has its end
+abbrev pub peers_forged : Bool → State → DeviceId → List (Option FarEnd) → Peers
+peers_forged false s id behind = (unlinked s).peers
+peers_forged true s id behind = with_link_if (placed_under (bytes_of id) s.world.field.listeners s.peers.numbers) s.world.fars behind (unlinked s).peers
+
+abbrev pub peers_alone : State → Joins → Command → List Event → Option Answer → Peers
+peers_alone s joins (Link id miu window) events told = begun_if (link_alone s (Link id miu window) told) (unlinked s).world.fars (unlinked s).peers
+peers_alone s joins (Forge id payloads) events told =
+    peers_forged (opens_link id payloads events) s (DeviceId.A id) (world_after s joins (Forge id payloads) events).fars
+peers_alone s joins c events told = (changed s c).peers
 
 abbrev pub peers_left : Option LinkAsking → State → Joins → Command → List Event → Option Answer → Peers
-peers_left None s joins c events told = peers_alone s c told
+peers_left None s joins c events told = peers_alone s joins c events told
 peers_left (Some asked) s joins c events told = ended_unless (link_after s joins c events told) s.link (world_after s joins c events).fars s.peers
 
 abbrev pub peers_after : State → Joins → Command → List Event → Option Answer → Peers
@@ -400,6 +411,25 @@ pub record CallLaw (s : State) (joins : Joins) (l : OpenLink) (asked : LinkAskin
   pub devices : (stable (world_after s joins c events)).devices ≡ (stable s.world).devices
   pub ends : (stable (world_after s joins c events)).ends ≡ with_accepted more l.peer s.peers.numbers (stable s.world).ends
 
+-- A link was opened to the peer with an identifier, and payloads were sent over it: what arrived at its end this answered,
+-- and what the payloads put its server accepted. Nothing else that stays changes.
+pub record ForgeSends (s : State) (joins : Joins) (id : List ℕ) (payloads : List (List ℕ)) (events : List Event) : Type 0 where
+  pub peer : ℕ
+  pub placed : placed_under id s.world.field.listeners s.peers.numbers ≡ Some peer
+  pub came : ArrivesWithin peer forged_general s.peers.numbers joins.far s.world.fars (world_after s joins (Forge id payloads) events).fars events
+  pub more : List Accepted
+  pub devices : (stable (world_after s joins (Forge id payloads) events)).devices ≡ (stable s.world).devices
+  pub ends : (stable (world_after s joins (Forge id payloads) events)).ends ≡ with_accepted more peer s.peers.numbers (stable s.world).ends
+
+-- where none was opened nothing that stays changes
+abbrev pub ForgeLeaves : Bool → State → Joins → List ℕ → List (List ℕ) → List Event → Type 0
+ForgeLeaves true s joins id payloads events = ForgeSends s joins id payloads events
+ForgeLeaves false s joins id payloads events = LeavesStable s joins (Forge id payloads) events
+
+pub record ForgeLaw (s : State) (joins : Joins) (id : List ℕ) (payloads : List (List ℕ)) (events : List Event) (answer : Answer) : Type 0 where
+  pub tells : ForgeTells id s.world.field.listeners payloads events answer
+  pub leaves : ForgeLeaves (opens_link id payloads events) s joins id payloads events
+
 -- the law of the answers of commands that ask nothing on the open link; a line that asks for nothing has none
 abbrev pub AnswerAlone : State → Given → Command → List Event → Answer → Type 0
 AnswerAlone s g (Fates fates) events answer = answer ≡ answers.Done
@@ -418,6 +448,7 @@ AnswerAlone s g Crowd events answer = CrowdLaw s g.joins events answer
 AnswerAlone s g (Read id) events answer = ReadLaw s g.joins id g.asked events answer
 AnswerAlone s g (Write id message) events answer = WritingLaw s g.joins id message g.asked events answer
 AnswerAlone s g (Link id miu window) events answer = LinkingLaw s g.joins id miu window events answer
+AnswerAlone s g (Forge id payloads) events answer = ForgeLaw s g.joins id payloads events answer
 AnswerAlone s g c events answer = ⊥
 
 -- the law of the answers, by what a command asks on the open link; where none is open nothing is asked
@@ -428,13 +459,18 @@ AnswerBy (Some asked) s g c events answer = IfLinked s.link (λ l. CallLaw s g.j
 abbrev pub AnswerLaw : State → Given → Command → List Event → Answer → Type 0
 AnswerLaw s g c events answer = AnswerBy (asked_on_link c) s g c events answer
 
--- The numbers that a command takes of these: any on the open link, since payloads are handed over there, and none else.
-abbrev pub joins_by : Option LinkAsking → Joins → Joins
-joins_by None joins = no_joins
-joins_by (Some asked) joins = joins
+-- The numbers that a command takes of these: any on the open link, since payloads are handed over there; those of far ends
+-- where payloads are written by hand, which are as they are; and none else.
+abbrev pub joins_alone : Command → Joins → Joins
+joins_alone (Forge id payloads) joins = record { own = []; far = joins.far }
+joins_alone c joins = no_joins
+
+abbrev pub joins_by : Option LinkAsking → Command → Joins → Joins
+joins_by None c joins = joins_alone c joins
+joins_by (Some asked) c joins = joins
 
 abbrev pub joins_for : Command → Joins → Joins
-joins_for c joins = joins_by (asked_on_link c) joins
+joins_for c joins = joins_by (asked_on_link c) c joins
 
 -- A front of a step: from this state the command is accepted, it has the numbers that it takes, and turns were made, each
 -- due, by the first fates; they lead to that state, where this was told, or nothing yet. An entry is a front that is over
@@ -467,6 +503,20 @@ pub record CutCall (s : State) (joins : Joins) (l : OpenLink) (asked : LinkAskin
   pub devices : (stable (world_after s joins c cut)).devices ≡ (stable s.world).devices
   pub ends : (stable (world_after s joins c cut)).ends ≡ with_accepted more l.peer s.peers.numbers (stable s.world).ends
 
+-- Payloads were sent over a link of their own, and it was cut off: what arrived at its peer's end this answered, but for
+-- the last payload, at which it may have stopped.
+pub record ForgeCut (s : State) (joins : Joins) (id : List ℕ) (payloads : List (List ℕ)) (cut : List Event) : Type 0 where
+  pub peer : ℕ
+  pub placed : placed_under id s.world.field.listeners s.peers.numbers ≡ Some peer
+  pub came : ArrivesCutWithin peer forged_general s.peers.numbers joins.far s.world.fars (world_after s joins (Forge id payloads) cut).fars cut
+  pub more : List Accepted
+  pub devices : (stable (world_after s joins (Forge id payloads) cut)).devices ≡ (stable s.world).devices
+  pub ends : (stable (world_after s joins (Forge id payloads) cut)).ends ≡ with_accepted more peer s.peers.numbers (stable s.world).ends
+
+abbrev pub ForgeCutLeaves : Bool → State → Joins → List ℕ → List (List ℕ) → List Event → Type 0
+ForgeCutLeaves true s joins id payloads cut = ForgeCut s joins id payloads cut
+ForgeCutLeaves false s joins id payloads cut = LeavesStable s joins (Forge id payloads) cut
+
 -- What a command that was cut off leaves of what stays: the stores of a write keep its law, what was asked on the open
 -- link adds what it may at most, and no other command in which something is sent changed anything. A command that sends
 -- nothing is never left half done: where memory is wanting nothing of it was done.
@@ -476,6 +526,7 @@ CutAlone s joins Crowd cut = LeavesStable s joins Crowd cut
 CutAlone s joins (Read id) cut = LeavesStable s joins (Read id) cut
 CutAlone s joins (Write id message) cut = StoresLaw s joins id message Stopped cut
 CutAlone s joins (Link id miu window) cut = LeavesStable s joins (Link id miu window) cut
+CutAlone s joins (Forge id payloads) cut = ForgeCutLeaves (opens_link id payloads cut) s joins id payloads cut
 CutAlone s joins c cut = ⊥
 
 abbrev pub CutLeft : Option LinkAsking → State → Joins → Command → List Event → Type 0
@@ -537,10 +588,46 @@ pub record PeerHalts (joins : Joins) (s : State) (c : Command) (cut : List Event
   pub leaves : HaltLeaves s c on t
   pub came : ArrivesCutAt on s.peers.numbers given.joins.far s.world.fars t.world.fars cut
 
+-- What stays where the end of a peer stopped to which payloads were sent over a link of their own: likewise, and that link
+-- has its range.
+pub record ForgeHaltLeaves (s : State) (peer : ℕ) (t : State) : Type 0 where
+  pub talk : (own : List ℕ) × (place : ℕ) × TalkLeaves own place s.world.field.listeners t.world.field.listeners
+  pub more : List Accepted
+  pub ends : (stable t.world).ends ≡ with_accepted more peer s.peers.numbers (stable s.world).ends
+  pub peers : t.peers ≡ with_link_within peer s.world.fars t.world.fars (unlinked s).peers
+  pub link : t.link ≡ None
+
+-- Behind a front in which a link was opened a request that was due passed, and as it handed a payload over the peer's end
+-- stopped for want of memory: nothing came back.
+pub record ForgeHalts (joins : Joins) (s : State) (c : Command) (cut : List Event) (t : State) : Type 0 where
+  pub id : List ℕ
+  pub payloads : List (List ℕ)
+  pub command : c ≡ Forge id payloads
+  pub given : Given
+  pub joined : given.joins ≡ joins
+  pub before : List Event
+  pub mid : State
+  pub front : FrontOf s given (Forge id payloads) before None mid
+  pub opened : opens_link id payloads cut ≡ true
+  pub sent : Signal
+  pub split : cut ≡ before ++ Request sent Pass ∷ []
+  pub asked : due s given (Forge id payloads) (receptions before) ≡ Asks sent
+  pub passes : first_fate mid.queue ≡ Pass
+  pub lit : t.world.field.lit ≡ true
+  pub queue : t.queue ≡ later_fates mid.queue
+  pub peer : ℕ
+  pub placed : placed_under id s.world.field.listeners s.peers.numbers ≡ Some peer
+  pub leaves : ForgeHaltLeaves s peer t
+  pub came : ArrivesCutWithin peer forged_general s.peers.numbers given.joins.far s.world.fars t.world.fars cut
+
+-- the peer's end stopped, on the open link or on one of payloads that were written by hand
+abbrev pub Halts : Joins → State → Command → List Event → State → Type 0
+Halts joins s c cut t = PeerHalts joins s c cut t ⊎ ForgeHalts joins s c cut t
+
 -- What want of memory leaves of a command: nothing was done, there is a front of its step, or the peer's end stopped
 -- behind one.
 abbrev pub CutOff : Joins → State → Command → List Event → State → Type 0
-CutOff joins s c cut t = ((cut ≡ []) × (t ≡ s)) ⊎ (CutShort joins s c cut t ⊎ PeerHalts joins s c cut t)
+CutOff joins s c cut t = ((cut ≡ []) × (t ≡ s)) ⊎ (CutShort joins s c cut t ⊎ Halts joins s c cut t)
 
 -- The entries lead from one state to another, each behind those before it, and each has what its step is said for.
 abbrev pub EachLegal : State → List Given → List Entry → State → Type 0

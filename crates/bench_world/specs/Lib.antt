@@ -12,6 +12,7 @@ pub mod Opened
 pub mod Inbox
 pub mod Arrivals
 pub mod Arriving
+pub mod Forging
 pub mod Legal
 pub mod Unfinished
 pub mod Obeying
@@ -23,6 +24,7 @@ pub mod Quiet
 pub mod Journal
 pub mod CompletingLinks
 pub mod QuietLinks
+pub mod CompletingForging
 pub mod QuietHearing
 pub mod Taking
 pub mod SameCommands

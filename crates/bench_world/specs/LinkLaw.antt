@@ -17,9 +17,9 @@ use Rattle.bench_world.specs.declared.entry.Received.{Received}
 use Rattle.bench_world.specs.ByPayloads.{IsByPayloads, IsFrontOfPayloads}
 use Rattle.bench_world.specs.Inbox.{told_of}
 use Rattle.bench_world.specs.Journal.{LeadsTo}
-use Rattle.bench_world.specs.Legal.{State, Joins, CutShort, PeerHalts, first_state}
+use Rattle.bench_world.specs.Legal.{State, Joins, CutShort, Halts, first_state}
 use Rattle.bench_world.specs.Peers.{placed_under}
-use Rattle.bench_world.specs.Stories.{Opener, ByLink, LinkPut, Story, Stretch, state_from, stories_behind, stories_of}
+use Rattle.bench_world.specs.Stories.{Opener, ByLink, ByForge, Beginning, NothingBegins, BeginsOpen, BeginsAndEnds, LinkPut, Story, Stretch, beginning, state_from, stories_behind, stories_of}
 
 -- what was put from a client's SAP
 abbrev pub puts_from : ℕ → List LinkPut → List Put
@@ -28,9 +28,11 @@ puts_from client (p ∷ ps) = if p.source == client then p.put ∷ puts_from cli
 
 -- On a link that `link` opened: of each client's SAP, what was accepted from it is a prefix of the messages that were put
 -- from it and are within the limit. The prefix covers all of them that were told to be taken, and at most one more, which
--- then is the last put, and wasn't answered.
+-- then is the last put, and wasn't answered. Payloads that are written by hand are no puts of a client: of such a link
+-- this says nothing, and what its peer accepted is what the payloads put that arrived there, as on each.
 abbrev pub AcceptsPuts : Opener → Story → Type 0
 AcceptsPuts ByLink y = (client : ℕ) → LinkAccepts y.begun.service.limit (puts_from client y.puts) (accepted_from client y.gained)
+AcceptsPuts ByForge y = Unit {0}
 
 abbrev pub KeepsLinkLaw : Story → Type 0
 KeepsLinkLaw y = AcceptsPuts y.opener y
@@ -48,6 +50,25 @@ told_link c answer = []
 abbrev pub told_links : List Entry → List ℕ
 told_links [] = []
 told_links (e ∷ es) = told_link e.command e.answer ++ told_links es
+
+-- and those of the stories of links that `link` opened
+abbrev pub by_link : Opener → ℕ → List ℕ
+by_link ByLink number = number ∷ []
+by_link ByForge number = []
+
+abbrev pub numbers_by_link : List Story → List ℕ
+numbers_by_link [] = []
+numbers_by_link (y ∷ ys) = by_link y.opener y.number ++ numbers_by_link ys
+
+-- how the links of a journal were opened, by what happened in each entry and what it told
+abbrev pub opener_of : Beginning → List Opener
+opener_of NothingBegins = []
+opener_of (BeginsOpen number general) = ByLink ∷ []
+opener_of (BeginsAndEnds opener id general) = opener ∷ []
+
+abbrev pub openers_in : List Entry → List Opener
+openers_in [] = []
+openers_in (e ∷ es) = opener_of (beginning e.command e.events (Some e.answer)) ++ openers_in es
 
 -- each message that was gained on a link of this peer, as an inbox tells it
 abbrev pub told_by_stories : List Story → ℕ → List Received
@@ -70,12 +91,14 @@ InboxesTell numbers journal =
     (before : List Entry) (e : Entry) (behind : List Entry) (id : DeviceId) → journal ≡ before ++ e ∷ behind → e.command ≡ commands.Inbox id
     → TellsInbox (state_from first_state numbers before) (stories_of numbers before) id e.answer
 
--- The links of a journal, by the numbers of PDUs of its entries: each that it tells of has its story, in order, from 1
--- on.
+-- The links of a journal, by the numbers of PDUs of its entries. Each has its story, and its number, in order, from 1 on;
+-- an entry has one exactly where a link begins in it; and those that `link` opened are those that the answers `linked`
+-- tell of.
 pub record LinksAccept (numbers : List Joins) (journal : List Entry) : Type 0 where
   pub accept : AllByRecursion KeepsLinkLaw (stories_of numbers journal)
   pub arrived : AllByRecursion IsByPayloads (stories_of numbers journal)
-  pub linked : map (λ (y : Story). y.number) (stories_of numbers journal) ≡ told_links journal
+  pub opened : map (λ (y : Story). y.opener) (stories_of numbers journal) ≡ openers_in journal
+  pub linked : numbers_by_link (stories_of numbers journal) ≡ told_links journal
   pub counted : AreCounted 1 (stories_of numbers journal)
   pub inboxes : InboxesTell numbers journal
 
@@ -94,7 +117,7 @@ cut_stretch c joins cut = record { command = c; joins = joins; events = cut; tol
 abbrev pub CutLinkLaw : Type 0
 CutLinkLaw =
     (lines : List (List ℕ)) (numbers : List Joins) (journal : List Entry) (last : State) → LeadsTo lines numbers journal last
-    → (joins : Joins) (c : Command) (cut : List Event) (t : State) → CutShort joins last c cut t ⊎ PeerHalts joins last c cut t
+    → (joins : Joins) (c : Command) (cut : List Event) (t : State) → CutShort joins last c cut t ⊎ Halts joins last c cut t
     → AllByRecursion KeepsLinkLaw (stories_behind last (cut_stretch c joins cut) t (stories_of numbers journal))
 
 -- What arrived counts there too: what the peers' lists gained is the first of what the payloads put, and at least what all
@@ -102,5 +125,5 @@ CutLinkLaw =
 abbrev pub CutArrivalLaw : Type 0
 CutArrivalLaw =
     (lines : List (List ℕ)) (numbers : List Joins) (journal : List Entry) (last : State) → LeadsTo lines numbers journal last
-    → (joins : Joins) (c : Command) (cut : List Event) (t : State) → CutShort joins last c cut t ⊎ PeerHalts joins last c cut t
+    → (joins : Joins) (c : Command) (cut : List Event) (t : State) → CutShort joins last c cut t ⊎ Halts joins last c cut t
     → AllByRecursion IsFrontOfPayloads (stories_behind last (cut_stretch c joins cut) t (stories_of numbers journal))

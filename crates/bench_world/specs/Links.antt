@@ -37,6 +37,15 @@ accepted_at n p fars = accepted_by (end_numbered n p.numbers fars)
 abbrev pub with_link : LinkRange → Peers → Peers
 with_link l p = record { numbers = p.numbers; gone = p.gone; links = p.links ++ l ∷ [] }
 
+-- one that began and ended: its range goes from the end that its peer's list had before to the one that it has behind
+abbrev pub with_link_within : ℕ → List (Option FarEnd) → List (Option FarEnd) → Peers → Peers
+with_link_within n before behind p = with_link (record { peer = n; start = accepted_at n p before; end = Some (accepted_at n p behind) }) p
+
+-- so it is to the peer with a number, where one has it
+abbrev pub with_link_if : Option ℕ → List (Option FarEnd) → List (Option FarEnd) → Peers → Peers
+with_link_if None before behind p = p
+with_link_if (Some n) before behind p = with_link_within n before behind p
+
 -- the last link is the one that is open; its range ends here
 abbrev pub last_ended : ℕ → List LinkRange → List LinkRange
 last_ended n [] = []

@@ -6,7 +6,7 @@ use Rattle.nfc_base.specs.Trace.{noise}
 use Rattle.nfc_base.specs.declared.event.Fate.{Fate}
 use Rattle.air_core.specs.Conversation.{Note, receptions}
 use Rattle.bench_script.specs.declared.command.Command.{Command}
-use Rattle.bench_script.specs.declared.command.Command.TheVariants.{Fates, Find, Crowd, Read, Write, Link}
+use Rattle.bench_script.specs.declared.command.Command.TheVariants.{Fates, Find, Crowd, Read, Write, Link, Forge}
 use Rattle.bench_script.specs.declared.command.DeviceId.{DeviceId}
 use Rattle.bench_script.specs.declared.command.DeviceId.TheVariants.{A}
 use Rattle.bench_script.specs.DeviceIds.{bytes_of}
@@ -26,6 +26,7 @@ use Rattle.bench_world.specs.Completing.{MayBeWritten, TellsTags, whole_field}
 use Rattle.bench_world.specs.Journal.{LeadsTo}
 use Rattle.bench_world.specs.Legal.{State, Joins, changed, state_after, first_state}
 use Rattle.bench_world.specs.Quiet.{AllPass}
+use Rattle.bench_world.specs.CompletingForging.{ForgesQuietly}
 use Rattle.bench_world.specs.QuietLinks.{LinksQuietly, TalksQuietly}
 use Rattle.bench_world.specs.Reading.{TellsOf}
 use Rattle.bench_world.specs.Writing.{TellsWrite}
@@ -43,6 +44,7 @@ abbrev pub selected_by : Command → Option DeviceId
 selected_by (Read id) = Some id
 selected_by (Write id m) = Some id
 selected_by (Link id miu window) = Some (A id)
+selected_by (Forge id payloads) = Some (A id)
 selected_by c = None
 
 -- Behind the selection of a device each note of an entry is a whole answer.
@@ -85,7 +87,8 @@ pub record WritesPlaced (s : State) (e : Entry) (id : DeviceId) (m : Msg) (d : D
 
 -- An entry of a script without noise: everything passed; a read of a placed tag tells what its store holds, a write
 -- what it comes to, which is success where the tag takes the message and none of its blocks is locked, a search lists
--- the whole field, and one for Type 5 tags all of these; a placed peer is linked, and each command on the open link is answered as the peer answers it.
+-- the whole field, and one for Type 5 tags all of these; a placed peer is linked, and replies to each payload that is sent to it by hand, and each command on
+-- the open link is answered as the peer answers it.
 pub record IsQuietEntry (s : State) (e : Entry) (t : State) : Type 0 where
   pub quiet : noise e.events ≡ 0
   pub hears : IsWellHeard e
@@ -95,6 +98,7 @@ pub record IsQuietEntry (s : State) (e : Entry) (t : State) : Type 0 where
   pub finds : e.command ≡ Find → e.answer ≡ whole_field s.world.field.listeners
   pub tags : e.command ≡ Crowd → TellsTags s.world.field.listeners e.answer
   pub links : LinksQuietly s e
+  pub forges : ForgesQuietly s e
   pub talks : TalksQuietly s e t
 
 -- Where no line has another fate than Pass, each entry is one.

@@ -7,7 +7,8 @@ use Rattle.tag_reader.specs.declared.how.How.{How}
 use Rattle.tag_reader.specs.Kinds.{IsStoreForm}
 use Rattle.tag_reader.specs.Access.{IsAccess}
 use Rattle.bench_devices.specs.declared.device.Device.{Device}
-use Rattle.bench_devices.specs.Device.{device_store, how_of, size_of, seen_of, IfTag}
+use Rattle.bench_devices.specs.Kinds.{IfRead}
+use Rattle.bench_devices.specs.Device.{device_store, how_of, size_of, kind_of}
 use Rattle.bench_devices.specs.Reading.{AsksOf}
 use Rattle.bench_world.specs.declared.entry.Answer.{Answer}
 use Rattle.bench_world.specs.declared.entry.Answer.TheVariants as answers
@@ -26,8 +27,8 @@ Tells how size store answer = ⊥
 
 -- A read of a tag tells of its store, and one of a peer that it is none.
 abbrev pub TellsOf : Device → Answer → Type 0
-TellsOf d answer = IfTag (seen_of d) (Tells (how_of d) (size_of d) (device_store d) answer) (answer ≡ answers.WrongKind)
+TellsOf d answer = IfRead (kind_of d) (Tells (how_of d) (size_of d) (device_store d) answer) (answer ≡ answers.WrongKind)
 
 -- what a read asks of a device that was selected: nothing of a peer
 abbrev pub ReadAsks : Device → List Signal → Type 0
-ReadAsks d asked = IfTag (seen_of d) (AsksOf d asked) (asked ≡ [])
+ReadAsks d asked = IfRead (kind_of d) (AsksOf d asked) (asked ≡ [])

@@ -10,7 +10,7 @@ use Rattle.nfc_base.specs.declared.event.Event.TheVariants.{Reset, Request, Answ
 use Rattle.nfc_base.specs.declared.event.Fate.{Fate}
 use Rattle.nfc_base.specs.declared.event.Fate.TheVariants.{Pass, Damage, Lose, Break}
 use Rattle.bench_world.specs.declared.entry.Answer.{Answer as Said}
-use Rattle.bench_world.specs.declared.entry.Answer.TheVariants.{Done, Store, Found, Crowd, Message, NotNdef, Version, NoRead, Sectors, BadSize, NoMessageTlv, BadTlv, Disturbed, FieldLost, NotFound, SixBad, Written, Refused, ReadOnly, TooLong, ShortMlc, WrongKind, Inbox, Linked, Success, Reject, Value, NoValue, Excess, NotImplemented, Sap, LinkEnded, Unlinked, NoLink}
+use Rattle.bench_world.specs.declared.entry.Answer.TheVariants.{Done, Store, Found, Crowd, Message, NotNdef, Version, NoRead, Sectors, BadSize, NoMessageTlv, BadTlv, Disturbed, FieldLost, NotFound, SixBad, Written, Refused, ReadOnly, TooLong, ShortMlc, WrongKind, Inbox, Linked, Success, Reject, Value, NoValue, Excess, NotImplemented, Sap, LinkEnded, Replies, Unlinked, NoLink}
 use Rattle.bench_world.specs.declared.entry.Entry.{Entry}
 use Rattle.bench_world.specs.declared.entry.Loss.{Loss}
 use Rattle.bench_world.specs.declared.entry.Loss.TheVariants as losses
@@ -99,6 +99,13 @@ abbrev pub loss_text : Loss → List ℕ
 loss_text losses.FieldLost = codes "field lost"
 loss_text losses.SixBad = codes "six bad"
 
+-- the replies to payloads that were written by hand, each behind a space
+abbrev pub reply_text : List ℕ → List ℕ
+reply_text reply = codes " " ++ hex_text reply
+
+abbrev pub replies_text : List (List ℕ) → List ℕ
+replies_text replies = codes "heard" ++ flat_map reply_text replies
+
 -- ANSWER
 abbrev pub answer_text : Said → List ℕ
 answer_text Done = codes "ok"
@@ -133,6 +140,7 @@ answer_text Excess = codes "excess"
 answer_text NotImplemented = codes "not implemented"
 answer_text (Sap sap) = codes "sap " ++ decimal sap
 answer_text (LinkEnded loss) = codes "link ended " ++ loss_text loss
+answer_text (Replies replies) = replies_text replies
 answer_text Unlinked = codes "unlinked"
 answer_text NoLink = codes "no link"
 

@@ -1,11 +1,12 @@
 -- The story of each link of a bench: how it was opened and to which end, what happened while it was open, what was put
 -- on it and how that was told, and what its peer accepted on it (NFC Forum SNEP 1.0; that links have numbers is this
 -- project's own). A later command adds its case.
-use Rattle.std.specs.Prelude.{ℕ, zero, suc, drop, get_or, length, List, [], ◌∷◌, ◌++◌, Option, Some, None}
+use Rattle.std.specs.Prelude.{ℕ, ◌+◌, zero, suc, drop, get_or, length, List, [], ◌∷◌, ◌++◌, if◌then◌else◌, Option, Some, None}
 use Rattle.nfc_base.specs.declared.event.Event.{Event}
 use Rattle.dep_link.specs.DepLinks.{brought}
+use Rattle.llcp_link.specs.State.{restarted}
 use Rattle.snep_core.specs.Links.{Told, Success, Rejected, Unanswered, Put}
-use Rattle.snep_core.specs.Server.{Received as Accepted}
+use Rattle.snep_core.specs.Server.{Received as Accepted, serving}
 use Rattle.snep_core.specs.Session.{Offer}
 use Rattle.snep_core.specs.Talk.{Puts, client_sap}
 use Rattle.link_calls.specs.Asking.{LinkAsking, Does}
@@ -21,6 +22,8 @@ use Rattle.bench_world.specs.World.{FarEnd}
 use Rattle.bench_world.specs.Inbox.{gained_in}
 use Rattle.bench_world.specs.Links.{OpenLink, end_numbered}
 use Rattle.bench_world.specs.Linking.{own_general}
+use Rattle.bench_world.specs.Forging.{forged_general, opens_link}
+use Rattle.bench_world.specs.Peers.{placed_under}
 use Rattle.bench_world.specs.Legal.{State, Joins, changed, end_of, first_state, state_after}
 
 -- what happened of a command, by which numbers of PDUs, and what was told of it, nothing where it was cut off; an entry
@@ -34,19 +37,21 @@ pub record Stretch : Type 0 where
 abbrev pub stretch_of : Joins → Entry → Stretch
 stretch_of joins e = record { command = e.command; joins = joins; events = e.events; told = Some e.answer }
 
--- how a link was opened: by the command `link`, and so between two ends of this project
+-- how a link was opened: by the command `link`, and so between two ends of this project; or by `forge`, which sends payloads
+-- that were written by hand
 pub data Opener : Type 0 where
   ByLink : Opener
+  ByForge : Opener
 
 -- a put on a link, with the SAP of the client that put it
 pub record LinkPut : Type 0 where
   pub source : ℕ
   pub put : Put
 
--- The story of a link: the number that `linked` told; how it was opened; its peer, by its number among the peers; the
--- general bytes that were said to it, and its end as the link began; what happened in the entries behind, while the
--- link was open; what arrived at its peer by that; what was put on it, in order; and what the peer's list of accepted
--- messages gained on it so far.
+-- The story of a link: its number; how it was opened; its peer, by its number among the peers; the general bytes that
+-- were said to it, and its end as the link began; what happened in the entries behind, while the link was open, or, of a
+-- link that began and ended within an entry, in that one; what arrived at its peer by that; what was put on it, in order;
+-- and what the peer's list of accepted messages gained on it so far.
 pub record Story : Type 0 where
   pub number : ℕ
   pub opener : Opener
@@ -132,12 +137,29 @@ abbrev pub open_goes_on : Option OpenLink → (Story → Story) → List Story �
 open_goes_on None go ys = ys
 open_goes_on (Some l) go ys = last_goes_on go ys
 
--- a story begins with a link that is open then, to this end of its peer
-abbrev pub first_of : ℕ → List ℕ → ℕ → Option FarEnd → List Story
-first_of number general peer None = []
-first_of number general peer (Some end) = record {
+-- How a link begins in a stretch, if one does: `linked` tells its number, these general bytes were said to its peer, and
+-- it is open behind the stretch; or it was opened so to the peer with an identifier, by these general bytes, and is over
+-- where the stretch is.
+pub data Beginning : Type 0 where
+  NothingBegins : Beginning
+  BeginsOpen : ℕ → List ℕ → Beginning
+  BeginsAndEnds : Opener → List ℕ → List ℕ → Beginning
+
+-- What begins in a command, by what happened in it and what was told: where `linked` is told, this link; and in a `forge`,
+-- whatever it then tells, one that is over, where its ATR_REQ was answered.
+abbrev pub beginning : Command → List Event → Option Answer → Beginning
+beginning (commands.Link id miu window) events (Some (answers.Linked number)) = BeginsOpen number (own_general miu)
+beginning (commands.Forge id payloads) events told = if opens_link id payloads events then BeginsAndEnds ByForge id forged_general else NothingBegins
+beginning c events told = NothingBegins
+
+abbrev pub begins_in : Stretch → Beginning
+begins_in x = beginning x.command x.events x.told
+
+-- the story of a link that begins so, to this end of its peer
+abbrev pub new_story : ℕ → Opener → ℕ → List ℕ → FarEnd → Story
+new_story number opener peer general end = record {
   number = number;
-  opener = ByLink;
+  opener = opener;
   peer = peer;
   general = general;
   begun = end;
@@ -145,21 +167,39 @@ first_of number general peer (Some end) = record {
   arrivals = [];
   puts = [];
   gained = [];
-} ∷ []
+}
+
+-- a story begins with a link that is open then, to this end of its peer
+abbrev pub first_of : ℕ → List ℕ → ℕ → Option FarEnd → List Story
+first_of number general peer None = []
+first_of number general peer (Some end) = new_story number ByLink peer general end ∷ []
 
 abbrev pub story_if : ℕ → List ℕ → Option OpenLink → State → List Story
 story_if number general None t = []
 story_if number general (Some l) t = first_of number general l.peer (end_of t l)
 
--- what story begins in a stretch: where `linked` is told, that of this link
-abbrev pub begun_in : Command → Option Answer → State → List Story
-begun_in (commands.Link id miu window) (Some (answers.Linked number)) t = story_if number (own_general miu) t.link t
-begun_in c told t = []
+-- A link that is over where its stretch is has the next number. Its peer's end, which stood so, began it with its general
+-- bytes; and its story is what happened in the stretch.
+abbrev pub whole_of : Opener → List ℕ → ℕ → ℕ → Option FarEnd → (Story → Story) → List Story
+whole_of opener general number peer None go = []
+whole_of opener general number peer (Some old) go = go (new_story number opener peer general (restarted serving old general)) ∷ []
+
+abbrev pub story_within : Opener → List ℕ → Option ℕ → (Story → Story) → State → List Story
+story_within opener general None go s = []
+story_within opener general (Some peer) go s =
+    whole_of opener general (length s.peers.links + 1) peer (end_numbered peer s.peers.numbers s.world.fars) go
+
+-- what story begins in a stretch, from the state before it to the one behind it
+abbrev pub begun_by : Beginning → (Story → Story) → State → State → List Story
+begun_by NothingBegins go s t = []
+begun_by (BeginsOpen number general) go s t = story_if number general t.link t
+begun_by (BeginsAndEnds opener id general) go s t =
+    story_within opener general (placed_under id s.world.field.listeners s.peers.numbers) go s
 
 -- The stories behind a stretch. A link is open in it that was open once its command changed what it itself changes: one
 -- that begins with a reset ended it.
 abbrev pub stories_behind : State → Stretch → State → List Story → List Story
-stories_behind s x t ys = open_goes_on (changed s x.command).link (goes_on s x t) ys ++ begun_in x.command x.told t
+stories_behind s x t ys = open_goes_on (changed s x.command).link (goes_on s x t) ys ++ begun_by (begins_in x) (goes_on s x t) s t
 
 -- the state behind an entry, by its numbers of PDUs
 abbrev pub state_behind : State → Joins → Entry → State

@@ -5,7 +5,8 @@ use Rattle.nfc_base.specs.declared.event.Event.{Event}
 use Rattle.tag_writer.specs.Law.{Ending, Written, Refused, Stopped}
 use Rattle.bench_devices.specs.declared.device.Device.{Device}
 use Rattle.bench_devices.specs.Phases.{WriteEnd}
-use Rattle.bench_devices.specs.Device.{BenchWorld, seen_of, IfTag}
+use Rattle.bench_devices.specs.Kinds.{IfRead}
+use Rattle.bench_devices.specs.Device.{BenchWorld, kind_of}
 use Rattle.bench_devices.specs.Writing.{AsksWriteOf, ShowsWrite, KeepsWriteLaw}
 use Rattle.bench_world.specs.declared.entry.Answer.{Answer}
 use Rattle.bench_world.specs.declared.entry.Answer.TheVariants as answers
@@ -17,15 +18,15 @@ TellsTag message d answer = (r : WriteEnd) × ShowsWrite message d r × (written
 
 -- A write of a peer tells that it is no tag.
 abbrev pub TellsWrite : List ℕ → Device → Answer → Type 0
-TellsWrite message d answer = IfTag (seen_of d) (TellsTag message d answer) (answer ≡ answers.WrongKind)
+TellsWrite message d answer = IfRead (kind_of d) (TellsTag message d answer) (answer ≡ answers.WrongKind)
 
 -- what a write asks of a device that was selected: nothing of a peer
 abbrev pub WriteAsks : List ℕ → Device → List Signal → Type 0
-WriteAsks message d asked = IfTag (seen_of d) (AsksWriteOf message d asked) (asked ≡ [])
+WriteAsks message d asked = IfRead (kind_of d) (AsksWriteOf message d asked) (asked ≡ [])
 
 -- The stores of a tag keep the law of a write; a peer has none.
 abbrev pub KeepsStores : List ℕ → Device → Ending → BenchWorld → List Event → Type 0
-KeepsStores message d ending w es = IfTag (seen_of d) (KeepsWriteLaw message d ending w es) (Unit {0})
+KeepsStores message d ending w es = IfRead (kind_of d) (KeepsWriteLaw message d ending w es) (Unit {0})
 
 -- how the stores of the tag stand by the answer
 abbrev pub ending_told : Answer → Ending

@@ -26,7 +26,7 @@ fn select_and_read(
     ensures cut { OnErr result (CutOffUnlinked field.old field.new (Command.Read id.now)) }
 {
     match select(alloc, field, id)? {
-        Selection::Place(place) if field.listeners()[place].is_tag() => {
+        Selection::Place(place) if field.listeners()[place].may_be_read() => {
             told(read(alloc, field, place))
         }
         Selection::Place(_) => Ok(Answer::WrongKind),
@@ -62,7 +62,7 @@ fn select_and_write(
         → CutOffUnlinked field.old field.new (Command.Write id.now m)) }
 {
     match select(alloc, field, id)? {
-        Selection::Place(place) if field.listeners()[place].is_tag() => {
+        Selection::Place(place) if field.listeners()[place].may_be_read() => {
             written(write(alloc, field, place, bytes))
         }
         Selection::Place(_) => Ok(Answer::WrongKind),

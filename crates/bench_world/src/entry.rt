@@ -87,6 +87,8 @@ pub enum Answer {
     Sap(u8),
     /// The link was lost, and is no more.
     LinkEnded(Loss),
+    /// The reply of a peer to each payload that was written by hand.
+    Replies(Items<Items<u8>>),
     /// The link was closed.
     Unlinked,
     /// No link is open.

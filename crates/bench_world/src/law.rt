@@ -4,6 +4,7 @@
 ghost use Rattle.bench_world.specs.Behind.{WrittenIsRead, OneOfThreeIsRead, BrokenIsRead, FirstBrokenIsRead};
 ghost use Rattle.bench_world.specs.Completing.{ReadsComplete, WritesComplete, ShownIsWritten, ValidIsWritten, FindsComplete, TagsComplete};
 ghost use Rattle.bench_world.specs.CompletingLinks.{AskedComplete, PutsComplete, GetsComplete, LookupsComplete, UnlinksComplete, ValidIsOk, LinkingsComplete, KindsTold};
+ghost use Rattle.bench_world.specs.CompletingForging.{ForgedKindsTold, ForgingsComplete, QuietForgings};
 ghost use Rattle.bench_world.specs.LinkLaw.{CutArrivalLaw, CutLinkLaw, LinkLaw};
 ghost use Rattle.bench_world.specs.Quiet.{QuietStays, QuietReads, QuietWrites, QuietIsWritten, QuietFinds, QuietTags};
 ghost use Rattle.bench_world.specs.QuietHearing.{QuietHears, QuietScript};
@@ -34,7 +35,8 @@ pub fn finds_complete()
 
 /// A legal command on the open link is answered as its peer answers it, and the link is closed, exactly where no Break
 /// was used and no wait had six bad receptions: so a valid one gives what it's asked for. Where little noise is, a
-/// placed peer is linked, and a tag tells that it has no link as peers do.
+/// placed peer is linked, and of payloads that are sent to it by hand a reply to each is heard; and a tag tells that it
+/// has no link as peers do.
 pub fn links_complete()
     ensures asked { AskedComplete }
     ensures puts { PutsComplete }
@@ -44,6 +46,8 @@ pub fn links_complete()
     ensures valid { ValidIsOk }
     ensures linkings { LinkingsComplete }
     ensures kinds { KindsTold }
+    ensures forgings { ForgingsComplete }
+    ensures forged { ForgedKindsTold }
 {}
 
 /// Behind a write, with no command between that touches its tag, a read that tells a message tells the new one where
@@ -83,6 +87,7 @@ pub fn quiet_air()
     ensures tags { QuietTags }
     ensures talks { QuietTalks }
     ensures linkings { QuietLinkings }
+    ensures forgings { QuietForgings }
     ensures hears { QuietHears }
     ensures script { QuietScript }
 {}

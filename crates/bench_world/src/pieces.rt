@@ -4,13 +4,14 @@ ghost use Rattle.std.specs.Prelude.{◌≡◌, ◌+◌, ◌*◌, ◌<◌, ◌≤
 ghost use Rattle.std.specs.Fmt.{decimal};
 ghost use Rattle.hex.specs.Hex.{encode_upper};
 ghost use Rattle.bench_script.specs.Canonical.{hex_text};
-ghost use Rattle.bench_world.specs.Report.{access_text, kind_text, seen_text, found_text, tag_text, tags_text, source_text, received_text, inbox_text, answer_text, code_text, loss_text, line_text};
+ghost use Rattle.bench_world.specs.Report.{access_text, kind_text, seen_text, found_text, tag_text, tags_text, source_text, received_text, inbox_text, reply_text, replies_text, answer_text, code_text, loss_text, line_text};
 
 use crate::entry::{Answer, Entry, Loss, Received, Seen};
 use crate::fixed_text::{push_digits, push_hex, push_number, push_text};
 use arrayvec::ArrayVec;
 use bench_devices::SeenKind;
 use bench_script::DeviceId;
+use nfc_base::Items;
 use std::marker::Model;
 use std::mem;
 
@@ -29,6 +30,7 @@ pub struct AnswerPieces<'a> {
     devices: &'a [Seen],
     messages: &'a [Received],
     tags: &'a [[u8; 8]],
+    replies: &'a [Items<u8>],
     tail: ArrayVec<u8, 640>,
 }
 
@@ -36,13 +38,13 @@ impl<'a> Model for AnswerPieces<'a> {
     ghost use Rattle.std.specs.Prelude.{ℕ, List, ◌++◌};
     ghost use Rattle.std.specs.List.{flat_map};
     ghost use Rattle.hex.specs.Hex.{encode_upper};
-    ghost use Rattle.bench_world.specs.Report.{seen_text, received_text, tag_text};
+    ghost use Rattle.bench_world.specs.Report.{seen_text, received_text, reply_text, tag_text};
 
     ghost Value = { List ℕ };
 
     ghost view = { λ p. p.head.items ++ (encode_upper p.bytes.now
         ++ (flat_map seen_text p.devices.now ++ (flat_map received_text p.messages.now
-        ++ (flat_map tag_text p.tags.now ++ p.tail.items)))) };
+        ++ (flat_map tag_text p.tags.now ++ (flat_map reply_text p.replies.now ++ p.tail.items))))) };
 }
 
 /// The pieces of the line of an entry's answer.
@@ -85,6 +87,7 @@ pub fn answer_pieces(entry: &Entry) -> AnswerPieces<'_>
         Answer::NotImplemented => in_words(line, b"not implemented"),
         Answer::Sap(sap) => numbered(line, b"sap ", *sap as u64),
         Answer::LinkEnded(loss) => in_words(line, ended_by(*loss)),
+        Answer::Replies(replies) => heard(line, replies.as_slice()),
         Answer::Unlinked => in_words(line, b"unlinked"),
         Answer::NoLink => in_words(line, b"no link"),
     }
@@ -134,6 +137,7 @@ fn whole<'a>(text: ArrayVec<u8, 640>) -> AnswerPieces<'a>
         devices: &[],
         messages: &[],
         tags: &[],
+        replies: &[],
         tail: ArrayVec::new(),
     }
 }
@@ -151,6 +155,7 @@ fn with_bytes<'a>(line: u32, words: &[u8], bytes: &'a [u8], end: &[u8]) -> Answe
         devices: &[],
         messages: &[],
         tags: &[],
+        replies: &[],
         tail: ended(end),
     }
 }
@@ -221,6 +226,7 @@ fn found(line: u32, devices: &[Seen], crowd: bool) -> AnswerPieces<'_>
         devices,
         messages: &[],
         tags: &[],
+        replies: &[],
         tail: ended(crowd_text(crowd)),
     }
 }
@@ -249,6 +255,7 @@ fn inbox(line: u32, messages: &[Received]) -> AnswerPieces<'_>
         devices: &[],
         messages,
         tags: &[],
+        replies: &[],
         tail: ended(b""),
     }
 }
@@ -265,6 +272,22 @@ fn crowd(line: u32, tags: &[[u8; 8]]) -> AnswerPieces<'_>
         devices: &[],
         messages: &[],
         tags,
+        replies: &[],
+        tail: ended(b""),
+    }
+}
+
+/// The reply to each payload that was written by hand.
+fn heard(line: u32, replies: &[Items<u8>]) -> AnswerPieces<'_>
+    ensures { result ≡ line_text line (replies_text replies.now) }
+{
+    AnswerPieces {
+        head: begun(line, b"heard"),
+        bytes: &[],
+        devices: &[],
+        messages: &[],
+        tags: &[],
+        replies,
         tail: ended(b""),
     }
 }
@@ -301,6 +324,11 @@ impl<'a> Iterator for AnswerPieces<'a> {
         if let Some((id, rest)) = self.tags.split_first() {
             self.tags = rest;
             return Some(tag(*id));
+        }
+        if let Some((reply, rest)) = self.replies.split_first() {
+            self.replies = rest;
+            self.bytes = reply.as_slice();
+            return Some(before_reply(reply));
         }
         if !self.tail.is_empty() {
             return Some(mem::replace(&mut self.tail, ArrayVec::new()));
@@ -378,6 +406,17 @@ fn origin(received: &Received) -> ArrayVec<u8, 640>
     push_source(&mut piece, received.source);
     push_text(&mut piece, b":");
     push_text(&mut piece, sign_of_none(received.message.as_slice()));
+    piece
+}
+
+/// What stands before a reply's digits: a space, and the sign that it has no bytes where it has none.
+fn before_reply(reply: &Items<u8>) -> ArrayVec<u8, 640>
+    ensures value { reply_text reply.now ≡ result.items ++ encode_upper reply.now }
+    ensures some { 0 < length result.items }
+{
+    let mut piece = ArrayVec::new();
+    push_text(&mut piece, b" ");
+    push_text(&mut piece, sign_of_none(reply.as_slice()));
     piece
 }
 

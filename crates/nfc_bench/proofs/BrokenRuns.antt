@@ -343,12 +343,12 @@ module _ (lines : List (List ℕ)) (runs : List (List Entry)) (r : AreRuns lines
   placed : (tag : Device) × (device_with (bytes_of id) here.world.field.listeners ≡ Some tag)
   placed = written_placed id m here whole.last write.given write.entry write.step write.command success
 
-  named : IsNamed id placed.0
-  unfolding here
-  named = named_so r.script.last id m r.script.spelled here.world.field.listeners placed.0 placed.1 (ready_behind (asking_lines 1 r.script.before) first_state here whole.steps.ones whole.entries.es first_ready whole.entries.first whole.steps.first)
-
   done : Done placed.0 m
   done = (tag_behind id placed.0 m here whole.last write.given write.entry placed.1 write.step write.command).done success
+
+  named : IsNamed id placed.0
+  unfolding here
+  named = named_so r.script.last id m r.script.spelled here.world.field.listeners placed.0 placed.1 (ready_behind (asking_lines 1 r.script.before) first_state here whole.steps.ones whole.entries.es first_ready whole.entries.first whole.steps.first) done.is_one
 
   held : (old : List ℕ) × IsStoreForm (how_of placed.0) (size_of placed.0) (device_store placed.0) (Message old)
   held = held_there (how_of placed.0) (size_of placed.0) (device_store placed.0) (message_of m) done.shows.place done.shows.takes.holds

@@ -1,5 +1,5 @@
 -- A write that was a success is one of a placed tag of the technology that its line names.
-use Rattle.std.proofs.Common.{◌≡◌, inl, inr, ℕ, List, length, Option, Some, None, Result, Ok, Err, refl, sym, ◌∙◌, ap, subst, arith}
+use Rattle.std.proofs.Common.{true, ◌≡◌, inl, inr, ℕ, List, length, Option, Some, None, Result, Ok, Err, refl, sym, ◌∙◌, ap, subst, arith}
 use Rattle.air_core.specs.Conversation.{Note}
 use Rattle.nfca_poll.specs.Ident.{IsIdent}
 use Rattle.nfca_poll.specs.declared.fault.PollFault.{PollFault}
@@ -12,10 +12,10 @@ use Rattle.bench_script.specs.DeviceIds.{bytes_of}
 use Rattle.bench_script.specs.Messages.{message_of}
 use Rattle.bench_script.specs.Script.{Spells, SpellsId}
 use Rattle.bench_devices.specs.declared.device.Device.{Device}
-use Rattle.bench_devices.specs.declared.device.Device.TheVariants.{T2, T4, Peer, T5}
+use Rattle.bench_devices.specs.declared.device.Device.TheVariants.{T2, T4, Peer, T5, T3}
 use Rattle.bench_devices.specs.declared.polling.SeenKind.{SeenKind}
 use Rattle.bench_devices.specs.Answering.{IsNamed}
-use Rattle.bench_devices.specs.Device.{device_id}
+use Rattle.bench_devices.specs.Device.{device_id, may_be_read}
 use Rattle.bench_devices.specs.Keeping.{kept, IsSound}
 use Rattle.bench_devices.specs.Placed.{device_with, OfPlaced}
 use Rattle.bench_world.specs.declared.entry.Answer.TheVariants as answers
@@ -56,17 +56,19 @@ not_eight id ident long =
     elim ident.size [ inl four ↦ omega (arith, four, long) | inr more ↦ (elim more [ inl seven ↦ omega (arith, seven, long) | inr ten ↦ omega (arith, ten, long) ]) ]
 
 -- What a line names by an identifier is of its technology.
-named_by : (word : List ℕ) (id : DeviceId) (d : Device) → SpellsId word id → device_id d ≡ bytes_of id → IsSound (kept d) → IsNamed id d
-named_by word (A id) (T2 d) spelled same sound = (refl, same)
-named_by word (A id) (T4 d) spelled same sound = (refl, same)
-named_by word (A id) (Peer d) spelled same sound = (refl, same)
-named_by word (A id) (T5 d) spelled same sound =
+named_by : (word : List ℕ) (id : DeviceId) (d : Device) → SpellsId word id → device_id d ≡ bytes_of id → IsSound (kept d) → may_be_read d ≡ true → IsNamed id d
+named_by word (A id) (T2 d) spelled same sound read = (refl, same)
+named_by word (A id) (T4 d) spelled same sound read = (refl, same)
+named_by word (A id) (Peer d) spelled same sound read = (refl, same)
+named_by word (A id) (T5 d) spelled same sound read =
     let long : length id ≡ 8 = ap length (sym same) ∙ sound.1 in
     absurd (not_eight id spelled.1 long)
-named_by word (V id) (T2 d) spelled same sound = absurd (not_eight id (subst IsIdent same sound.0) spelled.1)
-named_by word (V id) (T4 d) spelled same sound = absurd (not_eight id (subst IsIdent same sound.0) spelled.1)
-named_by word (V id) (Peer d) spelled same sound = absurd (not_eight id (subst IsIdent same sound.0) spelled.1)
-named_by word (V id) (T5 d) spelled same sound = (refl, same)
+named_by word (V id) (T2 d) spelled same sound read = absurd (not_eight id (subst IsIdent same sound.0) spelled.1)
+named_by word (V id) (T4 d) spelled same sound read = absurd (not_eight id (subst IsIdent same sound.0) spelled.1)
+named_by word (V id) (Peer d) spelled same sound read = absurd (not_eight id (subst IsIdent same sound.0) spelled.1)
+named_by word (V id) (T5 d) spelled same sound read = (refl, same)
+named_by word (V id) (T3 d) spelled same sound read = absurd cc
+named_by word (A id) (T3 d) spelled same sound read = absurd cc
 
-pub named_so : (line : List ℕ) (id : DeviceId) (m : Msg) → Spells line (Write id m) → (ds : List Device) (d : Device) → device_with (bytes_of id) ds ≡ Some d → IsReady ds → IsNamed id d
-named_so line id m spelled ds d placed ready = named_by spelled.0 id d spelled.3 (found_named (bytes_of id) ds d placed) (with_sound ds (bytes_of id) d ready.tame.sound placed)
+pub named_so : (line : List ℕ) (id : DeviceId) (m : Msg) → Spells line (Write id m) → (ds : List Device) (d : Device) → device_with (bytes_of id) ds ≡ Some d → IsReady ds → may_be_read d ≡ true → IsNamed id d
+named_so line id m spelled ds d placed ready read = named_by spelled.0 id d spelled.3 (found_named (bytes_of id) ds d placed) (with_sound ds (bytes_of id) d ready.tame.sound placed) read

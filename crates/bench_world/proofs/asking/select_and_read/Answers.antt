@@ -6,7 +6,7 @@ use Rattle.bench_devices.specs.declared.polling.Selection.{Selection}
 use Rattle.bench_devices.specs.Phases.{Selects, SelectsAt, SelectsTo}
 use Rattle.bench_world.specs.Answering.{poll_answer, told_by}
 use Rattle.bench_world.specs.Obeying.{ObeyedUnlinked, CutOffUnlinked}
-use Rattle.bench_devices.specs.Device.{is_tag}
+use Rattle.bench_devices.specs.Device.{may_be_read}
 use Rattle.tag_reader.specs.declared.fault.ReadFault.TheVariants as reading
 use Rattle.bench_world.proofs.SelectedPlace.{looked_at}
 use Rattle.bench_world.proofs.Legality.{peer_obeyed, read_obeyed, missed_obeyed, read_cut, selection_cut, missed_part}
@@ -19,7 +19,7 @@ read-requires c =
     let S : Selection → Type 0 = λ s. SelectsTo c.args.id.now s (moment c.args.field.now) (moment c.select.new.field) in
     let s : SelectsAt c.args.id.now c.in-Place.place (moment c.args.field.now) (moment c.select.new.field) = subst S c.in-Place.is c.in_ok-place.ensures.ok in
     let found = looked_at c.select.new.field c.in-Place.place s.device s.stands c.listeners.result.now c.index-listeners-place.result c.listeners.ensures c.index-listeners-place.is in
-    let tag : is_tag s.device ≡ true = sym (ap is_tag found) ∙ sym c.is_tag.ensures ∙ c.if-is_tag.true in
+    let tag : may_be_read s.device ≡ true = sym (ap may_be_read found) ∙ sym c.may_be_read.ensures ∙ c.if-may_be_read.true in
     (s.device, s.stands, tag)
 
 pub told-requires : goal.told-requires
@@ -33,7 +33,7 @@ returns-in-Place-clause-ok c =
     let S : Selection → Type 0 = λ s. SelectsTo c.args.id.now s (moment c.args.field.now) (moment c.select.new.field) in
     let s : SelectsAt c.args.id.now c.in-Place.place (moment c.args.field.now) (moment c.select.new.field) = subst S c.in-Place.is c.in_ok-place.ensures.ok in
     let found = looked_at c.select.new.field c.in-Place.place s.device s.stands c.listeners.result.now c.index-listeners-place.result c.listeners.ensures c.index-listeners-place.is in
-    let tag : is_tag s.device ≡ true = sym (ap is_tag found) ∙ sym c.is_tag.ensures ∙ c.if-is_tag.true in
+    let tag : may_be_read s.device ≡ true = sym (ap may_be_read found) ∙ sym c.may_be_read.ensures ∙ c.if-may_be_read.true in
     if_ok c.told.result (λ answer. told_by c.read.result ≡ Some answer)
     (λ answer. ObeyedUnlinked c.args.field.now c.read.new.field (Read c.args.id.now) answer)
     (λ answer told. read_obeyed c.args.field.now c.select.new.field c.read.new.field c.args.id.now c.in-Place.place c.read.result answer told c.requires s tag
@@ -58,7 +58,7 @@ returns-in-Place-clause-cut c =
     let S : Selection → Type 0 = λ s. SelectsTo c.args.id.now s (moment c.args.field.now) (moment c.select.new.field) in
     let s : SelectsAt c.args.id.now c.in-Place.place (moment c.args.field.now) (moment c.select.new.field) = subst S c.in-Place.is c.in_ok-place.ensures.ok in
     let found = looked_at c.select.new.field c.in-Place.place s.device s.stands c.listeners.result.now c.index-listeners-place.result c.listeners.ensures c.index-listeners-place.is in
-    let tag : is_tag s.device ≡ true = sym (ap is_tag found) ∙ sym c.is_tag.ensures ∙ c.if-is_tag.true in
+    let tag : may_be_read s.device ≡ true = sym (ap may_be_read found) ∙ sym c.may_be_read.ensures ∙ c.if-may_be_read.true in
     on_err_by c.told.result (c.read.result ≡ Err reading.Memory) (CutOffUnlinked c.args.field.now c.read.new.field (Read c.args.id.now))
     (λ starved. read_cut c.args.field.now c.select.new.field c.args.id.now c.in-Place.place c.requires s c.read.new.field tag (c.read.ensures.cut starved s.device s.stands)) c.told.ensures.starved
 
@@ -77,5 +77,5 @@ returns-in-Place-2-clause-ok c =
     let S : Selection → Type 0 = λ s. SelectsTo c.args.id.now s (moment c.args.field.now) (moment c.select.new.field) in
     let s : SelectsAt c.args.id.now c.in-Place.place (moment c.args.field.now) (moment c.select.new.field) = subst S c.in-Place.is c.in_ok-place.ensures.ok in
     let found = looked_at c.select.new.field c.in-Place.place s.device s.stands c.listeners.result.now c.index-listeners-place.result c.listeners.ensures c.index-listeners-place.is in
-    let peer : is_tag s.device ≡ false = sym (ap is_tag found) ∙ sym c.is_tag.ensures ∙ c.if-is_tag.false in
-    peer_obeyed c.args.field.now c.select.new.field c.args.id.now c.in-Place.place c.requires s peer
+    let other : may_be_read s.device ≡ false = sym (ap may_be_read found) ∙ sym c.may_be_read.ensures ∙ c.if-may_be_read.false in
+    peer_obeyed c.args.field.now c.select.new.field c.args.id.now c.in-Place.place c.requires s other

@@ -8,7 +8,7 @@ use Rattle.bench_devices.specs.Phases.{Selects, SelectsAt, SelectsTo, WritesAt, 
 use Rattle.bench_world.specs.Answering.{poll_answer, written_by}
 use Rattle.bench_script.specs.declared.message.Msg.{Msg}
 use Rattle.bench_world.specs.Obeying.{ObeyedUnlinked, CutOffUnlinked}
-use Rattle.bench_devices.specs.Device.{is_tag}
+use Rattle.bench_devices.specs.Device.{may_be_read}
 use Rattle.tag_writer.specs.declared.fault.WriteFault.TheVariants as writing
 use Rattle.bench_world.proofs.SelectedPlace.{looked_at}
 use Rattle.bench_world.proofs.WriteLegality.{peer_write, write_obeyed, missed_write, write_cut, selection_cut_write}
@@ -22,7 +22,7 @@ write-requires c =
     let S : Selection → Type 0 = λ s. SelectsTo c.args.id.now s (moment c.args.field.now) (moment c.select.new.field) in
     let s : SelectsAt c.args.id.now c.in-Place.place (moment c.args.field.now) (moment c.select.new.field) = subst S c.in-Place.is c.in_ok-place.ensures.ok in
     let found = looked_at c.select.new.field c.in-Place.place s.device s.stands c.listeners.result.now c.index-listeners-place.result c.listeners.ensures c.index-listeners-place.is in
-    let tag : is_tag s.device ≡ true = sym (ap is_tag found) ∙ sym c.is_tag.ensures ∙ c.if-is_tag.true in
+    let tag : may_be_read s.device ≡ true = sym (ap may_be_read found) ∙ sym c.may_be_read.ensures ∙ c.if-may_be_read.true in
     (s.device, s.stands, tag)
 
 pub written-requires : goal.written-requires
@@ -37,7 +37,7 @@ returns-in-Place-clause-ok c =
     let s : SelectsAt c.args.id.now c.in-Place.place (moment c.args.field.now) (moment c.select.new.field) = subst S c.in-Place.is c.in_ok-place.ensures.ok in
     let W : List ℕ → Type 0 = λ bytes. WritesAt (moment c.select.new.field) (moment c.write.new.field) c.in-Place.place bytes c.write.result in
     let found = looked_at c.select.new.field c.in-Place.place s.device s.stands c.listeners.result.now c.index-listeners-place.result c.listeners.ensures c.index-listeners-place.is in
-    let tag : is_tag s.device ≡ true = sym (ap is_tag found) ∙ sym c.is_tag.ensures ∙ c.if-is_tag.true in
+    let tag : may_be_read s.device ≡ true = sym (ap may_be_read found) ∙ sym c.may_be_read.ensures ∙ c.if-may_be_read.true in
     if_ok c.written.result (λ answer. written_by c.write.result ≡ Some answer)
     (λ answer. (m : Msg) → message_of m ≡ c.args.bytes.now → ObeyedUnlinked c.args.field.now c.write.new.field (Write c.args.id.now m) answer)
     (λ answer told m is.
@@ -51,7 +51,7 @@ returns-in-Place-clause-cut c =
     let s : SelectsAt c.args.id.now c.in-Place.place (moment c.args.field.now) (moment c.select.new.field) = subst S c.in-Place.is c.in_ok-place.ensures.ok in
     let C : List ℕ → Type 0 = λ bytes. CutAtWrite (moment c.select.new.field) (moment c.write.new.field) c.in-Place.place bytes c.write.result in
     let found = looked_at c.select.new.field c.in-Place.place s.device s.stands c.listeners.result.now c.index-listeners-place.result c.listeners.ensures c.index-listeners-place.is in
-    let tag : is_tag s.device ≡ true = sym (ap is_tag found) ∙ sym c.is_tag.ensures ∙ c.if-is_tag.true in
+    let tag : may_be_read s.device ≡ true = sym (ap may_be_read found) ∙ sym c.may_be_read.ensures ∙ c.if-may_be_read.true in
     on_err_by c.written.result (c.write.result ≡ Err writing.Memory) ((m : Msg) → message_of m ≡ c.args.bytes.now → CutOffUnlinked c.args.field.now c.write.new.field (Write c.args.id.now m))
     (λ starved m is.
     let cut : C (message_of m) = subst C (sym is) c.write.ensures.cut in
@@ -84,5 +84,5 @@ returns-in-Place-2-clause-ok c = λ m is.
     let S : Selection → Type 0 = λ s. SelectsTo c.args.id.now s (moment c.args.field.now) (moment c.select.new.field) in
     let s : SelectsAt c.args.id.now c.in-Place.place (moment c.args.field.now) (moment c.select.new.field) = subst S c.in-Place.is c.in_ok-place.ensures.ok in
     let found = looked_at c.select.new.field c.in-Place.place s.device s.stands c.listeners.result.now c.index-listeners-place.result c.listeners.ensures c.index-listeners-place.is in
-    let peer : is_tag s.device ≡ false = sym (ap is_tag found) ∙ sym c.is_tag.ensures ∙ c.if-is_tag.false in
-    peer_write c.args.field.now c.select.new.field c.args.id.now m c.in-Place.place c.requires s peer
+    let other : may_be_read s.device ≡ false = sym (ap may_be_read found) ∙ sym c.may_be_read.ensures ∙ c.if-may_be_read.false in
+    peer_write c.args.field.now c.select.new.field c.args.id.now m c.in-Place.place c.requires s other

@@ -1,3 +1,4 @@
+use Rattle.bench_world.proofs.CompleteForging.{forged_kinds, forgings_complete}
 use Rattle.snep_core.specs.Talk.{Puts, Gets, Finds}
 use Rattle.link_calls.specs.Asking.{Does, Closes}
 use Rattle.bench_world.proofs.CompleteLinks.{asked_complete, valid_is_ok}
@@ -27,3 +28,9 @@ returns-clause-linkings c = linkings_complete
 
 pub returns-clause-kinds : goal.returns-clause-kinds
 returns-clause-kinds c = kinds_told
+
+pub returns-clause-forgings : goal.returns-clause-forgings
+returns-clause-forgings c = forgings_complete
+
+pub returns-clause-forged : goal.returns-clause-forged
+returns-clause-forged c = forged_kinds

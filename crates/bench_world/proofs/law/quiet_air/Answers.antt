@@ -1,3 +1,4 @@
+use Rattle.bench_world.proofs.CompleteForging.{quiet_forgings}
 use Rattle.bench_world.proofs.Quiet as quiet
 use Rattle.bench_world.proofs.QuietHearing as hearing
 use Rattle.bench_world.proofs.QuietLinks as links
@@ -34,3 +35,6 @@ returns-clause-talks c = links.quiet_talks
 
 pub returns-clause-linkings : goal.returns-clause-linkings
 returns-clause-linkings c = quiet_linkings
+
+pub returns-clause-forgings : goal.returns-clause-forgings
+returns-clause-forgings c = quiet_forgings
