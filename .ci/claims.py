@@ -93,7 +93,7 @@ def calls_of(crate):
                 break
             if re.match(r"\S", line) and not line.startswith(("#", "/")):
                 owner, in_trait, of_trait = owner_of(line)
-            found = re.match(r"(    )?(pub(?:\([a-z ]+\))? )?(?:const )?fn (\w+)", line)
+            found = re.match(r"(    )?(pub(?:\([a-z ]+\))? )?(?:const |extern \"C\" )?fn (\w+)", line)
             if found:
                 call = Call(crate, file, owner if found.group(1) else None, found.group(3),
                             found.group(2) == "pub " or in_trait, of_trait if found.group(1) else None)
@@ -123,7 +123,7 @@ def exported_names(crate):
 class Code:
     def __init__(self):
         lines = (ROOT / "crates.txt").read_text().splitlines()
-        self.crates = [line.split(":")[0].strip() for line in lines if line.strip() and not line.startswith("#")]
+        self.crates = [line.split(":")[0].split()[0] for line in lines if line.strip() and not line.startswith("#")]
         self.calls, self.laws, self.definitions = [], {}, {}
         for crate in self.crates:
             calls, laws = calls_of(crate)

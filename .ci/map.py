@@ -9,7 +9,7 @@ from specs import CRATES, ROOT, Specs
 
 def crates():
     lines = (ROOT / "crates.txt").read_text().splitlines()
-    return [line.split(":")[0].strip() for line in lines if line.strip() and not line.startswith("#")]
+    return [line.split(":")[0].split()[0] for line in lines if line.strip() and not line.startswith("#")]
 
 
 def first_sentence(text):

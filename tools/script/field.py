@@ -100,9 +100,6 @@ class Field:
     def offer(self, ident: bytes, *_entry: bytes) -> None:
         self.device(ident, "offer", ("peer",))
 
-    def forge(self, ident: bytes, *_payloads: bytes) -> None:
-        raise NotAccepted("no bench sends payloads that are written by hand yet")
-
     def inbox(self, ident: bytes) -> None:
         self.device(ident, "inbox", ("peer",))
 

@@ -84,7 +84,7 @@ IN_ORDER = (
     Command("read", (ANY_ID,)),
     Command("write", (ANY_ID, MSG)),
     Command("link", (NFCA_ID, MIU, RW)),
-    Command("forge", (NFCA_ID, Payload()), Field.forge, "nowhere: no bench takes it yet", most=16),
+    Command("forge", (NFCA_ID, Payload()), most=16),
     Command("put", (MSG,)),
     Command("get", (ACCEPTED, HEX)),
     Command("lookup", (Name(),)),

@@ -78,3 +78,12 @@ pub mod FarLeaves
 pub mod LinkedPeer
 pub mod CrowdSteps
 pub mod CrowdFound
+pub mod Sensed
+pub mod FromReset
+pub mod SensingAll
+pub mod SeekingOne
+pub mod ThreeTags
+pub mod ThreeLists
+pub mod ThreePuts
+pub mod ThreeReading
+pub mod ThreeWriting

@@ -332,14 +332,14 @@ stay_all id [] = tt
 stay_all id (d ∷ ds) = (stays_at id d, stay_all id ds)
 
 -- a device as a reset leaves it
-abbrev IsRelit : Device → Type 0
+abbrev pub IsRelit : Device → Type 0
 IsRelit (T2 d) = d.front ≡ Idle
 IsRelit (T4 d) = d.front ≡ Idle
 IsRelit (Peer d) = d.front ≡ Idle
 IsRelit (T5 p) = p.lit ≡ true
 IsRelit (T3 p) = p.lit ≡ true
 
-are_relit : (ls : List Device) → AllByRecursion IsRelit (map relit ls)
+pub are_relit : (ls : List Device) → AllByRecursion IsRelit (map relit ls)
 are_relit [] = tt
 are_relit (T2 d ∷ ls) = (refl, are_relit ls)
 are_relit (T4 d ∷ ls) = (refl, are_relit ls)
@@ -347,15 +347,15 @@ are_relit (Peer d ∷ ls) = (refl, are_relit ls)
 are_relit (T5 p ∷ ls) = (refl, are_relit ls)
 are_relit (T3 p ∷ ls) = (refl, are_relit ls)
 
-relit_front : (before behind : List Device) → AllByRecursion IsRelit (before ++ behind) → AllByRecursion IsRelit before
+pub relit_front : (before behind : List Device) → AllByRecursion IsRelit (before ++ behind) → AllByRecursion IsRelit before
 relit_front [] behind h = tt
 relit_front (l ∷ ls) behind h = (h.0, relit_front ls behind h.1)
 
-relit_back : (before behind : List Device) → AllByRecursion IsRelit (before ++ behind) → AllByRecursion IsRelit behind
+pub relit_back : (before behind : List Device) → AllByRecursion IsRelit (before ++ behind) → AllByRecursion IsRelit behind
 relit_back [] behind h = h
 relit_back (l ∷ ls) behind h = relit_back ls behind h.1
 
-relit_aside : (id : List ℕ) (ls : List Device) → AllByRecursion IsRelit ls → AllByRecursion (λ l. id ≡ device_id l → ⊥) ls → AllByRecursion (IsAside ghosts id) ls
+pub relit_aside : (id : List ℕ) (ls : List Device) → AllByRecursion IsRelit ls → AllByRecursion (λ l. id ≡ device_id l → ⊥) ls → AllByRecursion (IsAside ghosts id) ls
 relit_aside id [] h o = tt
 relit_aside id (T2 d ∷ ls) h o = (record { rests = λ t. (ap is_ready h.0, ap is_active h.0); other = o.0 }, relit_aside id ls h.1 o.1)
 relit_aside id (T4 d ∷ ls) h o = (record { rests = λ t. (ap is_ready h.0, ap is_active h.0); other = o.0 }, relit_aside id ls h.1 o.1)

@@ -10,7 +10,7 @@ abbrev Store : Type 0
 Store = List ℕ
 
 -- the last one is the same
-last_follow : (now : Store) (xs ys : List Store) → Follows now xs ys → last_store now xs ≡ last_store now ys
+pub last_follow : (now : Store) (xs ys : List Store) → Follows now xs ys → last_store now xs ≡ last_store now ys
 last_follow now [] [] f = refl
 last_follow now [] (y ∷ ys) f = absurd f
 last_follow now (x ∷ xs) [] f = ap (λ s. last_store s xs) f.0 ∙ last_follow now xs [] f.1
@@ -18,7 +18,7 @@ last_follow now (x ∷ xs) (y ∷ ys) (inl f) = ap (λ s. last_store s xs) f.0 �
 last_follow now (x ∷ xs) (y ∷ ys) (inr f) = ap (λ s. last_store s xs) f.0 ∙ last_follow y xs ys f.1
 
 -- one kind of stores
-all_follow : (R : Store → Type 0) (now : Store) (xs ys : List Store) → R now → AllByRecursion R ys → Follows now xs ys → AllByRecursion R xs
+pub all_follow : (R : Store → Type 0) (now : Store) (xs ys : List Store) → R now → AllByRecursion R ys → Follows now xs ys → AllByRecursion R xs
 all_follow R now [] ys r all f = tt
 all_follow R now (x ∷ xs) [] r all f = (subst R (sym f.0) r, all_follow R now xs [] r all f.1)
 all_follow R now (x ∷ xs) (y ∷ ys) r all (inl f) = (subst R (sym f.0) r, all_follow R now xs (y ∷ ys) r all f.1)
@@ -78,7 +78,7 @@ module _ (P Q R : Store → Type 0) where
   three_follow now (x ∷ xs) (u ∷ us) vs ws p ps qs rs (inr f) = more_three x xs (subst P (sym f.0) ps.0) (three_follow u xs us vs ws ps.0 ps.1 qs rs f.1)
 
   -- the first is of one of the three
-  first_follow : (now : Store) (xs ys before during behind : List Store) → Follows now xs ys → now ∷ ys ≡ before ++ (during ++ behind) → AllByRecursion P before → AllByRecursion Q during
+  pub first_follow : (now : Store) (xs ys before during behind : List Store) → Follows now xs ys → now ∷ ys ≡ before ++ (during ++ behind) → AllByRecursion P before → AllByRecursion Q during
       → AllByRecursion R behind → Three (now ∷ xs)
   first_follow now xs ys [] [] [] f e ps qs rs = absurd cc
   first_follow now xs ys [] [] (w ∷ ws) f e ps qs rs =

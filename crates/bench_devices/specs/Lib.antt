@@ -27,3 +27,5 @@ pub mod Beside
 pub mod Opening
 pub mod LinkLaws
 pub mod Crowding
+pub mod Sensing
+pub mod Threes

@@ -59,7 +59,7 @@ pub fn place_of(devices: &[Device], id: &[u8]) -> usize
 }
 
 /// What selecting came to by a fault: no tag was selected, unless memory was wanting.
-fn none_selected(fault: PollFault) -> Result<Selection, AllocError>
+pub(crate) fn none_selected(fault: PollFault) -> Result<Selection, AllocError>
     ensures { IfOk result (λ s. (s ≡ Missed fault) × (fault ≡ faults.Memory → ⊥)) }
 {
     match fault {

@@ -259,10 +259,10 @@ pub record IsPlainNext (n : Next) : Type 0 where
   pub asked : (f : Signal) → n ≡ Asks f → f ≡ whole_a f.bytes
   pub lit : n ≡ LightUp → ⊥
 
-over_plain : IsPlainNext Over
+pub over_plain : IsPlainNext Over
 over_plain = record { asked = λ f e. absurd cc; lit = λ e. cc }
 
-stand_plain : (s : Standing) → IsWholeAt s → IsPlainNext (due_at s)
+pub stand_plain : (s : Standing) → IsWholeAt s → IsPlainNext (due_at s)
 stand_plain (Waits i f) w = record { asked = w; lit = λ e. cc }
 stand_plain (Rests i reply) w = record { asked = w; lit = λ e. cc }
 stand_plain (Broken x) w = record { asked = w; lit = λ e. cc }

@@ -77,6 +77,13 @@ pub mod StoriesHere
 pub mod StoriesStep
 pub mod StoriesOnLink
 pub mod ForgeLeft
+pub mod WalkNotes
+pub mod ForgeNotes
+pub mod ForgeParts
+pub mod ForgeObeyed
+pub mod ForgeReset
+pub mod ForgeHere
+pub mod ForgeSends
 pub mod StoriesWithin
 pub mod ForgingDue
 pub mod PayloadsWithin

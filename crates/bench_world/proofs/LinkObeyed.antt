@@ -215,7 +215,7 @@ more_noise : (first rest : List Event) → 0 < noise rest → 0 < noise (first +
 more_noise first rest some = omega (arith, some, noise_append first rest)
 
 -- A device of these stands at the place of one that is kept as it is.
-record OldAt (ls : List Device) (place : ℕ) (d : Device) : Type 0 where
+pub record OldAt (ls : List Device) (place : ℕ) (d : Device) : Type 0 where
   pub before : List Device
   pub device : Device
   pub behind : List Device
@@ -223,7 +223,7 @@ record OldAt (ls : List Device) (place : ℕ) (d : Device) : Type 0 where
   pub at : length before ≡ place
   pub same : kept device ≡ kept d
 
-old_stands : (ls before : List Device) (d : Device) (behind : List Device) (place : ℕ) → map kept ls ≡ map kept (before ++ d ∷ behind) → length before ≡ place → OldAt ls place d
+pub old_stands : (ls before : List Device) (d : Device) (behind : List Device) (place : ℕ) → map kept ls ≡ map kept (before ++ d ∷ behind) → length before ≡ place → OldAt ls place d
 old_stands [] [] d behind place same at = absurd cc
 old_stands [] (b ∷ before) d behind place same at = absurd cc
 old_stands (x ∷ ls) [] d behind place same at = record { before = []; device = x; behind = ls; split = refl; at = at; same = (let one : kept x ≡ kept d = cc in one) }

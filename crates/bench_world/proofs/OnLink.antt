@@ -106,7 +106,7 @@ kept_stable (l ∷ ls) (m ∷ ms) e =
     ap (λ x. x ∷ map stable_of ms) (one_stable l m (first_kept l m ls ms e)) ∙ ap (λ xs. stable_of l ∷ xs) (kept_stable ls ms (later_kept l m ls ms e))
 
 -- A peer is served by another end of the same setting.
-served_same : (ls ms : List Device) (ps : List (Option ℕ)) (os : Ends) → map kept ms ≡ map kept ls → AreServed ls ps os → AreServed ms ps os
+pub served_same : (ls ms : List Device) (ps : List (Option ℕ)) (os : Ends) → map kept ms ≡ map kept ls → AreServed ls ps os → AreServed ms ps os
 served_same [] [] ps os e a = tt
 served_same [] (m ∷ ms) ps os e a = absurd cc
 served_same (l ∷ ls) [] ps os e a = tt

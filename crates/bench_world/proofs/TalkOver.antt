@@ -181,6 +181,7 @@ module _ (old mid : Machines) (settled : IsSettled old) (q : ℕ) (l : OpenLink)
       told faults.NotImplemented new down k = tt
       told faults.Memory new down k = tt
       told faults.BadPeer new down k = tt
+      told faults.SlotBusy new down k = tt
 
       cut : (x : SnepFault) (new : Machines) → new ≡ Down → Did (Err x) → IsErr (fault_told x) → IsCutOffBy joins old new c
       cut (faults.LinkEnded cause.FieldLost) new down k e = absurd cc
@@ -192,6 +193,7 @@ module _ (old mid : Machines) (settled : IsSettled old) (q : ℕ) (l : OpenLink)
       cut faults.Excess new down k e = absurd (none_else faults.Excess (λ q. cc) k.goes)
       cut faults.NotImplemented new down k e = absurd (none_else faults.NotImplemented (λ q. cc) k.goes)
       cut faults.Memory new down k e = short new down k
+      cut faults.SlotBusy new down k e = absurd (none_else faults.SlotBusy (λ q. cc) k.goes)
       cut faults.BadPeer new down k e = absurd (never_bad task Own client after.end (served (Err faults.BadPeer) k))
 
     -- the same of the closing
@@ -223,6 +225,7 @@ module _ (old mid : Machines) (settled : IsSettled old) (q : ℕ) (l : OpenLink)
       told_closing_fault faults.NotImplemented new down k = tt
       told_closing_fault faults.Memory new down k = tt
       told_closing_fault faults.BadPeer new down k = tt
+      told_closing_fault faults.SlotBusy new down k = tt
 
       closing_cut : (x : SnepFault) (new : Machines) → new ≡ Down → Closed (Err x) → IsErr (fault_told x) → IsCutOffBy joins old new c
       closing_cut (faults.LinkEnded cause.FieldLost) new down k e = absurd cc
@@ -236,6 +239,7 @@ module _ (old mid : Machines) (settled : IsSettled old) (q : ℕ) (l : OpenLink)
       closing_cut faults.Memory new down k e =
           subst (λ x. IsCutOffBy joins old new x) (closes_is c asks) (closing.told_short old mid settled q l far t joins counts b j after client new down faults.Memory refl k.goes k.serves)
       closing_cut faults.BadPeer new down k e = absurd (k.serves accord none_at_rls)
+      closing_cut faults.SlotBusy new down k e = absurd k.goes
 
   -- by what was asked
   module _ (c : Command) (asked : LinkAsking) (asks : asked_on_link c ≡ Some asked) (may : Accepts (state_at old) c) (new : Machines) where

@@ -29,7 +29,7 @@ use Rattle.bench_world.specs.Links.{OpenLink, accepted_by, end_numbered, is_numb
 use Rattle.bench_world.specs.Arriving.{BeginsAt}
 use Rattle.bench_world.specs.Calls.{IfLinked}
 use Rattle.bench_world.specs.Legal.{State, Given, Joins, IsPlaced, AnswerLaw, FrontOf, CutFront, CutShort, CutStores, due, unlinked, is_linked_to, without_device, world_after, link_after, state_after, no_joins}
-use Rattle.bench_world.specs.Obeying.{Machines, state_at, HasPlaces, IsSettled, KeepsLink, Obeyed, IsCutOff, ObeyedUnlinked, CutOffUnlinked, link_ended, taken_out}
+use Rattle.bench_world.specs.Obeying.{Machines, state_at, HasPlaces, IsSettled, KeepsLink, Obeyed, ObeyedBy, IsCutOff, ObeyedUnlinked, CutOffUnlinked, link_ended, taken_out}
 use Rattle.std.proofs.lemmas.List.{length-append}
 use Rattle.bench_world.proofs.LinkKept.{keeps_so, open_less}
 use Rattle.bench_world.proofs.Peering.{any_other}
@@ -168,8 +168,8 @@ upon m a = record { air = a; ends = m.ends; peers = m.peers; link = m.link }
 
 module _ (c : Command) (r : IsReset c) (old : Machines) (settled : IsSettled old) (now : Machines) where
   -- it was obeyed once no link was open
-  pub behind_ended : (answer : Answer) → Obeyed (link_ended old) now c answer → Obeyed old now c answer
-  behind_ended answer o =
+  pub behind_ended_by : (joins : Joins) (answer : Answer) → ObeyedBy joins (link_ended old) now c answer → ObeyedBy joins old now c answer
+  behind_ended_by joins answer o =
       let s : State = state_at old in
       let t : State = state_at now in
       let es : List Event = now.air.trace in
@@ -188,15 +188,21 @@ module _ (c : Command) (r : IsReset c) (old : Machines) (settled : IsSettled old
         link = o.link;
       }
 
+  pub behind_ended : (answer : Answer) → Obeyed (link_ended old) now c answer → Obeyed old now c answer
+  behind_ended answer o = behind_ended_by no_joins answer o
+
   -- or cut off
-  pub front_ended : CutFront no_joins (state_at (link_ended old)) c now.air.trace (state_at now) → CutFront no_joins (state_at old) c now.air.trace (state_at now)
-  front_ended cut =
+  pub front_ended_by : (joins : Joins) → CutFront joins (state_at (link_ended old)) c now.air.trace (state_at now) → CutFront joins (state_at old) c now.air.trace (state_at now)
+  front_ended_by joins cut =
       let s : State = state_at old in
       let t : State = state_at now in
       let same : state_at (link_ended old) ≡ unlinked s = unlinked_state old settled.places in
       let F : State → Type 0 = λ x. FrontOf x cut.0 c now.air.trace None t in
       let C : State → Type 0 = λ x. CutStores x (cut.0).joins c now.air.trace in
       (cut.0, cut.1, r.front s t cut.0 now.air.trace None (subst F same cut.2), r.stores s (cut.0).joins now.air.trace (subst C same cut.3))
+
+  pub front_ended : CutFront no_joins (state_at (link_ended old)) c now.air.trace (state_at now) → CutFront no_joins (state_at old) c now.air.trace (state_at now)
+  front_ended cut = front_ended_by no_joins cut
 
 -- so is one that was cut off
 short_unlinked : (c : Command) → IsReset c → (s t : State) (es : List Event) → CutShort no_joins (unlinked s) c es t → CutShort no_joins s c es t

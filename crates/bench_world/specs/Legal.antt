@@ -1,6 +1,7 @@
 -- Which entries a bench may have: what it accepts, what each command changes, which request is due, and what it
 -- answers. A later command adds a case to each definition.
 use Rattle.std.specs.Prelude.{◌≡◌, ◌⊎◌, ℕ, ◌+◌, ◌*◌, ◌-◌, ◌^◌, ◌<◌, ◌≤◌, List, [], ◌∷◌, ◌++◌, length, replicate, Option, Some, None, IsSome, Bool, true, false, if◌then◌else◌}
+use Rattle.std.specs.List.{All}
 use Rattle.nfc_base.specs.declared.event.Event.{Event}
 use Rattle.nfc_base.specs.declared.event.Event.TheVariants.{Request}
 use Rattle.nfc_base.specs.declared.event.Fate.{Fate}
@@ -39,7 +40,7 @@ use Rattle.bench_world.specs.declared.entry.Received.{Received}
 use Rattle.bench_world.specs.Inbox.{inbox_at}
 use Rattle.bench_world.specs.Peers.{Peers, no_peers, with_tag, with_peer, without_place, with_place_changed, placed_under, without_number, new_end, end_offered}
 use Rattle.snep_core.specs.Server.{Received as Accepted}
-use Rattle.bench_script.specs.Script.{SpellsName, longest_message}
+use Rattle.bench_script.specs.Script.{SpellsName, longest_message, longest_payload, most_payloads}
 use Rattle.bench_devices.specs.Opening.{linking}
 use Rattle.bench_world.specs.Links.{OpenLink, ended, is_with, end_numbered, begun_if, ended_unless, with_link_if, with_link_within}
 use Rattle.bench_world.specs.Linking.{LinkTells, link_if, own_general}
@@ -127,6 +128,16 @@ pub record MayGet (most : ℕ) (name : List ℕ) : Type 0 where
   pub value : most ≤ longest_message
   pub key : length name ≤ longest_message
 
+-- a payload of a link that is written by hand has some bytes, and no more than one may have
+abbrev pub IsPayload : List ℕ → Type 0
+IsPayload p = (0 < length p) × (length p ≤ longest_payload)
+
+-- Payloads may be sent over a link of their own: there are some of them, and not too many.
+pub record MayForge (payloads : List (List ℕ)) : Type 0 where
+  pub some : 0 < length payloads
+  pub few : length payloads ≤ most_payloads
+  pub each : All IsPayload payloads
+
 -- a device with this identifier is placed
 abbrev pub IsPlaced : State → DeviceId → Type 0
 IsPlaced s id = IsSome (device_with (bytes_of id) s.world.field.listeners)
@@ -156,7 +167,7 @@ pub record MayBeBusy (s : State) (id : DeviceId) (count times : ℕ) : Type 0 wh
   pub long : (1 ≤ times) × (times ≤ longest_extension)
 
 -- The conditions of a command beside its grammar, in a state. Only what is placed can be taken away, and a tag alone
--- shows what it holds, and a peer alone what it accepted. Payloads that are written by hand no bench takes yet.
+-- shows what it holds, and a peer alone what it accepted.
 abbrev pub Accepts : State → Command → Type 0
 Accepts s Skip = Unit {0}
 Accepts s (Fates fates) = Unit {0}
@@ -175,7 +186,7 @@ Accepts s Crowd = Unit {0}
 Accepts s (Read id) = Unit {0}
 Accepts s (Write id message) = Unit {0}
 Accepts s (Link id miu window) = MayLink miu window
-Accepts s (Forge id payloads) = ⊥
+Accepts s (Forge id payloads) = MayForge payloads
 Accepts s (Put message) = length (message_of message) ≤ longest_message
 Accepts s (Get most key) = MayGet most key
 Accepts s (Lookup name) = SpellsName name name

@@ -18,6 +18,7 @@ pub mod Unfinished
 pub mod Obeying
 pub mod LinkTaken
 pub mod LinkedAt
+pub mod ForgedAt
 pub mod Behind
 pub mod Completing
 pub mod Quiet

@@ -1,16 +1,18 @@
 //! The bench: the field, and the journal of what was obeyed.
 
-ghost use Rattle.std.specs.Prelude.{◌≡◌, ◌≢◌, ◌↔◌, ◌≤◌, ◌<◌, ◌++◌, [], ◌∷◌, true, is_some, Some, None, IsTrue, option_map, option_copied, false, IfOk, OnOk, OnErr, IsErrOf, vec_len, vec_capacity, length};
+ghost use Rattle.std.specs.Prelude.{◌≡◌, ◌≢◌, ◌↔◌, ◌≤◌, ◌<◌, ◌++◌, [], ◌∷◌, true, is_some, Some, None, IsTrue, option_map, option_copied, false, IfOk, IfSome, OnOk, OnErr, IsErrOf, vec_len, vec_capacity, length};
 ghost use Rattle.bench_world.specs.Legal.{Accepts, joins_for, memory_of};
 ghost use Rattle.bench_devices.specs.Device.{most_devices};
 ghost use Rattle.bench_devices.specs.Placed.{device_with};
 ghost use Rattle.bench_world.specs.Obeying.{Obeys, Obeyed, ObeyedBy, IsSettled, IsCutOffBy, RefusedOnly, ObeyedBelow, RefusedBelow, LacksMemory, FieldOf, FarAt, begun_anew, new_bench, obey_fault_number};
 ghost use Rattle.bench_world.specs.Links.{OpenLink};
 ghost use Rattle.bench_devices.specs.Phases.{IsIdle};
+ghost use Rattle.snep_core.specs.Calling.{ClientState};
 
 use crate::asking::{find, find_tags, read_tag, write_message};
 use crate::calling::{get, lookup, put, unlink};
 use crate::entry::{Answer, Entry};
+use crate::forging::forge;
 use crate::joins::Joins;
 use crate::linking::link;
 use crate::machines::Machines;
@@ -336,7 +338,9 @@ fn run_command(
         Command::Read { id } => read_tag(alloc, machines, id),
         Command::Write { id, message } => write_message(alloc, machines, id, message),
         Command::Link { id, miu, rw } => link(alloc, machines, id, *miu, *rw),
-        Command::Forge { .. } => Err(ObeyFault::Refused),
+        Command::Forge { id, payloads } => {
+            forge(alloc, machines, joins, id, payloads.as_slice())
+        }
         Command::Put { message } => put(alloc, machines, joins, message),
         Command::Get { acceptable, key } => get(machines, joins, *acceptable, key.as_slice()),
         Command::Lookup { name } => lookup(machines, joins, name.as_slice()),
@@ -487,7 +491,8 @@ impl Bench {
 
     /// The client that asks over the open link; none where no link is open.
     pub fn client(&self) -> Option<&Client>
-        ensures { option_copied result ≡ option_map (λ (l : OpenLink). record { llc = l.client; spent = false }) self.now.state.link }
+        ensures end { option_map (λ (c : ClientState). c.llc) (option_copied result) ≡ option_map (λ (l : OpenLink). l.client) self.now.state.link }
+        ensures going { IfSome (option_copied result) (λ c. c.spent ≡ false) }
     {
         self.machines.client()
     }

@@ -18,6 +18,7 @@ mod calling;
 mod entry;
 mod event_lines;
 mod fixed_text;
+mod forging;
 mod inbox;
 mod joins;
 mod law;

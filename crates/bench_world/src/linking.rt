@@ -25,7 +25,7 @@ pub(crate) fn are_link_sizes(miu: u16, rw: u8) -> bool
 }
 
 /// The answer that tells of a fault of polling.
-fn not_found(fault: PollFault) -> Result<Answer, ObeyFault>
+pub(crate) fn not_found(fault: PollFault) -> Result<Answer, ObeyFault>
     requires { IsSome (poll_answer fault) ⊎ (fault ≡ faults.Memory) }
     ensures told { IfOk result (λ answer. poll_answer fault ≡ Some answer) }
     ensures memory { IfErr result (λ e. e ≡ ObeyFault.Memory) }

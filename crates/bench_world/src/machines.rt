@@ -8,6 +8,8 @@ ghost use Rattle.bench_world.specs.Linking.{own_params, new_client};
 ghost use Rattle.bench_world.specs.Links.{accepted_by, end_numbered, is_number, last_ended};
 ghost use Rattle.bench_world.specs.Peers.{set_under};
 ghost use Rattle.bench_world.specs.World.{FarEnd};
+ghost use Rattle.snep_core.specs.Calling.{ClientState};
+ghost use Rattle.snep_core.specs.Slots.{fresh_slots};
 
 use crate::bench::ObeyFault;
 use crate::entry::{Answer, Loss, Received};
@@ -58,7 +60,7 @@ const VERSION: u8 = 0x13;
 const SERVICES: u16 = 0x0003;
 
 /// What an initiator with this MIU says of its end of a link.
-fn own_params(miu: u16) -> LinkParams
+pub(crate) fn own_params(miu: u16) -> LinkParams
     ensures { result ≡ own_params miu }
 {
     LinkParams {
@@ -72,7 +74,7 @@ fn own_params(miu: u16) -> LinkParams
 fn new_client(alloc: Global, miu: u16, rw: u8, told: &[u8]) -> Client
     requires miu { IsMiu miu }
     requires window { IsWindow rw }
-    ensures { result ≡ record { llc = new_client miu rw told.now; spent = false } }
+    ensures { result ≡ record { llc = new_client miu rw told.now; spent = false; slots = fresh_slots } }
 {
     let mut end = Llc::new(alloc, own_params(miu), rw, NoService);
     end.restart(told);
@@ -218,7 +220,8 @@ impl Machines {
 
     /// The client of the open link.
     pub fn client(&self) -> Option<&Client>
-        ensures { option_copied result ≡ option_map (λ (l : OpenLink). record { llc = l.client; spent = false }) self.now.link }
+        ensures end { option_map (λ (c : ClientState). c.llc) (option_copied result) ≡ option_map (λ (l : OpenLink). l.client) self.now.link }
+        ensures going { IfSome (option_copied result) (λ c. c.spent ≡ false) }
     {
         match &self.link {
             Some(link) => Some(&link.client),

@@ -5,6 +5,8 @@
 #![tactic(auto)]
 
 #[cfg(test)]
+mod field_3_tests;
+#[cfg(test)]
 mod opening_tests;
 #[cfg(test)]
 mod peer_tests;

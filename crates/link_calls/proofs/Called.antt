@@ -63,6 +63,12 @@ none_bad refusals.NotFound e = cc
 none_bad refusals.Excess e = cc
 none_bad refusals.NotImplemented e = cc
 
+none_busy : IsNone faults.SlotBusy
+none_busy refusals.Reject e = cc
+none_busy refusals.NotFound e = cc
+none_busy refusals.Excess e = cc
+none_busy refusals.NotImplemented e = cc
+
 module _ {L : Type 0} (k : Ghosts L) (target : L → TargetState) (ns : List ℕ) (client left : EndState) (old new : OpenAir L) where
   abbrev Made : Task → Ending → Type 0
   Made task ending = IsMade k target ns (begins client task) old.air old.initiator old.far new.air new.initiator new.far (Ends (alone (Over ending)) left)
@@ -97,6 +103,7 @@ module _ {L : Type 0} (k : Ghosts L) (target : L → TargetState) (ns : List ℕ
     by_fault (faults.LinkEnded c) f s = record { goes = not_refused task (faults.LinkEnded c) (none_link c) f; serves = λ a. failed (faults.LinkEnded c) (s a) }
     by_fault faults.Memory f s = record { goes = not_refused task faults.Memory none_memory f; serves = λ a. failed faults.Memory (s a) }
     by_fault faults.BadPeer f s = record { goes = not_refused task faults.BadPeer none_bad f; serves = λ a. failed faults.BadPeer (s a) }
+    by_fault faults.SlotBusy f s = record { goes = not_refused task faults.SlotBusy none_busy f; serves = λ a. failed faults.SlotBusy (s a) }
 
   pub put_failed : (m : List ℕ) (x : SnepFault) → Fell (Puts m) x → (Accords client old.far.end → PutFails client_sap m old.far.end x left new.far.end) → TaskCalled k target ns (Puts m) client old (came_to (λ (e : Ending). e) (Err x)) left new
   put_failed m = by_fault (Puts m) (λ e. PutFails client_sap m old.far.end e left new.far.end) (λ w s. s) (λ e s. s)

@@ -24,7 +24,7 @@ use Rattle.far_air.specs.FarLaws.{IsLinked}
 use Rattle.peer_air.specs.PeerFars.{peer_ends}
 use Rattle.peer_air.specs.SwapTurns.{Stands}
 use Rattle.snep_core.specs.declared.fault.SnepFault.{SnepFault}
-use Rattle.snep_core.specs.declared.fault.SnepFault.TheVariants.{BadPeer, Excess, LinkEnded, Memory, NotFound, NotImplemented, Reject}
+use Rattle.snep_core.specs.declared.fault.SnepFault.TheVariants.{BadPeer, Excess, LinkEnded, Memory, NotFound, NotImplemented, Reject, SlotBusy}
 use Rattle.snep_core.specs.Accord.{PeerState}
 use Rattle.snep_core.specs.Server.{serving}
 use Rattle.snep_core.specs.Calling.{Talks, FailsBy, fault_of, gives_up}
@@ -83,6 +83,7 @@ module _ {L C : Type 0} (k : Ghosts L) (target : L → TargetState) (see : C →
   cut_closing client Excess c = absurd c
   cut_closing client NotImplemented c = absurd c
   cut_closing client BadPeer c = absurd c
+  cut_closing client SlotBusy c = absurd c
   cut_closing client (LinkEnded cause.Protocol) c = absurd c
   cut_closing client (LinkEnded cause.Memory) c = absurd c
   cut_closing client (LinkEnded cause.FieldLost) c = record {

@@ -116,7 +116,8 @@ fn refused_or_failed(fault: SnepFault) -> Result<Ending, SnepFault>
         SnepFault::NotFound => Ok(Ending::Refused(Refusal::NotFound)),
         SnepFault::Excess => Ok(Ending::Refused(Refusal::Excess)),
         SnepFault::NotImplemented => Ok(Ending::Refused(Refusal::NotImplemented)),
-        SnepFault::LinkEnded(_) | SnepFault::Memory | SnepFault::BadPeer => Err(fault),
+        SnepFault::LinkEnded(_) | SnepFault::Memory | SnepFault::BadPeer | SnepFault::SlotBusy =>
+            Err(fault),
     }
 }
 

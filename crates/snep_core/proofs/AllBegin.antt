@@ -1,5 +1,5 @@
 -- How a call of any requests begins where a client and a peer accord.
-use Rattle.std.proofs.Common.{◌≡◌, ◌≤◌, ◌⊎◌, ℕ, ◌+◌, Bool, true, false, List, [], ◌++◌, length, map, Option, Some, None, refl, sym, ◌∙◌, ap, subst, inl, inr, arith, append-nil}
+use Rattle.std.proofs.Common.{◌≡◌, ◌≤◌, ◌⊎◌, ℕ, Bool, true, false, List, [], ◌++◌, length, map, Option, Some, None, refl, sym, ◌∙◌, ap, subst, inl, inr, arith, append-nil}
 use Rattle.llcp_pdu.specs.General.{IsMiu}
 use Rattle.llcp_conn.specs.Conn.{ConnState}
 use Rattle.llcp_link.specs.State.{OwnState, Queued, conn_from, own_from}

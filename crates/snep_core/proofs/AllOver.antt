@@ -7,7 +7,7 @@ use Rattle.snep_core.specs.Jobs.{Job}
 use Rattle.snep_core.specs.Payloads.{accepted_from}
 use Rattle.snep_core.specs.Server.{Received, serving}
 use Rattle.snep_core.specs.Session.{Offer, fresh_session}
-use Rattle.snep_core.specs.Talk.{AllReady, EndState, Goes, Step, Working, is_over, ready, silent}
+use Rattle.snep_core.specs.Talk.{AllReady, EndState, Goes, Step, Working, is_over, ready, saps, silent}
 use Rattle.snep_core.proofs.Carrying.{AtFronts, at_front}
 use Rattle.snep_core.proofs.Courses.{Course, IsSafe}
 use Rattle.snep_core.proofs.Hops.{hands, takes}
@@ -16,7 +16,7 @@ use Rattle.snep_core.proofs.OnConnection.{conn_at}
 use Rattle.snep_core.proofs.Opening.{stands, waits}
 use Rattle.snep_core.proofs.Places.{Plan, StandsBy, Talking}
 use Rattle.snep_core.proofs.Sides.{Sizes}
-use Rattle.snep_core.proofs.Turns.{StepSo, ready_so_far, turns_so}
+use Rattle.snep_core.proofs.Turns.{Agrees, Rests, StepSo, ready_so_far, turns_so}
 
 module _ (limit : ℕ) (table : List Offer) (names : List Bound) (old : List Received) (z : Sizes) (plan : ℕ → Plan) (keeps : Keeps limit table names old z plan)
     (rests : (s miu size : ℕ) → (plan s).is_job ≡ false → (ph : ((plan s).conv miu size).Phase) → ((plan s).conv miu size).Holds ph
@@ -102,6 +102,22 @@ module _ (limit : ℕ) (table : List Offer) (names : List Bound) (old : List Rec
         stands = stands_again;
       }
 
+  -- However the client's next payload comes to the peer, what is accepted is of some kind, with its jobs as they then stand.
+  pub safe_so : (Adds : List Received → Type 0) (w : Working) (p : PeerState) (job : ℕ → Job) (a : Agrees job w.jobs) (e : saps w.jobs ≡ ours)
+      (h : Rests limit table names old z plan keeps rests ours unlike ranges mine job w.llc p)
+      → ((l : EndState) (q : PeerState) → M_ (ready_so_far limit table names old z plan keeps rests ours unlike ranges mine w p job a e h).now l q → Adds q.service.accepted)
+      → IsSafe Adds (ready w).llc p
+  safe_so Adds w p job a e h adds =
+      let x = ready_so_far limit table names old z plan keeps rests ours unlike ranges mine w p job a e h in
+      let handed = hands limit table names old z plan x.now keeps x.meets in
+      subst (λ (r : AllReady). IsSafe Adds r.llc p) (sym x.is) (record {
+        here = adds x.to p x.meets;
+        stepped = λ k count. adds _ _ (takes limit table names old z plan x.now keeps (handed k).now count);
+        fronts = λ k front behind split.
+            (let f = at_front silent serving (M_ x.now) front behind p (subst (λ is. AtFronts silent serving (M_ x.now) p is) split (handed k).fronts) in
+            adds _ _ f.1);
+      })
+
   -- The course of a call: until all is answered, what is accepted is of some kind.
   module _ (Adds : List Received → Type 0) (adds : (job : ℕ → Job) (l : EndState) (p : PeerState) → M_ job l p → Adds p.service.accepted) where
     abbrev At_ : Step → PeerState → Type 0
@@ -109,15 +125,7 @@ module _ (limit : ℕ) (table : List Offer) (names : List Bound) (old : List Rec
 
     pub jobs_safe : (w : Working) (p : PeerState) → At_ (Goes w) p → IsSafe Adds (ready w).llc p
     jobs_safe w p (job, a, e, on, h, f) =
-        let x = ready_so_far limit table names old z plan keeps rests ours unlike ranges mine w p job a e h in
-        let handed = hands limit table names old z plan x.now keeps x.meets in
-        subst (λ (r : AllReady). IsSafe Adds r.llc p) (sym x.is) (record {
-          here = adds x.now x.to p x.meets;
-          stepped = λ k count. adds x.now _ _ (takes limit table names old z plan x.now keeps (handed k).now count);
-          fronts = λ k front behind split.
-              (let f = at_front silent serving (M_ x.now) front behind p (subst (λ is. AtFronts silent serving (M_ x.now) p is) split (handed k).fronts) in
-              adds x.now _ _ f.1);
-        })
+        safe_so Adds w p job a e h (adds (ready_so_far limit table names old z plan keeps rests ours unlike ranges mine w p job a e h).now)
 
     abbrev pub jobs_course : Course Adds
     jobs_course = record {

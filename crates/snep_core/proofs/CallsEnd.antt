@@ -285,7 +285,7 @@ put_elsewhere s o (x ∷ os) n = go (x.here == o.here) refl (put_elsewhere s o o
     go false t more = ap (λ z. if x.here == s then Some x else z) more
 
 -- What a task puts before a payload leaves the other connections as they are.
-record Opens (l : EndState) (sap : ℕ) (r : Ready) : Type 0 where
+pub record Opens (l : EndState) (sap : ℕ) (r : Ready) : Type 0 where
   pub counted : IsCounted l sap → IsCounted r.llc sap
   pub others : (s : ℕ) → (sap == s) ≡ false → own_from s r.llc.own ≡ own_from s l.own
 
@@ -312,7 +312,7 @@ leaving_opens : (l : EndState) (sap : ℕ) (b : Bool) → Opens l sap (leaving l
 leaving_opens l sap true = ended_opens l sap (own_of sap l) refl
 leaving_opens l sap false = record { counted = λ c. c; others = λ s n. refl }
 
-one_opens : (l : EndState) (sap : ℕ) (task : Task) → Opens l sap (opening l sap task)
+pub one_opens : (l : EndState) (sap : ℕ) (task : Task) → Opens l sap (opening l sap task)
 one_opens l sap (Puts message) = connected_opens l sap (Begins None (put_bytes message))
 one_opens l sap (Gets most key) = connected_opens l sap (Begins (Some most) (get_bytes most key))
 one_opens l sap (Finds name) = record { counted = λ c. c; others = λ s n. refl }

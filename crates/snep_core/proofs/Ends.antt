@@ -23,11 +23,10 @@ use Rattle.snep_core.proofs.Conversations.{Conversation, Converses, Starts}
 use Rattle.snep_core.proofs.Idling.{Idles}
 use Rattle.snep_core.proofs.Meets.{is_in}
 use Rattle.snep_core.proofs.OnConnection.{conn_at}
-use Rattle.snep_core.proofs.Opening.{stands}
 use Rattle.snep_core.proofs.Places.{StandsBy}
 use Rattle.snep_core.proofs.Served.{Serves}
 use Rattle.snep_core.proofs.Sides.{Kept, Sizes}
-use Rattle.snep_core.proofs.OneJob.{OneRests, is_it, job_by, jobs, ours, plan_by, unlike}
+use Rattle.snep_core.proofs.OneJob.{OneRests, is_it, job_by, jobs, ours, plan_by}
 
 -- general bytes say no MIU below the least one
 miu_more : (o : Option ℕ) → least_miu ≤ miu_by least_miu o

@@ -1,5 +1,5 @@
 -- The jobs of a call stay on their connections, each with its aim, until all are over.
-use Rattle.std.proofs.Common.{◌≡◌, ◌<◌, ℕ, ◌&&◌, nat_lt, Bool, true, List, [], ◌∷◌, Option, Some, None, refl, sym, ap, subst, ◌∙◌, arith}
+use Rattle.std.proofs.Common.{◌≡◌, ◌<◌, ℕ, ◌&&◌, nat_lt, Bool, true, false, List, [], ◌∷◌, Option, Some, None, refl, sym, ap, subst, ◌∙◌, arith}
 use Rattle.nfc_base.specs.Choosing.{first_number, later_numbers}
 use Rattle.nfc_base.specs.Links.{FarStep, Stepped, Stopped}
 use Rattle.std.specs.List.{IsDistinct}
@@ -9,17 +9,17 @@ use Rattle.llcp_link.specs.Giving.{after_giving}
 use Rattle.llcp_link.specs.Taking.{taken_from}
 use Rattle.llcp_link.specs.State.{own_from}
 use Rattle.llcp_link.proofs.Ranged.{either}
-use Rattle.snep_core.specs.Jobs.{Job, Begins, Waits, Sends, Asks, Collects, Looks, Closes, Over, Ending}
-use Rattle.snep_core.specs.Talk.{EndState, Ends, GivesUp, Goes, OnSap, Step, Told, Working, all_emptied, all_heard, all_over, all_readied, all_well, as_they_came, gave_any, given_up, goes_on, heard, heard_with, idle_after, is_over, most_idle, one_on, own_of, readied, ready, replied, saps, settled, own_of, silent, told_by, took}
+use Rattle.snep_core.specs.Jobs.{Job, Begins, Waits, Sends, Asks, Collects, Looks, Closes, Over, Ending, told_in}
+use Rattle.snep_core.specs.Talk.{EndState, Ends, GivesUp, Goes, OnSap, Step, Told, Working, all_emptied, all_heard, all_over, all_readied, all_well, as_they_came, emptied, gave_any, given_up, goes_on, heard, heard_so, heard_with, idle_after, is_over, most_idle, one_on, own_of, readied, ready, replied, saps, settled, own_of, silent, told_by, took, units_of}
 use Rattle.snep_core.specs.RepliesLeft.{IsUnderWay}
 use Rattle.snep_core.specs.Waning.{Aim, IsOf, Serves, aim_of}
 use Rattle.snep_core.proofs.Jobs.{heard_lets, serves_own}
 use Rattle.snep_core.proofs.Submits.{ready_serves}
 
--- each job stands where it stood, and serves each aim that it served
-abbrev Follow : List OnSap → List OnSap → Type 0
+-- each job stands where it stood, serves each aim that it served, and is over where it was
+abbrev pub Follow : List OnSap → List OnSap → Type 0
 Follow [] [] = Unit {0}
-Follow (x ∷ xs) (y ∷ ys) = (y.sap ≡ x.sap) × ((aim : Aim) → Serves aim x.job → Serves aim y.job) × Follow xs ys
+Follow (x ∷ xs) (y ∷ ys) = (y.sap ≡ x.sap) × ((aim : Aim) → Serves aim x.job → Serves aim y.job) × ((e : Ending) → x.job ≡ Over e → y.job ≡ Over e) × Follow xs ys
 Follow _ _ = ⊥
 
 follow_on : (xs ys zs : List OnSap) → Follow xs ys → Follow ys zs → Follow xs zs
@@ -28,11 +28,22 @@ follow_on [] [] (z ∷ zs) f g = absurd g
 follow_on [] (y ∷ ys) zs f g = absurd f
 follow_on (x ∷ xs) [] zs f g = absurd f
 follow_on (x ∷ xs) (y ∷ ys) [] f g = absurd g
-follow_on (x ∷ xs) (y ∷ ys) (z ∷ zs) f g = (g.0 ∙ f.0, λ aim s. g.1 aim (f.1 aim s), follow_on xs ys zs f.2 g.2)
+follow_on (x ∷ xs) (y ∷ ys) (z ∷ zs) f g = (g.0 ∙ f.0, λ aim s. g.1 aim (f.1 aim s), λ e o. g.2 e (f.2 e o), follow_on xs ys zs f.3 g.3)
 
 ready_follow : (xs : List OnSap) (l : EndState) → Follow xs (all_readied xs l).jobs
 ready_follow [] l = tt
-ready_follow (x ∷ xs) l = (refl, λ aim s. ready_serves aim l x.sap x.job s, ready_follow xs (readied l x.sap x.job).llc)
+ready_follow (x ∷ xs) l = (refl, λ aim s. ready_serves aim l x.sap x.job s, λ e o. ap (λ j. (readied l x.sap j).job) o, ready_follow xs (readied l x.sap x.job).llc)
+
+-- a job that is over hears nothing
+over_heard : (waiting : Bool) (l : EndState) (sap : ℕ) (new : Job) (e : Ending) (units : List (List ℕ)) → heard_so (emptied l sap) sap (told_in waiting (Over e) units) ≡ Some new
+    → new ≡ Over e
+over_heard waiting l sap new e [] h = cc
+over_heard true l sap new e (u ∷ us) h = absurd cc
+over_heard false l sap new e (u ∷ us) h = absurd cc
+
+heard_over : (waiting : Bool) (l : EndState) (sap : ℕ) (job new : Job) (e : Ending) → job ≡ Over e → heard waiting l sap job ≡ Some new → new ≡ Over e
+heard_over waiting l sap job new e o h =
+    over_heard waiting l sap new e (units_of (own_from sap l.own)) (sym (ap (heard waiting l sap) o) ∙ h)
 
 hear_follow : (old l : EndState) (xs ys : List OnSap) → all_well (all_heard old l xs) ≡ Some ys → Follow xs ys
 hear_follow old l [] ys e = let k : [] ≡ ys = cc in subst (Follow []) k tt
@@ -49,7 +60,7 @@ hear_follow old l (x ∷ xs) ys e =
     go (Some job) i None more j k = absurd cc
     go (Some job) i (Some zs) more j k =
         let same : record { sap = x.sap; job = job } ∷ zs ≡ ys = cc in
-        subst (Follow (x ∷ xs)) same (refl, λ aim s. (heard_lets aim waiting l x.sap x.job job i).serves s, more zs j)
+        subst (Follow (x ∷ xs)) same (refl, λ aim s. (heard_lets aim waiting l x.sap x.job job i).serves s, λ e o. heard_over waiting l x.sap x.job job e o i, more zs j)
 
 -- A step of a call that began with these jobs.
 abbrev StepsFrom : List OnSap → Step → Type 0
@@ -84,11 +95,11 @@ told_from xs ns (Stopped out ∷ did) (Goes w) to h t = absurd t
 told_from xs ns (x ∷ did) (Ends jobs l) to h t = absurd t
 told_from xs ns (x ∷ did) (GivesUp g) to h t = absurd t
 
-follow_saps : (xs ys : List OnSap) → Follow xs ys → saps ys ≡ saps xs
+pub follow_saps : (xs ys : List OnSap) → Follow xs ys → saps ys ≡ saps xs
 follow_saps [] [] f = refl
 follow_saps [] (y ∷ ys) f = absurd f
 follow_saps (x ∷ xs) [] f = absurd f
-follow_saps (x ∷ xs) (y ∷ ys) f = ap (λ s. s ∷ saps ys) f.0 ∙ ap (λ ss. x.sap ∷ ss) (follow_saps xs ys f.2)
+follow_saps (x ∷ xs) (y ∷ ys) f = ap (λ s. s ∷ saps ys) f.0 ∙ ap (λ ss. x.sap ∷ ss) (follow_saps xs ys f.3)
 
 -- Where a call goes on behind a reply, its jobs are on the same connections.
 pub replied_saps : (n : ℕ) (w next : Working) (reply : List ℕ) → replied n w reply ≡ Goes next → saps next.jobs ≡ saps w.jobs
@@ -97,15 +108,33 @@ replied_saps n w next reply e =
     (took_from w.jobs (all_readied w.jobs w.llc).jobs (after_giving silent n (ready w).llc)
     (taken_from silent (after_giving silent n (ready w).llc) reply) w.idle (ready_follow w.jobs w.llc)))
 
+-- And jobs that were over are so, also where it ends.
+pub replied_follow : (n : ℕ) (w next : Working) (reply : List ℕ) → replied n w reply ≡ Goes next → Follow w.jobs next.jobs
+replied_follow n w next reply e =
+    subst (StepsFrom w.jobs) e
+    (took_from w.jobs (all_readied w.jobs w.llc).jobs (after_giving silent n (ready w).llc)
+    (taken_from silent (after_giving silent n (ready w).llc) reply) w.idle (ready_follow w.jobs w.llc))
+
+pub ended_follow : (n : ℕ) (w : Working) (jobs : List OnSap) (l : EndState) (reply : List ℕ) → replied n w reply ≡ Ends jobs l → Follow w.jobs jobs
+ended_follow n w jobs l reply e =
+    (subst (StepsFrom w.jobs) e
+    (took_from w.jobs (all_readied w.jobs w.llc).jobs (after_giving silent n (ready w).llc)
+    (taken_from silent (after_giving silent n (ready w).llc) reply) w.idle (ready_follow w.jobs w.llc))).0
+
+follow_self : (xs : List OnSap) → Follow xs xs
+follow_self [] = tt
+follow_self (x ∷ xs) = (refl, λ aim s. s, λ e o. o, follow_self xs)
+
+-- the jobs that a call ends with
+pub told_follow : (w : Working) (ns : List ℕ) (did : List FarStep) (jobs : List OnSap) (new : EndState) → Told ns (Goes w) did (Ends jobs new)
+    → Follow w.jobs jobs × (all_over jobs ≡ true)
+told_follow w ns did jobs new t = told_from w.jobs ns did (Goes w) (Ends jobs new) (follow_self w.jobs) t
+
 -- A call of one job that is over: that job came to an ending of its aim.
 pub record OnlyEnding (sap : ℕ) (job : Job) (jobs : List OnSap) : Type 0 where
   pub ending : Ending
   pub is : jobs ≡ one_on sap (Over ending)
   pub of_aim : IsOf (aim_of job) ending
-
-follow_self : (xs : List OnSap) → Follow xs xs
-follow_self [] = tt
-follow_self (x ∷ xs) = (refl, λ aim s. s, follow_self xs)
 
 only_over : (sap : ℕ) (job now : Job) → (is_over now && true) ≡ true → Serves (aim_of job) now → OnlyEnding sap job (one_on sap now)
 only_over sap job (Over e) o s = record { ending = e; is = refl; of_aim = s }
@@ -121,7 +150,7 @@ ends_only : (sap : ℕ) (job : Job) (jobs : List OnSap) → Follow (one_on sap j
 ends_only sap job [] f o = absurd f
 ends_only sap job (y ∷ []) f o =
     subst (λ s. OnlyEnding sap job (one_on s y.job)) (sym f.0) (only_over sap job y.job o (f.1 (aim_of job) (serves_own job)))
-ends_only sap job (y ∷ z ∷ zs) f o = absurd f.2
+ends_only sap job (y ∷ z ∷ zs) f o = absurd f.3
 
 -- A call of one job begins under way.
 pub one_under_way : (sap : ℕ) (job : Job) (l : EndState) → acked_of (own_of sap l) < count_end → IsUnderWay (record { llc = l; jobs = one_on sap job; idle = 0 })

@@ -65,3 +65,6 @@ pub mod Connects
 pub mod AllBegin
 pub mod PutsEnd
 pub mod PutsRun
+pub mod SlotPuts
+pub mod RunEnds
+pub mod SlotOpens

@@ -1,5 +1,5 @@
 -- A client and a peer with any connections: what holds of both as PDUs go from one to the other.
-use Rattle.std.proofs.Common.{◌≡◌, ◌<◌, ◌≤◌, ◌⊎◌, nat_lt, ℕ, ◌+◌, ◌==◌, ◌||◌, Bool, true, false, List, [], ◌∷◌, ◌++◌, length, map, Option, Some, None, IfSome, is_some, refl, sym, ◌∙◌, ap, subst, inl, inr, arith}
+use Rattle.std.proofs.Common.{◌≡◌, ◌<◌, ◌≤◌, ◌⊎◌, nat_lt, ℕ, ◌+◌, Bool, true, false, List, [], ◌∷◌, ◌++◌, length, map, Option, Some, None, IfSome, is_some, refl, sym, ◌∙◌, ap, subst, inl, inr, arith}
 use Rattle.llcp_pdu.specs.General.{IsMiu}
 use Rattle.llcp_pdu.specs.declared.part.Part.{Part}
 use Rattle.llcp_pdu.specs.declared.part.Part.TheVariants.{Cc, Connect}
@@ -11,6 +11,7 @@ use Rattle.llcp_link.specs.Names.{own_params}
 use Rattle.llcp_link.specs.Taking.{steps_part}
 use Rattle.snep_core.specs.declared.silent.NoService.{NoService}
 use Rattle.snep_core.specs.Accord.{PeerState, most_clients, server_conn}
+pub use Rattle.snep_core.specs.Accord.{is_in}
 use Rattle.snep_core.specs.Jobs.{Job}
 use Rattle.snep_core.specs.Server.{Received, ServerState, serving, session_of}
 use Rattle.snep_core.specs.Session.{Offer, did, sent}
@@ -23,11 +24,7 @@ use Rattle.snep_core.proofs.Pairs.{apart_acks, apart_informs, asks, bare_acks, b
 use Rattle.snep_core.proofs.Places.{Plan, StandsBy, Talking, asks_short, client_ack_short, few_asked, few_told, first_numbers, fits, server_ack_short, stands_left, talks_asks, talks_client_acks, talks_server_acks, talks_tells, tells_short}
 use Rattle.snep_core.proofs.Sides.{Leaves, Place, Sides, Sizes, leaves_brought, leaves_same, leaves_with, sides_on, some_still}
 
--- one of these SAPs; and no two are the same
-abbrev pub is_in : ℕ → List ℕ → Bool
-is_in s [] = false
-is_in s (t ∷ ts) = (t == s) || is_in s ts
-
+-- no two of these SAPs are the same
 abbrev pub AreUnlike : List ℕ → Type 0
 AreUnlike [] = Unit {0}
 AreUnlike (t ∷ ts) = (is_in t ts ≡ false) × AreUnlike ts

@@ -4,7 +4,7 @@ use Rattle.llcp_pdu.specs.General.{IsMiu}
 use Rattle.llcp_link.proofs.Clients.{is_self}
 use Rattle.llcp_link.specs.State.{conn_from, own_from}
 use Rattle.snep_core.specs.declared.job.Refusal.TheVariants as refusals
-use Rattle.snep_core.specs.Accord.{IsClientSap, PeerState, from_sap}
+use Rattle.snep_core.specs.Accord.{AddsFrom, EndedFrom, IsClientSap, PeerState, from_sap}
 use Rattle.snep_core.specs.Jobs.{Begins, Done, Ending, Job, Over, Refused}
 use Rattle.snep_core.specs.Payloads.{accepted_from}
 use Rattle.snep_core.specs.Server.{Received}
@@ -23,18 +23,6 @@ use Rattle.snep_core.proofs.Sides.{Sizes}
 -- one message more from a SAP
 pub and_one : (sap : ℕ) (m : List ℕ) (old : List Received) → accepted_from sap (old ++ from_sap sap m ∷ []) ≡ accepted_from sap old ++ m ∷ []
 and_one sap m old = accepted_more sap old (from_sap sap m ∷ []) ∙ ap (λ b. accepted_from sap old ++ (if b then m ∷ [] else [])) (is_self sap)
-
--- from a SAP nothing more was accepted, or this message once, which is within the limit
-abbrev pub AddsFrom : ℕ → List ℕ → PeerState → List Received → Type 0
-AddsFrom sap m p now =
-    (accepted_from sap now ≡ accepted_from sap p.service.accepted)
-    ⊎ ((accepted_from sap now ≡ accepted_from sap p.service.accepted ++ m ∷ []) × (length m ≤ p.service.limit))
-
--- how a put ended: it was accepted; or rejected
-abbrev pub EndedFrom : ℕ → List ℕ → PeerState → Ending → List Received → Type 0
-EndedFrom sap m p e now =
-    ((e ≡ Done) × (length m ≤ p.service.limit) × (accepted_from sap now ≡ accepted_from sap p.service.accepted ++ m ∷ []))
-    ⊎ ((e ≡ Refused refusals.Reject) × (p.service.limit < length m) × (accepted_from sap now ≡ accepted_from sap p.service.accepted))
 
 module _ (p : PeerState) (z : Sizes) (ours : List ℕ) (ranges : (s : ℕ) → is_in s ours ≡ true → IsClientSap s) (message : ℕ → List ℕ)
     (short : (s : ℕ) → is_in s ours ≡ true → length (message s) < 2 ^ 32) where
@@ -98,8 +86,8 @@ module _ (p : PeerState) (z : Sizes) (ours : List ℕ) (ranges : (s : ℕ) → i
     ends_as : (e : Ending) (now : List Received) → accepted_from s q.service.accepted ≡ accepted_from s now
         → ((e ≡ Done) × (length (message s) ≤ limit) × (now ≡ old ++ from_sap s (message s) ∷ []))
         ⊎ ((e ≡ Refused refusals.Reject) × (limit < length (message s)) × (now ≡ old)) → EndedFrom s (message s) p e q.service.accepted
-    ends_as e now g (inl (k, w, a)) = inl (k, w, g ∙ ap (accepted_from s) a ∙ and_one s (message s) old)
-    ends_as e now g (inr (k, w, a)) = inr (k, w, g ∙ ap (accepted_from s) a)
+    ends_as e now g (inl (k, w, a)) = inl (k, (w, g ∙ ap (accepted_from s) a ∙ and_one s (message s) old))
+    ends_as e now g (inr (k, w, a)) = inr (k, (w, g ∙ ap (accepted_from s) a))
 
     -- at its end
     pub ended_from : (e : Ending) → job s ≡ Over e → EndedFrom s (message s) p e q.service.accepted

@@ -1,5 +1,5 @@
 -- A call goes on by one exchange more.
-use Rattle.std.proofs.Common.{◌≡◌, ℕ, Bool, true, false, List, [], ◌∷◌, ◌++◌, ◌||◌, eqb, nat_lt, Option, Some, None, refl, sym, ap, subst, ◌∙◌, inl, inr, append-nil, if◌then◌else◌}
+use Rattle.std.proofs.Common.{◌≡◌, ℕ, Bool, true, false, List, [], ◌∷◌, ◌++◌, ◌||◌, ◌⊎◌, eqb, nat_lt, Option, Some, None, refl, sym, ap, subst, ◌∙◌, inl, inr, append-nil, if◌then◌else◌}
 use Rattle.std.specs.List.{IsDistinct}
 use Rattle.std.proofs.lemmas.List.{append_assoc}
 use Rattle.nfc_base.specs.Choosing.{first_number, later_numbers}
@@ -11,12 +11,12 @@ use Rattle.snep_core.specs.declared.job.HeardAll.{HeardAll}
 use Rattle.snep_core.specs.declared.job.Turn.{Turn}
 use Rattle.snep_core.specs.declared.job.Turn.TheVariants.{Ended, Went, GaveUp}
 use Rattle.snep_core.specs.declared.fault.SnepFault.{SnepFault}
-use Rattle.snep_core.specs.declared.fault.SnepFault.TheVariants.{Memory}
-use Rattle.snep_core.specs.Calling.{Breaks, Exchanged, FailsBy, IsCut, IsStep, Talks, Turned, TurnedTo, gives_up, last_of, payloads}
+use Rattle.snep_core.specs.declared.fault.SnepFault.TheVariants.{BadPeer, Memory}
+use Rattle.snep_core.specs.Calling.{Breaks, Exchanged, FailsAt, FailsBy, GivesUpThere, IsCut, IsStep, Talks, Turned, TurnedTo, gives_up, last_of, payloads}
 use Rattle.snep_core.specs.Jobs.{Job, has_byte}
 use Rattle.snep_core.specs.Listening.{HearsAll, all_awaiting, all_come, awaited_saps, empties, forgets, gave_one}
 use Rattle.snep_core.proofs.AllJobs.{awaited_so, come_saps, come_so, empties_so, forgets_so, gave_so, ready_saps}
-use Rattle.snep_core.specs.Talk.{AllReady, AreApart, EndState, Ends, GivesUp, Goes, OnSap, Step, Told, Working, all_emptied, all_heard, all_over, all_readied, as_they_came, emptied, gave_any, gave_something, given_up, goes_on, heard, heard_with, idle_after, most_idle, numbers_behind, one_on, own_of, payload, ready, replied, replied_ready, saps, settled, silent, told_by, took, units_of}
+use Rattle.snep_core.specs.Talk.{AllReady, AreApart, CameTo, EndState, Ends, GivesUp, Goes, OnSap, Step, Told, Working, all_emptied, all_heard, all_over, all_readied, as_they_came, emptied, gave_any, gave_something, given_up, goes_on, heard, heard_with, idle_after, most_idle, numbers_behind, one_on, own_of, payload, ready, replied, replied_ready, saps, settled, silent, told_by, took, units_of}
 
 told_more : (from : Step) (ns : List ℕ) (did : List FarStep) (w : Working) (reply : List ℕ) (to : Step) → Told ns from did (Goes w)
     → replied (first_number (numbers_behind did ns)) w reply ≡ to
@@ -63,6 +63,18 @@ module _ {C A : Type 0} (seen : C → CarrierView) (swaps : C → List ℕ → L
     over = refl;
     swapped = refl;
     far_moved = refl;
+  }
+
+  -- memory was wanting before anything was handed over
+  pub rests_at : (numbers : List ℕ) (w : Working) (link : C) (far : A) (e : SnepFault) (new : EndState) → e ≡ Memory
+      → FailsAt seen swaps steps stops numbers (Goes w) link far w.jobs e new link far
+  rests_at numbers w link far e new f = record {
+    at = w;
+    stood = refl;
+    mid = link;
+    mid_far = far;
+    talks = talks_none numbers (Goes w) link far;
+    fails = inr (inl (inl (record { fault = f; link_is = refl; far_is = refl })));
   }
 
   -- memory was wanting before anything was handed over
@@ -121,6 +133,49 @@ module _ {C A : Type 0} (seen : C → CarrierView) (swaps : C → List ℕ → L
       talks = t.talks;
       cut = subst (λ z. IsCut seen swaps steps stops (first_number z) (ready w).llc mid mid_far e new now after) t.left_is k;
     }
+
+    pub talks_break_at : (e : SnepFault) (new : EndState) (now : C) (after : A) → IsCut seen swaps steps stops (first_number left) (ready w).llc mid mid_far e new now after
+        → FailsAt seen swaps steps stops numbers from link far w.jobs e new now after
+    talks_break_at e new now after k = record {
+      at = w;
+      stood = refl;
+      mid = mid;
+      mid_far = mid_far;
+      talks = t.talks;
+      fails = inr (subst (λ z. IsCut seen swaps steps stops (first_number z) (ready w).llc mid mid_far e new now after) t.left_is k);
+    }
+
+    pub talks_give_up_at : (came : List CameTo) (new : EndState) (now : C) (after : A) → TurnedTo seen swaps steps stops (first_number left) w mid mid_far (gives_up came new) now after
+        → FailsAt seen swaps steps stops numbers from link far w.jobs BadPeer new now after
+    talks_give_up_at came new now after u = record {
+      at = w;
+      stood = refl;
+      mid = mid;
+      mid_far = mid_far;
+      talks = t.talks;
+      fails = inl (record {
+        fault = refl;
+        came = came;
+        turned = subst (λ z. TurnedTo seen swaps steps stops (first_number z) w mid mid_far (gives_up came new) now after) t.left_is u;
+      });
+    }
+
+  -- a call that failed so failed
+  pub fails_by : (numbers : List ℕ) (from : Step) (link : C) (far : A) (jobs : List OnSap) (e : SnepFault) (new : EndState) (now : C) (after : A)
+      → FailsAt seen swaps steps stops numbers from link far jobs e new now after → FailsBy seen swaps steps stops numbers from link far e new now after
+  fails_by numbers from link far jobs e new now after h = go h.fails
+    where
+      left : List ℕ
+      left = numbers_behind h.talks.did numbers
+
+      go : GivesUpThere seen swaps steps stops (first_number left) h.at h.mid h.mid_far e new now after
+          ⊎ IsCut seen swaps steps stops (first_number left) (ready h.at).llc h.mid h.mid_far e new now after → FailsBy seen swaps steps stops numbers from link far e new now after
+      go (inl g) = inl (
+        g.fault,
+        g.came,
+        (talks_on numbers from link far left h.at h.mid h.mid_far (record { talks = h.talks; left_is = refl }) (gives_up g.came new) now after g.turned).talks,
+      )
+      go (inr k) = inr (record { at = h.at; mid = h.mid; mid_far = h.mid_far; talks = h.talks; cut = k })
 
 -- What a job that is alone comes to, behind a payload and its reply.
 module _ (sap : ℕ) (old mid new : EndState) (job now : Job) (idle : ℕ) where

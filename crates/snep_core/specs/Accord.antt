@@ -1,6 +1,6 @@
 -- A far end that serves as this project's server does, and what a client's end and such a far end come to between
 -- calls.
-use Rattle.std.specs.Prelude.{◌≡◌, ◌<◌, ◌≤◌, ◌⊎◌, ℕ, zero, suc, ◌+◌, ◌%◌, ◌==◌, Bool, true, false, List, [], ◌∷◌, ◌++◌, length, Option, IfSome, Some, None, is_some, if◌then◌else◌}
+use Rattle.std.specs.Prelude.{◌≡◌, ◌<◌, ◌≤◌, ◌⊎◌, ℕ, zero, suc, ◌+◌, ◌%◌, ◌==◌, ◌||◌, Bool, true, false, List, [], ◌∷◌, ◌++◌, length, Option, IfSome, Some, None, is_some, if◌then◌else◌}
 use Rattle.nfc_base.specs.Choosing.{Choosing}
 use Rattle.llcp_pdu.specs.General.{IsMiu}
 use Rattle.llcp_pdu.specs.Wire.{least_miu}
@@ -14,10 +14,16 @@ use Rattle.llcp_link.specs.Giving.{given, after_giving}
 use Rattle.llcp_link.specs.Answering.{Answers, Stops}
 use Rattle.llcp_link.specs.Counting.{AnswersCounted, StopsCounted}
 use Rattle.snep_core.specs.declared.fault.SnepFault.{SnepFault}
-use Rattle.snep_core.specs.declared.fault.SnepFault.TheVariants.{BadPeer, Excess, LinkEnded, Memory, NotFound, NotImplemented, Reject}
+use Rattle.snep_core.specs.declared.fault.SnepFault.TheVariants.{BadPeer, Excess, LinkEnded, Memory, NotFound, NotImplemented, Reject, SlotBusy}
 use Rattle.snep_core.specs.Server.{Received, ServerState, serving, session_of}
 use Rattle.snep_core.specs.Session.{Offer, fresh_session, value_of}
-use Rattle.snep_core.specs.Talk.{EndState, client_sap, own_of, server_sap, silent}
+use Rattle.nfc_base.specs.declared.carrier.EndCause.{EndCause}
+use Rattle.snep_core.specs.declared.job.Refusal.TheVariants as refusals
+use Rattle.snep_core.specs.Calling.{fault_of}
+use Rattle.snep_core.specs.Jobs.{Done, Ending, Over, Refused}
+use Rattle.snep_core.specs.Payloads.{accepted_from}
+use Rattle.snep_core.specs.Slots.{NoMessage, Rejected, Slot, Staged, Success, is_staged_at, job_from, slot_at, slot_count}
+use Rattle.snep_core.specs.Talk.{EndState, OnSap, client_sap, own_of, sap_of_slot, saps, server_sap, silent}
 
 abbrev pub PeerState : Type 0
 PeerState = LlcState ServerState
@@ -250,6 +256,7 @@ PutFails sap m old NotImplemented client new = ⊥
 PutFails sap m old (LinkEnded c) client new = AddsAtMost sap m old new
 PutFails sap m old Memory client new = AddsAtMost sap m old new
 PutFails sap m old BadPeer client new = ⊥
+PutFails sap m old SlotBusy client new = ⊥
 
 -- A value that was told, of at most so many bytes: it is the one that the peer's table has under the key, and nothing
 -- was accepted.
@@ -284,6 +291,7 @@ GetFails sap most key old NotImplemented client new = IsRefusedBy NotImplemented
 GetFails sap most key old (LinkEnded c) client new = new.service.accepted ≡ old.service.accepted
 GetFails sap most key old Memory client new = new.service.accepted ≡ old.service.accepted
 GetFails sap most key old BadPeer client new = ⊥
+GetFails sap most key old SlotBusy client new = ⊥
 
 -- A call that puts nothing: the peer's service and its names are as before, and client and peer accord again.
 pub record IsAside (old : PeerState) (client : EndState) (new : PeerState) : Type 0 where
@@ -309,6 +317,95 @@ abbrev pub AsideFails : PeerState → SnepFault → PeerState → Type 0
 AsideFails old (LinkEnded c) new = new.service.accepted ≡ old.service.accepted
 AsideFails old Memory new = new.service.accepted ≡ old.service.accepted
 AsideFails old _ new = ⊥
+
+-- one of these SAPs
+abbrev pub is_in : ℕ → List ℕ → Bool
+is_in s [] = false
+is_in s (t ∷ ts) = (t == s) || is_in s ts
+
+-- From a SAP nothing more was accepted, or this message once, which is within the limit.
+abbrev pub AddsFrom : ℕ → List ℕ → PeerState → List Received → Type 0
+AddsFrom sap m old now =
+    (accepted_from sap now ≡ accepted_from sap old.service.accepted)
+    ⊎ ((accepted_from sap now ≡ accepted_from sap old.service.accepted ++ m ∷ []) × (length m ≤ old.service.limit))
+
+-- it was accepted, once; it is beyond the limit, and wasn't
+abbrev pub WasAdded : ℕ → List ℕ → PeerState → List Received → Type 0
+WasAdded sap m old now =
+    (length m ≤ old.service.limit) × (accepted_from sap now ≡ accepted_from sap old.service.accepted ++ m ∷ [])
+
+abbrev pub WasRejected : ℕ → List ℕ → PeerState → List Received → Type 0
+WasRejected sap m old now = (old.service.limit < length m) × (accepted_from sap now ≡ accepted_from sap old.service.accepted)
+
+-- How a put from a SAP ended: its message was accepted; or rejected.
+abbrev pub EndedFrom : ℕ → List ℕ → PeerState → Ending → List Received → Type 0
+EndedFrom sap m old e now =
+    ((e ≡ Done) × WasAdded sap m old now) ⊎ ((e ≡ Refused refusals.Reject) × WasRejected sap m old now)
+
+-- Messages put at once, each from a SAP of its own: from each of these SAPs nothing was added, or its message once; from the
+-- others nothing, and nothing was taken away. So what was added is a shuffle of messages that were put.
+abbrev pub AllAdd : List ℕ → (ℕ → List ℕ) → PeerState → List Received → Type 0
+AllAdd ours message old now =
+    ((s : ℕ) → is_in s ours ≡ true → AddsFrom s (message s) old now)
+    × ((s : ℕ) → is_in s ours ≡ false → accepted_from s now ≡ accepted_from s old.service.accepted)
+    × ((more : List Received) × (now ≡ old.service.accepted ++ more))
+
+-- All were answered: each put came to what it should, and client and peer accord again.
+pub record PutsEnded (ours : List ℕ) (message : ℕ → List ℕ) (old : PeerState) (jobs : List OnSap) (client : EndState) (new : PeerState) : Type 0 where
+  pub saps_are : saps jobs ≡ ours
+  pub each : (s : ℕ) → is_in s ours ≡ true
+      → (e : Ending) × (job_from s jobs ≡ Some (Over e)) × EndedFrom s (message s) old e new.service.accepted
+  pub adds : AllAdd ours message old new.service.accepted
+  pub limit : new.service.limit ≡ old.service.limit
+  pub table : new.service.table ≡ old.service.table
+  pub bound : new.bound ≡ old.bound
+  pub others : (s : ℕ) → is_in s ours ≡ false → is_some (conn_from s new.served) ≡ is_some (conn_from s old.served)
+  pub accords : Accords client new
+
+-- The call broke off as its jobs stood so: the far end is never given up, and what was answered before came to what it should.
+pub record PutsFailed (ours : List ℕ) (message : ℕ → List ℕ) (old : PeerState) (jobs : List OnSap) (e : SnepFault) (new : PeerState) : Type 0 where
+  pub why : EndCause
+  pub fault : e ≡ fault_of why
+  pub saps_are : saps jobs ≡ ours
+  pub each : (s : ℕ) → is_in s ours ≡ true
+      → (end : Ending) → job_from s jobs ≡ Some (Over end) → EndedFrom s (message s) old end new.service.accepted
+  pub adds : AllAdd ours message old new.service.accepted
+
+-- What a slot tells of the message that waited there is so: it was added; it wasn't, and is beyond the limit; or it waits still.
+abbrev pub TellsOf : Slot → ℕ → List ℕ → PeerState → List Received → Type 0
+TellsOf Success sap m old now = WasAdded sap m old now
+TellsOf Rejected sap m old now = WasRejected sap m old now
+TellsOf (Staged n) sap m old now = (n ≡ m) × AddsFrom sap m old now
+TellsOf NoMessage sap m old now = ⊥
+
+-- Where none waited, the slot is as it was, and nothing was added from its SAP.
+abbrev pub SlotTells : ℕ → Slot → Slot → PeerState → List Received → Type 0
+SlotTells sap (Staged m) told old now = TellsOf told sap m old now
+SlotTells sap before told old now = (told ≡ before) × (accepted_from sap now ≡ accepted_from sap old.service.accepted)
+
+-- What a run adds: of each slot's SAP nothing, or once the message that waited there, as its slot then tells; from no other SAP
+-- anything, and nothing is taken away.
+pub record RunAdds (slots told : List Slot) (old new : PeerState) : Type 0 where
+  pub each : (k : ℕ) → k < slot_count → SlotTells (sap_of_slot k) (slot_at slots k) (slot_at told k) old new.service.accepted
+  pub others : (s : ℕ) → (IsClientSap s → ⊥) → accepted_from s new.service.accepted ≡ accepted_from s old.service.accepted
+  pub more : List Received
+  pub grew : new.service.accepted ≡ old.service.accepted ++ more
+
+-- A run over a peer: all was answered, the connections of slots where no message waited stay, and client and peer accord again.
+pub record IsRun (slots told : List Slot) (old : PeerState) (client : EndState) (new : PeerState) : Type 0 where
+  pub adds : RunAdds slots told old new
+  pub limit : new.service.limit ≡ old.service.limit
+  pub table : new.service.table ≡ old.service.table
+  pub bound : new.bound ≡ old.bound
+  pub others : (k : ℕ) → k < slot_count → is_staged_at slots k ≡ false
+      → is_some (conn_from (sap_of_slot k) new.served) ≡ is_some (conn_from (sap_of_slot k) old.served)
+  pub accords : Accords client new
+
+-- A run that failed: by the link or by want of memory.
+abbrev pub RunFails : List Slot → List Slot → PeerState → SnepFault → PeerState → Type 0
+RunFails slots told old (LinkEnded c) new = RunAdds slots told old new
+RunFails slots told old Memory new = RunAdds slots told old new
+RunFails slots told old _ new = ⊥
 
 -- An end with this project's server is a peer, as it is; and so is one whose payloads have given numbers of PDUs.
 abbrev pub PeersServe : Type 0

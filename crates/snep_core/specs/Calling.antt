@@ -12,17 +12,23 @@ use Rattle.snep_core.specs.declared.fault.SnepFault.TheVariants.{LinkEnded, Memo
 use Rattle.snep_core.specs.declared.fault.SnepFault.TheVariants as faults
 use Rattle.snep_core.specs.Jobs.{Over, Refused}
 use Rattle.snep_core.specs.Listening.{all_awaiting}
-use Rattle.snep_core.specs.Talk.{EndState, Step, Goes, Ends, GivesUp, Told, Working, CameTo, OnSap, numbers_behind, one_on, ready, replied, silent}
+use Rattle.snep_core.specs.Slots.{NoneStaged, Slot, all_puts, dropped, noted}
+use Rattle.snep_core.specs.Talk.{EndState, Step, Goes, Ends, GivesUp, Told, Working, CameTo, OnSap, begins_all, numbers_behind, one_on, ready, replied, silent}
 use Rattle.snep_core.specs.declared.job.Refusal.{Refusal}
 use Rattle.snep_core.specs.declared.job.Refusal.TheVariants as refusals
 use Rattle.snep_core.specs.declared.job.Awaiting.{Awaiting}
 use Rattle.snep_core.specs.declared.job.Turn.{Turn}
 use Rattle.snep_core.specs.declared.job.Turn.TheVariants.{Ended, Went, GaveUp}
 
--- What contracts see of a client: its end of the link, and whether want of memory ended a call.
+-- What contracts see of a client's end, and of a client: its end of the link, whether want of memory ended a call, and its slots.
+pub record ClientEndState : Type 0 where
+  pub llc : EndState
+  pub spent : Bool
+
 pub record ClientState : Type 0 where
   pub llc : EndState
   pub spent : Bool
+  pub slots : List Slot
 
 -- the payloads that were handed over
 abbrev pub payloads : List FarStep → List (List ℕ)
@@ -61,6 +67,11 @@ abbrev pub IsStep : Step → Turn → EndState → Type 0
 IsStep step (Ended jobs) l = step ≡ Ends jobs l
 IsStep step (Went jobs idle) l = step ≡ Goes (record { llc = l; jobs = jobs; idle = idle })
 IsStep step GaveUp l = (came : List CameTo) × (step ≡ gives_up came l)
+
+-- What a failed run leaves of the slots: what was answered before is told, and a far end that is given up leaves no message.
+abbrev pub slots_left : SnepFault → List Slot → List Slot
+slots_left BadPeer slots = dropped slots
+slots_left _ slots = slots
 
 module _ {C A : Type 0} (seen : C → CarrierView) (swaps : C → List ℕ → List FarStep → C → Type 0) (steps : A → List ℕ → List ℕ → A → Type 0)
     (stops : A → List ℕ → A → Type 0) where
@@ -151,6 +162,36 @@ module _ {C A : Type 0} (seen : C → CarrierView) (swaps : C → List ℕ → L
   abbrev pub FailsBy : List ℕ → Step → C → A → SnepFault → EndState → C → A → Type 0
   FailsBy numbers from link far e new now after =
       ((e ≡ BadPeer) × (came : List CameTo) × Talks numbers from link far (gives_up came new) now after) ⊎ Breaks numbers from link far e new now after
+
+  -- The reply to a payload gave the far end up.
+  pub record GivesUpThere (count : ℕ) (w : Working) (link : C) (far : A) (e : SnepFault) (new : EndState) (now : C) (after : A) : Type 0 where
+    pub fault : e ≡ BadPeer
+    pub came : List CameTo
+    pub turned : TurnedTo count w link far (gives_up came new) now after
+
+  -- A call that failed as its jobs stood so: by the next reply the far end was given up, or the call was cut off before one was
+  -- taken.
+  pub record FailsAt (numbers : List ℕ) (from : Step) (link : C) (far : A) (jobs : List OnSap) (e : SnepFault) (new : EndState) (now : C) (after : A) : Type 0 where
+    pub at : Working
+    pub stood : at.jobs ≡ jobs
+    pub mid : C
+    pub mid_far : A
+    pub talks : Talks numbers from link far (Goes at) mid mid_far
+    pub fails : GivesUpThere (first_number (numbers_behind talks.did numbers)) at mid mid_far e new now after
+        ⊎ IsCut (first_number (numbers_behind talks.did numbers)) (ready at).llc mid mid_far e new now after
+
+  -- A run of all messages that wait, from these slots: each was answered, and its slot says how.
+  pub record RunsTo (numbers : List ℕ) (old : EndState) (slots : List Slot) (link : C) (far : A) (new : EndState) (told : List Slot) (now : C) (after : A) : Type 0 where
+    pub jobs : List OnSap
+    pub talks : Talks numbers (begins_all old (all_puts slots)) link far (Ends jobs new) now after
+    pub told_is : told ≡ noted jobs slots
+    pub finished : NoneStaged told
+
+  -- and a run that failed
+  pub record RunFailsAt (numbers : List ℕ) (old : EndState) (slots : List Slot) (link : C) (far : A) (e : SnepFault) (new : EndState) (told : List Slot) (now : C) (after : A) : Type 0 where
+    pub jobs : List OnSap
+    pub fails : FailsAt numbers (begins_all old (all_puts slots)) link far jobs e new now after
+    pub told_is : told ≡ slots_left e (noted jobs slots)
 
   -- A call whose request, on the connection from a SAP, was refused.
   pub record IsRefused (sap : ℕ) (numbers : List ℕ) (from : Step) (link : C) (far : A) (e : SnepFault) (new : EndState) (now : C) (after : A) : Type 0 where

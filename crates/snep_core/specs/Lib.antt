@@ -8,6 +8,7 @@ pub mod Links
 pub mod Payloads
 pub mod Jobs
 pub mod Talk
+pub mod Slots
 pub mod Naming
 pub mod Listening
 pub mod Calling

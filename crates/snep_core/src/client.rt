@@ -1,20 +1,23 @@
 //! A client of a SNEP server, over whatever carries payloads.
 
 ghost use Rattle.std.specs.Prelude.{◌≡◌, ◌<◌, ◌≤◌, [], length, true, false, IfOk, IfErr, OnOk};
-ghost use Rattle.llcp_link.specs.Asking.{is_open_by};
+ghost use Rattle.llcp_link.specs.Asking.{disconnected_by, is_open_by, looked_up};
 ghost use Rattle.snep_core.specs.Accord.{Accords, AsideFails, AtPeers, GetFails, IsBegun, IsClosed, IsFound, IsGot, IsTaken, PeerState, PutFails};
-ghost use Rattle.snep_core.specs.Calling.{FailsBy, RequestFails, Talks, is_memory};
-ghost use Rattle.snep_core.specs.Jobs.{Done, Over, Sap, Value};
+ghost use Rattle.snep_core.specs.Calling.{FailsBy, RequestFails, Talks, is_memory, refused_by};
+ghost use Rattle.snep_core.specs.Jobs.{Done, Over, Refused, Sap, Value};
+ghost use Rattle.snep_core.specs.Slots.{fresh_slots};
 ghost use Rattle.snep_core.specs.Talk.{Ends, Finds, Gets, Leaves, Puts, alone, begins, begins_from, begun, client_sap, connected, gave_between as gave, is_waiting as awaits, one_on, own_of, sap_of_slot, stands_of};
-ghost use Rattle.snep_core.specs.Waning.{IsOf, aim_by};
+ghost use Rattle.snep_core.specs.Waning.{Getting, IsOf, aim_by};
 ghost use Rattle.snep_core.specs.declared.fault.SnepFault.{SnepFault};
 ghost use Rattle.snep_core.specs.declared.job.Job.{Job};
+ghost use Rattle.snep_core.specs.declared.job.Refusal.{Refusal as Refusal_};
 
 use crate::fault::SnepFault;
 use crate::job::{Ending, Job};
 use crate::message::{GET, PUT, write_request};
 use crate::server::SNEP_SAP;
 use crate::silent::NoService;
+use crate::slot::Slots;
 use bytes::Bytes;
 use llcp_link::{Counts, Llc, LlcFault, Standing};
 use nfc_base::{Answerer, Carrier};
@@ -24,12 +27,27 @@ use std::marker::Model;
 /// The SAP of this end from which a client connects.
 pub const CLIENT_SAP: u8 = 32;
 
-/// A client of a SNEP server (NFC Forum SNEP 1.0) on one link. After want of memory it answers nothing else.
+/// A client's end of a link, over which its calls go. After want of memory it gives nothing more.
 #[derive(Debug, Drop)]
-pub struct Client {
+pub struct ClientEnd {
     pub(crate) alloc: Global,
     pub(crate) llc: Llc<NoService>,
     pub(crate) spent: bool,
+}
+
+impl Model for ClientEnd {
+    ghost use Rattle.snep_core.specs.Calling.{ClientEndState};
+
+    ghost Value = { ClientEndState };
+
+    ghost view = { λ c. record { llc = c.llc; spent = c.spent } };
+}
+
+/// A client of a SNEP server (NFC Forum SNEP 1.0) on one link. After want of memory it answers nothing else.
+#[derive(Debug, Drop)]
+pub struct Client {
+    pub(crate) end: ClientEnd,
+    pub(crate) slots: Slots,
 }
 
 impl Model for Client {
@@ -37,7 +55,7 @@ impl Model for Client {
 
     ghost Value = { ClientState };
 
-    ghost view = { λ c. record { llc = c.llc; spent = c.spent } };
+    ghost view = { λ c. record { llc = c.end.llc; spent = c.end.spent; slots = c.slots } };
 }
 
 /// How a client's connection stands: whether a CC or DM is awaited, whether it is open, how many units were
@@ -72,20 +90,20 @@ pub(crate) fn gave_between(old: Stands, new: Stands) -> bool
     false
 }
 
-impl Client {
-    /// A client over an end that was restarted with the other end's general bytes, and asked for no connection since.
-    pub fn new(alloc: Global, llc: Llc<NoService>) -> Client
-        requires { llc.own ≡ [] }
-        ensures kept { result ≡ record { llc = llc; spent = false } }
-        ensures accords { (peer : PeerState) → IsBegun llc peer → Accords result.llc peer }
-    {
-        Client {
-            alloc,
-            llc,
-            spent: false,
-        }
+/// The value that a get came to, or why it was refused.
+fn value_of(ending: Ending) -> Result<Vec<u8>, SnepFault>
+    requires { IsOf Getting ending }
+    ensures value { IfOk result (λ value. ending ≡ Value value.items) }
+    ensures refused { IfErr result (λ e. (why : Refusal_) × (ending ≡ Refused why) × (e ≡ refused_by why)) }
+{
+    match ending {
+        Ending::Value(value) => Ok(value.into_vec()),
+        Ending::Refused(refusal) => Err(refusal.fault()),
+        Ending::Done | Ending::Sap(_) => unreachable!(),
     }
+}
 
+impl ClientEnd {
     /// Memory was wanting: each later call answers so.
     pub(crate) fn spend(&mut self) -> SnepFault
         ensures fault { result ≡ SnepFault.Memory }
@@ -97,7 +115,7 @@ impl Client {
     }
 
     /// The connection from a SAP is open.
-    fn is_open(&self, sap: u8) -> bool
+    pub(crate) fn is_open(&self, sap: u8) -> bool
         ensures { result ≡ is_open_by (own_of sap self.now.llc) }
     {
         match self.llc.standing(sap) {
@@ -119,7 +137,7 @@ impl Client {
     }
 
     /// Asks for a connection from a SAP, unless one is there.
-    fn connect(&mut self, sap: u8) -> Result<(), SnepFault>
+    pub(crate) fn connect(&mut self, sap: u8) -> Result<(), SnepFault>
         requires sap { (32 ≤ sap) × (sap ≤ 39) }
         ensures ok { OnOk result (self.new.llc ≡ connected self.old.llc sap) }
         ensures going { OnOk result (self.new.spent ≡ self.old.spent) }
@@ -130,6 +148,34 @@ impl Client {
             Ok(()) => Ok(()),
             Err(LlcFault::Busy) => Ok(()),
             Err(LlcFault::Memory | LlcFault::NameTaken | LlcFault::SapTaken) => Err(self.spend()),
+        }
+    }
+
+    /// Ends the connection from a SAP, which is open.
+    fn disconnect(&mut self, sap: u8) -> Result<(), SnepFault>
+        requires { is_open_by (own_of sap self.old.llc) ≡ true }
+        ensures ok { OnOk result (self.new.llc ≡ disconnected_by self.old.llc (own_of sap self.old.llc)) }
+        ensures going { OnOk result (self.new.spent ≡ self.old.spent) }
+        ensures err { IfErr result (λ e. e ≡ SnepFault.Memory) }
+        ensures spent { IfErr result (λ e. self.new.spent ≡ true) }
+    {
+        match self.llc.disconnect(sap) {
+            Err(_) => Err(self.spend()),
+            Ok(()) => Ok(()),
+        }
+    }
+
+    /// Asks at which SAP the far end has a name, and gives the number of the question.
+    fn look_up(&mut self, name: &str) -> Result<u8, SnepFault>
+        requires { length name.now ≤ 64 }
+        ensures ok { IfOk result (λ tid. (tid ≡ self.old.llc.asked) × (self.new.llc ≡ looked_up self.old.llc name.now)) }
+        ensures going { OnOk result (self.new.spent ≡ self.old.spent) }
+        ensures err { IfErr result (λ e. e ≡ SnepFault.Memory) }
+        ensures spent { IfErr result (λ e. self.new.spent ≡ true) }
+    {
+        match self.llc.lookup(name) {
+            Err(_) => Err(self.spend()),
+            Ok(tid) => Ok(tid),
         }
     }
 
@@ -167,6 +213,24 @@ impl Client {
             Ok(ending) => Ok(ending),
         }
     }
+}
+
+impl Client {
+    /// A client over an end that was restarted with the other end's general bytes, and asked for no connection since.
+    pub fn new(alloc: Global, llc: Llc<NoService>) -> Client
+        requires { llc.own ≡ [] }
+        ensures kept { result ≡ record { llc = llc; spent = false; slots = fresh_slots } }
+        ensures accords { (peer : PeerState) → IsBegun llc peer → Accords result.llc peer }
+    {
+        Client {
+            end: ClientEnd {
+                alloc,
+                llc,
+                spent: false,
+            },
+            slots: Slots::new(),
+        }
+    }
 
     /// Puts a message of at most 65,536 bytes.
     pub fn put<C: Carrier, A: Answerer>(
@@ -189,19 +253,23 @@ impl Client {
         ensures fails { AtPeers A.steps A.stops self.old.llc far.old (λ view.
             IfErr result (λ e. PutFails client_sap message.now (view far.old) e self.new.llc (view far.new))) }
         ensures spent { IfErr result (λ e. self.new.spent ≡ is_memory e) }
+        ensures slots { self.new.slots ≡ self.old.slots }
         ensures stays { self.old.spent ≡ true
             → (self.new ≡ self.old) × (carrier.new ≡ carrier.old) × (far.new ≡ far.old) }
         ensures ready { C.ready carrier.new }
         ensures same { C.lenders carrier.new ≡ C.lenders carrier.old }
     {
-        if self.spent {
+        if self.end.spent {
             return Err(SnepFault::Memory);
         }
-        let request = match write_request(self.alloc, PUT, &[], message) {
-            Err(_) => return Err(self.spend()),
+        let request = match write_request(self.end.alloc, PUT, &[], message) {
+            Err(_) => return Err(self.end.spend()),
             Ok(request) => request,
         };
-        match self.ask(carrier, far, counts, CLIENT_SAP, None, request) {
+        match self
+            .end
+            .ask(carrier, far, counts, CLIENT_SAP, None, request)
+        {
             Err(fault) => Err(fault),
             Ok(Ending::Done) => Ok(()),
             Ok(Ending::Refused(refusal)) => Err(refusal.fault()),
@@ -234,19 +302,20 @@ impl Client {
         ensures fails { AtPeers A.steps A.stops self.old.llc far.old (λ view.
             IfErr result (λ e. GetFails (sap_of_slot slot) acceptable key.now (view far.old) e self.new.llc (view far.new))) }
         ensures spent { IfErr result (λ e. self.new.spent ≡ is_memory e) }
+        ensures slots { self.new.slots ≡ self.old.slots }
         ensures stays { self.old.spent ≡ true
             → (self.new ≡ self.old) × (carrier.new ≡ carrier.old) × (far.new ≡ far.old) }
         ensures ready { C.ready carrier.new }
         ensures same { C.lenders carrier.new ≡ C.lenders carrier.old }
     {
-        if self.spent {
+        if self.end.spent {
             return Err(SnepFault::Memory);
         }
-        let request = match write_request(self.alloc, GET, &acceptable.to_be_bytes(), key) {
-            Err(_) => return Err(self.spend()),
+        let request = match write_request(self.end.alloc, GET, &acceptable.to_be_bytes(), key) {
+            Err(_) => return Err(self.end.spend()),
             Ok(request) => request,
         };
-        match self.ask(
+        let ending = match self.end.ask(
             carrier,
             far,
             counts,
@@ -254,11 +323,10 @@ impl Client {
             Some(acceptable),
             request,
         ) {
-            Err(fault) => Err(fault),
-            Ok(Ending::Value(value)) => Ok(value.into_vec()),
-            Ok(Ending::Refused(refusal)) => Err(refusal.fault()),
-            Ok(Ending::Done | Ending::Sap(_)) => unreachable!(),
-        }
+            Err(fault) => return Err(fault),
+            Ok(ending) => ending,
+        };
+        value_of(ending)
     }
 
     /// The value of a key of at most 65,536 bytes, where it has at most so many bytes, on the connection of slot 0.
@@ -283,6 +351,7 @@ impl Client {
         ensures fails { AtPeers A.steps A.stops self.old.llc far.old (λ view.
             IfErr result (λ e. GetFails client_sap acceptable key.now (view far.old) e self.new.llc (view far.new))) }
         ensures spent { IfErr result (λ e. self.new.spent ≡ is_memory e) }
+        ensures slots { self.new.slots ≡ self.old.slots }
         ensures stays { self.old.spent ≡ true
             → (self.new ≡ self.old) × (carrier.new ≡ carrier.old) × (far.new ≡ far.old) }
         ensures ready { C.ready carrier.new }
@@ -312,19 +381,23 @@ impl Client {
         ensures fails { AtPeers A.steps A.stops self.old.llc far.old (λ view.
             IfErr result (λ e. AsideFails (view far.old) e (view far.new))) }
         ensures spent { IfErr result (λ e. self.new.spent ≡ is_memory e) }
+        ensures slots { self.new.slots ≡ self.old.slots }
         ensures stays { self.old.spent ≡ true
             → (self.new ≡ self.old) × (carrier.new ≡ carrier.old) × (far.new ≡ far.old) }
         ensures ready { C.ready carrier.new }
         ensures same { C.lenders carrier.new ≡ C.lenders carrier.old }
     {
-        if self.spent {
+        if self.end.spent {
             return Err(SnepFault::Memory);
         }
-        let tid = match self.llc.lookup(name) {
-            Err(_) => return Err(self.spend()),
+        let tid = match self.end.look_up(name) {
+            Err(fault) => return Err(fault),
             Ok(tid) => tid,
         };
-        match self.converse(carrier, far, counts, CLIENT_SAP, Job::Looks(tid)) {
+        match self
+            .end
+            .converse(carrier, far, counts, CLIENT_SAP, Job::Looks(tid))
+        {
             Err(fault) => Err(fault),
             Ok(Ending::Sap(sap)) => Ok(sap),
             Ok(Ending::Done | Ending::Value(_) | Ending::Refused(_)) => unreachable!(),
@@ -350,22 +423,26 @@ impl Client {
         ensures fails { AtPeers A.steps A.stops self.old.llc far.old (λ view.
             IfErr result (λ e. AsideFails (view far.old) e (view far.new))) }
         ensures spent { IfErr result (λ e. self.new.spent ≡ is_memory e) }
+        ensures slots { self.new.slots ≡ self.old.slots }
         ensures stays { self.old.spent ≡ true
             → (self.new ≡ self.old) × (carrier.new ≡ carrier.old) × (far.new ≡ far.old) }
         ensures ready { C.ready carrier.new }
         ensures same { C.lenders carrier.new ≡ C.lenders carrier.old }
     {
-        if self.spent {
+        if self.end.spent {
             return Err(SnepFault::Memory);
         }
-        if !self.is_open(CLIENT_SAP) {
+        if !self.end.is_open(CLIENT_SAP) {
             return Ok(());
         }
-        match self.llc.disconnect(CLIENT_SAP) {
-            Err(_) => return Err(self.spend()),
+        match self.end.disconnect(CLIENT_SAP) {
+            Err(fault) => return Err(fault),
             Ok(()) => {}
         }
-        match self.converse(carrier, far, counts, CLIENT_SAP, Job::Closes) {
+        match self
+            .end
+            .converse(carrier, far, counts, CLIENT_SAP, Job::Closes)
+        {
             Err(fault) => Err(fault),
             Ok(Ending::Done) => Ok(()),
             Ok(Ending::Value(_) | Ending::Sap(_) | Ending::Refused(_)) => unreachable!(),

@@ -23,6 +23,8 @@ pub enum SnepFault {
     Memory,
     #[error("the far end doesn't answer as a server")]
     BadPeer,
+    #[error("the slot has a message that isn't finished")]
+    SlotBusy,
 }
 
 impl SnepFault {
@@ -38,6 +40,7 @@ impl SnepFault {
             SnepFault::LinkEnded(_) => 5,
             SnepFault::Memory => 6,
             SnepFault::BadPeer => 7,
+            SnepFault::SlotBusy => 8,
         }
     }
 }

@@ -3,7 +3,8 @@
 //!
 //! `message` has the codes and writes messages; `first` reads the first unit of a request; `session` is one connection: what
 //! is gathered, what is to be sent, what waits for a continue; `server` has the table for get, what was accepted, and a
-//! session for each client's SAP; `law` says what the units of a client's messages put, that a server accepts
+//! session for each client's SAP; `client` is the other end, `slot` has the messages that wait on its slots, and `running`
+//! puts them at once; `law` says what the units of a client's messages put, that a server accepts
 //! just that, and that a client's calls come to an end.
 #![tactic(auto)]
 
@@ -15,9 +16,11 @@ mod job;
 mod law;
 mod listening;
 mod message;
+mod running;
 mod server;
 mod session;
 mod silent;
+mod slot;
 mod submitting;
 mod turning;
 
@@ -29,3 +32,4 @@ pub use law::{
 };
 pub use server::{SNEP_NAME, SNEP_SAP, Server};
 pub use silent::NoService;
+pub use slot::Outcome;

@@ -7,7 +7,7 @@ ghost use Rattle.snep_core.specs.Listening.{Hears, HearsAll, HearsUnits, awaited
 ghost use Rattle.snep_core.specs.Talk.{finished as finished_by, is_lost as lost_by, is_there as there_by};
 ghost use Rattle.snep_core.specs.declared.fault.SnepFault.{SnepFault};
 
-use crate::client::{Client, gave_between, is_waiting};
+use crate::client::{ClientEnd, gave_between, is_waiting};
 use crate::fault::SnepFault;
 use crate::hearing::hear_unit;
 use crate::job::{Awaiting, Ending, Heard, HeardAll, Job, OnSap};
@@ -44,7 +44,7 @@ fn gave_so_far(gave: bool, given: bool, some: bool) -> bool
     gave || given || some
 }
 
-impl Client {
+impl ClientEnd {
     /// The units that were handed up on the connection from a SAP, each taken away. None where one of them puts the far end
     /// at fault, or comes while one of this end's waits to be given.
     fn hear_units(&mut self, sap: u8, first: Job, waiting: bool) -> Result<Option<Heard>, SnepFault>

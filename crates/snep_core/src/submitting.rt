@@ -8,7 +8,7 @@ ghost use Rattle.snep_core.specs.Waning.{Aim, Serves};
 ghost use Rattle.snep_core.specs.declared.fault.SnepFault.{SnepFault};
 ghost use Rattle.snep_core.specs.declared.job.Job.{Job};
 
-use crate::client::Client;
+use crate::client::ClientEnd;
 use crate::fault::SnepFault;
 use crate::job::{Job, OnSap};
 use bytes::Bytes;
@@ -30,7 +30,7 @@ fn miu_by(standing: Standing) -> Option<u16>
     }
 }
 
-impl Client {
+impl ClientEnd {
     /// Submits a unit on the connection from a SAP, if it may be submitted now.
     fn offer(&mut self, sap: u8, unit: &[u8]) -> Result<bool, SnepFault>
         ensures ok { IfOk result (λ taken. Offered sap self.old.llc unit.now taken self.new.llc) }

@@ -1,18 +1,20 @@
 //! What a client exchanges with a far end until its jobs are over.
 
-ghost use Rattle.std.specs.Prelude.{◌≡◌, ◌<◌, ℕ, false, true, [], IfOk, IfErr, OnOk};
-ghost use Rattle.snep_core.specs.Calling.{Exchanged, FailsBy, IsCut, IsStep, Talks, Turned, fault_of, is_memory};
+ghost use Rattle.std.specs.Prelude.{◌≡◌, ◌<◌, ℕ, List, false, true, [], IfOk, IfErr, OnOk};
+ghost use Rattle.snep_core.specs.Calling.{Exchanged, FailsAt, FailsBy, IsCut, IsStep, Talks, Turned, fault_of, is_memory};
 ghost use Rattle.snep_core.specs.Jobs.{Over};
 ghost use Rattle.snep_core.specs.Listening.{all_awaiting, forgets};
 ghost use Rattle.snep_core.specs.RepliesLeft.{IsUnderWay};
-ghost use Rattle.snep_core.specs.Talk.{AreApart, Ends, all_over as over_by, begun, idle_after, most_idle, one_on, ready, saps as saps_by, settled};
+ghost use Rattle.snep_core.specs.Slots.{noted};
+ghost use Rattle.snep_core.specs.Talk.{AreApart, Ends, OnSap, all_over as over_by, begun, idle_after, most_idle, one_on, ready, saps as saps_by, settled};
 ghost use Rattle.snep_core.specs.Waning.{IsOf, aim_of};
 ghost use Rattle.snep_core.specs.declared.fault.SnepFault.{SnepFault};
 ghost use Rattle.snep_core.specs.declared.job.Ending.{Ending as Ending_};
 
-use crate::client::Client;
+use crate::client::ClientEnd;
 use crate::fault::SnepFault;
 use crate::job::{Awaiting, Ending, Job, OnSap, Turn};
+use crate::slot::Slots;
 use llcp_link::Counts;
 use nfc_base::{Answerer, Carrier, EndCause, Items};
 use std::alloc::{AllocError, Global};
@@ -60,7 +62,7 @@ fn only_ending(jobs: Items<OnSap>) -> Ending
     }
 }
 
-impl Client {
+impl ClientEnd {
     /// The link ended by this cause.
     fn ended(&mut self, cause: EndCause) -> SnepFault
         requires { self.old.spent ≡ false }
@@ -213,26 +215,31 @@ impl Client {
         }
     }
 
-    /// Exchanges until all jobs are over, each on a connection of its own, or the far end is given up.
-    fn converse_all<C: Carrier, A: Answerer>(
+    /// Exchanges until all jobs are over, each on a connection of its own, or the far end is given up. The messages that wait
+    /// in slots are answered as the jobs of their SAPs are.
+    pub(crate) fn converse_all<C: Carrier, A: Answerer>(
         &mut self,
         carrier: &mut C,
         far: &mut A,
         counts: Counts,
         first: Vec<OnSap>,
+        slots: &mut Slots,
     ) -> Result<Items<OnSap>, SnepFault>
         requires ready { C.ready carrier.old }
         requires going { self.old.spent ≡ false }
         requires under_way { IsUnderWay (record { llc = self.old.llc; jobs = first.items; idle = 0 }) }
         ensures ok { IfOk result (λ jobs. Talks C.seen C.swaps A.steps A.stops counts (begun self.old.llc first.items)
             carrier.old far.old (Ends jobs self.new.llc) carrier.new far.new) }
+        ensures told { IfOk result (λ jobs. slots.new ≡ noted jobs slots.old) }
         ensures going { OnOk result (self.new.spent ≡ false) }
-        ensures err { IfErr result (λ e. FailsBy C.seen C.swaps A.steps A.stops counts (begun self.old.llc first.items)
-            carrier.old far.old e self.new.llc carrier.new far.new) }
+        ensures err { IfErr result (λ e. (jobs : List OnSap) × FailsAt C.seen C.swaps A.steps A.stops counts
+            (begun self.old.llc first.items) carrier.old far.old jobs e self.new.llc carrier.new far.new
+            × (slots.new ≡ noted jobs slots.old)) }
         ensures spent { IfErr result (λ e. self.new.spent ≡ is_memory e) }
         ensures ready { C.ready carrier.new }
         ensures same { C.lenders carrier.new ≡ C.lenders carrier.old }
     {
+        slots.note(&first);
         let Ok(saps) = saps_of(self.alloc, &first) else {
             return Err(self.spend());
         };
@@ -242,10 +249,14 @@ impl Client {
         'turns: while idle < MOST_IDLE {
             match self.turn(carrier, far, left.next(), &saps, jobs, idle) {
                 Err(fault) => return Err(fault),
-                Ok(Turn::Ended(ended)) => return Ok(ended),
+                Ok(Turn::Ended(ended)) => {
+                    slots.note(ended.as_slice());
+                    return Ok(ended);
+                }
                 Ok(Turn::GaveUp) => return Err(SnepFault::BadPeer),
                 Ok(Turn::Went(next, replies)) => {
                     jobs = next.into_vec();
+                    slots.note(&jobs);
                     idle = replies;
                 }
             }
@@ -281,7 +292,8 @@ impl Client {
         if jobs.push(OnSap { sap, job: first }).is_err() {
             return Err(self.spend());
         }
-        match self.converse_all(carrier, far, counts, jobs) {
+        let told = self.converse_all(carrier, far, counts, jobs, &mut Slots::new());
+        match told {
             Err(fault) => Err(fault),
             Ok(ended) => Ok(only_ending(ended)),
         }

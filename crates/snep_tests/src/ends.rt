@@ -7,7 +7,7 @@ use arrayvec::ArrayVec;
 use llcp_link::{Counts, Llc};
 use llcp_pdu::LinkParams;
 use nfc_base::{Answerer, Carrier, EndCause, Items, LinkEnd};
-use snep_core::{Client, NoService, Server, SnepFault};
+use snep_core::{Client, NoService, Outcome, Server, SnepFault};
 use std::alloc::{AllocError, Global};
 use std::fmt::Write;
 use std::process::Abort;
@@ -190,16 +190,26 @@ pub(crate) enum Step {
     /// The same on a slot, by these numbers of PDUs.
     GetOn(u8, u32, &'static [u8], &'static [u32]),
     Close,
+    /// A message is staged on a slot.
+    Stage(u8, &'static [u8]),
+    /// What is staged is put, by these numbers of PDUs.
+    Run(&'static [u32]),
+    /// What became of the message of a slot.
+    Outcome(u8),
     /// The server gets a value under this key.
     Offer(&'static [u8], &'static [u8]),
     /// How many payloads were handed over.
     Handed,
     /// The payload that was handed over at this place.
     Payload(usize),
+    /// Its first three bytes.
+    Begin(usize),
     /// How many messages the server accepted.
     Accepted,
     /// The message that it accepted at this place.
     Message(usize),
+    /// The SAP that this came from.
+    Source(usize),
 }
 
 fn is_all(bytes: &[u8], one: u8) -> bool {
@@ -293,6 +303,33 @@ fn got_on(
     client.get_on(link, far, counts, slot, most, key)
 }
 
+pub(crate) fn staged(
+    rt: &impl Abort,
+    client: &mut Client,
+    slot: u8,
+    message: &[u8],
+) -> Result<(), SnepFault> {
+    assert!(rt; slot < 8);
+    assert!(rt; message.len() <= 65536);
+    client.stage(slot, message)
+}
+
+pub(crate) fn outcome(rt: &impl Abort, client: &Client, slot: u8) -> Outcome {
+    assert!(rt; slot < 8);
+    client.outcome(slot)
+}
+
+/// The first bytes of a payload.
+fn begin_of(alloc: Global, all: &[Items<u8>], place: usize) -> Result<String, Fail> {
+    match all.get(place) {
+        Some(one) => match one.as_slice() {
+            [a, b, c, ..] => in_hex(alloc, &[*a, *b, *c]),
+            short => in_hex(alloc, short),
+        },
+        None => Ok(format!(in alloc; "none")?),
+    }
+}
+
 /// A value, or why there is none.
 fn written_value(alloc: Global, got: Result<Vec<u8>, SnepFault>) -> Result<String, Fail> {
     match got {
@@ -339,11 +376,21 @@ fn told(
             )
         }
         Step::Close => done(alloc, client.close(link, far, Counts::most(alloc))),
+        Step::Stage(slot, message) => done(alloc, staged(rt, client, slot, message)),
+        Step::Run(numbers) => {
+            let counts = numbered(alloc, numbers)?;
+            done(alloc, client.run(link, far, counts))
+        }
+        Step::Outcome(slot) => Ok(format!(in alloc; "{:?}", outcome(rt, client, slot))?),
         Step::Offer(key, value) => Ok(format!(in alloc; "{:?}", offered(rt, far, key, value))?),
         Step::Handed => Ok(format!(in alloc; "{}", link.handed.len())?),
         Step::Payload(place) => written_at(alloc, link.handed.as_slice(), place),
+        Step::Begin(place) => begin_of(alloc, link.handed.as_slice(), place),
         Step::Accepted => Ok(format!(in alloc; "{}", far.as_service().accepted().len())?),
         Step::Message(place) => written_at(alloc, far.as_service().accepted(), place),
+        Step::Source(place) => {
+            Ok(format!(in alloc; "{:?}", far.as_service().sources().get(place))?)
+        }
     }
 }
 

@@ -16,6 +16,8 @@ mod link_tests;
 #[cfg(test)]
 mod put_tests;
 #[cfg(test)]
+mod run_tests;
+#[cfg(test)]
 mod server_tests;
 #[cfg(test)]
 mod stranger_tests;

@@ -7,7 +7,7 @@ use Rattle.t3t_tag.specs.Attributes.{major_version, most_checked, most_updated, 
 use Rattle.t3t_tag.specs.Store.{IsT3Store, block_size, block_count, attributes}
 use Rattle.t3t_tag.specs.Form.{Unfinished, IsBadSize, IsSized, IsT3Form}
 use Rattle.t3t_tag.proofs.Bytes.{is_equal}
-use Rattle.t3t_tag.proofs.Stores.{length_block, length_with_block}
+use Rattle.t3t_tag.proofs.Stores.{length_block, length_with_block, still_blocks}
 use Rattle.t3t_access.specs.Writing.{unsummed, renewed, under_way, opened, closed, blocks_of, content_at, Put, put_at, Takes}
 use Rattle.t3t_access.specs.OwnWriting.{SameBehind, IsBegun, IsNew}
 use Rattle.t3t_access.proofs.Doing.{named_few, put_fill, put_last}
@@ -78,6 +78,9 @@ length_renewed block flag n long = (renews block flag n long).long
 
 pub flag_renewed : (block : List ℕ) (flag n : ℕ) → length block ≡ 16 → write_flag (renewed block flag n) ≡ flag
 flag_renewed block flag n long = (renews block flag n long).flag'
+
+blocks_renewed : (block : List ℕ) (flag n : ℕ) → length block ≡ 16 → message_blocks (renewed block flag n) ≡ message_blocks block
+blocks_renewed block flag n long = (renews block flag n long).blocks
 
 pub bytes_renewed : (block : List ℕ) (flag n : ℕ) → length block ≡ 16 → message_length (renewed block flag n) ≡ n
 bytes_renewed block flag n long = (renews block flag n long).bytes
@@ -280,6 +283,21 @@ module _ (store message : List ℕ) (is : IsT3Store store) (takes : Takes (attri
       ∙ ap (λ s. with_block 16 s 0 (closed old message)) (at_open n (omega arith))
       ∙ laid_under store message (opened old) (closed old message) n (length_renewed old under_way (message_length old) long_old)
 
+  -- a store with an attribute block that names as many blocks is still one that a new tag may have
+  store_laid : (block : List ℕ) (n : ℕ) → length block ≡ 16 → message_blocks block ≡ message_blocks old → n ≤ blocks_of message → IsT3Store (laid store message block n)
+  store_laid block n long named few =
+      let same : SameBehind message store (laid store message block n) = same_laid store message block n long few room_behind in
+      let count : block_count (laid store message block n) ≡ block_count store = ap (λ k. k / 16) same.size in
+      let blocks : message_blocks (attributes (laid store message block n)) ≡ message_blocks old = ap message_blocks (attributes_laid store message block n long) ∙ named in
+      record {
+        blocks = still_blocks store (laid store message block n) same.size is.blocks;
+        room = λ over. is.room (record {
+          summed = takes.sized.known.summed;
+          named = subst (λ k. k ≤ 255) blocks over.named;
+          lacking = subst (λ k. k ≤ message_blocks old) count (subst (λ k. block_count (laid store message block n) ≤ k) blocks over.lacking);
+        });
+      }
+
   pub begun_at : (n : ℕ) → n ≤ blocks_of message → IsBegun message store (store_at store message (suc n))
   begun_at n few =
       let block : List ℕ = opened old in
@@ -289,7 +307,7 @@ module _ (store message : List ℕ) (is : IsT3Store store) (takes : Takes (attri
       let other : write_flag block ≢ 0 = λ e. absurd (omega (arith, flag, e)) in
       let form : IsT3Form (laid store message block n) Unfinished =
       subst (λ x. IsSized x × (write_flag x ≢ 0)) (sym (attributes_laid store message block n long)) (sized, other) in
-      subst (IsBegun message store) (sym (at_open n few)) (record { form = form; same = same_laid store message block n long few room_behind })
+      subst (IsBegun message store) (sym (at_open n few)) (record { form = form; same = same_laid store message block n long few room_behind; store = store_laid block n long (blocks_renewed old under_way (message_length old) long_old) few })
 
   pub new_at : IsNew message store (store_at store message (suc (suc (blocks_of message))))
   new_at =
@@ -312,6 +330,7 @@ module _ (store message : List ℕ) (is : IsT3Store store) (takes : Takes (attri
       subst (IsNew message store) (sym at_close) (record {
         form = (subst IsSized (sym same) sized, ap write_flag same ∙ flag, held);
         same = same_laid store message block n long (omega arith) room_behind;
+        store = store_laid block n long (blocks_renewed old 0 (length message) long_old) (omega arith);
       })
 
   -- each Update is of a block that is there, by 16 bytes

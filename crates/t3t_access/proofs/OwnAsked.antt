@@ -54,7 +54,7 @@ module _ (id : List ℕ) (locked : List Bool) (a : LinkView) (tag : IsTag3 id lo
       record {
         due = f.due;
         answered = is.answered.answered ∙ ap (λ cs. a.answered ++ cs) f.first;
-        last = inl (is.answered.last ∙ ap (last_of a.last) f.first);
+        last = inl (is.answered.last ∙ ap (last_of a.last) f.first, is.answered.over);
       }
 
   asks_more : (b : LinkView) (block : List ℕ) (n : ℕ) → Fronts n block → IsDue block n → Answered a b (first_checks id block n ++ check_at id block n ∷ []) → AsksInOrder id a b (suc n)
@@ -64,7 +64,7 @@ module _ (id : List ℕ) (locked : List Bool) (a : LinkView) (tag : IsTag3 id lo
       record {
         due = λ k less. by_value k less (k == n) refl;
         answered = is.answered ∙ ap (λ cs. a.answered ++ cs) all;
-        last = inl (is.last ∙ ap (last_of a.last) all);
+        last = inl (is.last ∙ ap (last_of a.last) all, is.over);
       }
     where
       lower : (k : ℕ) → k < suc n → k ≢ n → k < n
@@ -81,9 +81,9 @@ module _ (id : List ℕ) (locked : List Bool) (a : LinkView) (tag : IsTag3 id lo
     last = by_last is.last;
   }
     where
-      by_last : (b.last ≡ last_of a.last (first_checks id block n)) ⊎ (b.last ≡ Some (check_at id block n))
-          → (b.last ≡ last_of a.last (first_checks id own n)) ⊎ ((b.last ≡ Some (check_at id own n)) × IsDue own n)
-      by_last (inl l) = inl (l ∙ ap (last_of a.last) f.first)
+      by_last : ((b.last ≡ last_of a.last (first_checks id block n)) × (b.over ≡ a.over)) ⊎ (b.last ≡ Some (check_at id block n))
+          → ((b.last ≡ last_of a.last (first_checks id own n)) × (b.over ≡ a.over)) ⊎ ((b.last ≡ Some (check_at id own n)) × IsDue own n)
+      by_last (inl l) = inl (l.0 ∙ ap (last_of a.last) f.first, l.1)
       by_last (inr l) = inr (l ∙ ap (λ c. Some c) f.next, f.then' due)
 
   pub record Some3 (b : LinkView) : Type 0 where

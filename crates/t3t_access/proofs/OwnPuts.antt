@@ -28,21 +28,21 @@ module _ (id : List ℕ) (locked : List Bool) (a : LinkView) (tag : IsTag3 id lo
 
   -- only the Check was answered
   checked : (b : LinkView) → Answered a b (first_asked id own message 0) → WritesInOrder id locked message a b 0
-  checked b is = record { due = none_due; answered = is.answered; last = inl is.last }
+  checked b is = record { due = none_due; answered = is.answered; last = inl (is.last, is.over) }
 
   is_due : (takes : Takes own message) (n : ℕ) → AllDone id a own message n → (k : ℕ) → k ≤ n → k < all_puts message → Due k
   is_due takes n all k few some = record { takes = takes; some = some; free = λ j less. free_all id locked a tag message takes n all j (omega (arith, less, few)) }
 
   more_asked : (b : LinkView) (takes : Takes own message) (n : ℕ) → AllDone id a own message n → n < all_puts message → Answered a b (first_asked id own message (suc n)) → WritesInOrder id locked message a b (suc n)
   more_asked b takes n all some is =
-      record { due = λ k less. is_due takes n all k (omega (arith, less)) (omega (arith, less, some)); answered = is.answered; last = inl is.last }
+      record { due = λ k less. is_due takes n all k (omega (arith, less)) (omega (arith, less, some)); answered = is.answered; last = inl (is.last, is.over) }
 
   failed : (b : LinkView) (takes : Takes own message) (n : ℕ) (f : AskFault) → AllDone id a own message n → n < all_puts message → Fails a b (first_asked id own message n) (command_at id own message n) f
       → WritesInOrder id locked message a b n
   failed b takes n f all some is = record { due = λ k less. is_due takes n all k (omega (arith, less)) (omega (arith, less, some)); answered = is.answered; last = by_last is.last }
     where
-      by_last : (b.last ≡ last_of a.last (first_asked id own message n)) ⊎ (b.last ≡ Some (command_at id own message n))
-          → (b.last ≡ last_of a.last (first_asked id own message n)) ⊎ ((b.last ≡ Some (command_at id own message n)) × Due n)
+      by_last : ((b.last ≡ last_of a.last (first_asked id own message n)) × (b.over ≡ a.over)) ⊎ (b.last ≡ Some (command_at id own message n))
+          → ((b.last ≡ last_of a.last (first_asked id own message n)) × (b.over ≡ a.over)) ⊎ ((b.last ≡ Some (command_at id own message n)) × Due n)
       by_last (inl l) = inl l
       by_last (inr l) = inr (l, is_due takes n all n (omega arith) some)
 
@@ -129,6 +129,6 @@ module _ (id : List ℕ) (locked : List Bool) (a : LinkView) (tag : IsTag3 id lo
       let answered : Answered a b (first_asked id own message (all_puts message)) = subst (λ x. Answered a b (first_asked id x message (all_puts message))) same w.answered in
       inl (record {
         count = all_puts message;
-        asks = record { due = λ k less. is_due takes (all_puts message) all k (omega (arith, less)) less; answered = answered.answered; last = inl answered.last };
+        asks = record { due = λ k less. is_due takes (all_puts message) all k (omega (arith, less)) less; answered = answered.answered; last = inl (answered.last, answered.over) };
         whole = λ (d : Due (all_puts message)). let some : all_puts message < all_puts message = d.some in absurd (omega (arith, some));
       })

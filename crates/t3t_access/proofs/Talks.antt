@@ -133,7 +133,7 @@ fails_more a m b cs c e is f = by_over m.over refl
         record {
           calls = calls;
           answered = answered;
-          last = inl (ap (λ (v : LinkView). v.last) same ∙ is.last);
+          last = inl (ap (λ (v : LinkView). v.last) same ∙ is.last, f.fault.over ∙ sym before);
           by = (f.fault.over, inl before);
           calm = λ calm r says. absurd (let x : None ≡ Some e = sym calm.begun ∙ before in cc);
         }

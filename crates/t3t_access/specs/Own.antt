@@ -53,11 +53,11 @@ pub record IsRead3 (a b : LinkView) (result : Result Found3 T3Fault) : Type 0 wh
   pub calm : IsCalm a b → IfErr result IsToldOrMemory
 
 -- What was answered is the first of what is asked of such a store: the Check of block 0, and the others while they are due. The
--- last one that was asked is the last of these, or the next.
+-- last one that was asked is the last of these, and ended no link, or the next.
 pub record AsksInOrder (id : List ℕ) (a b : LinkView) (count : ℕ) : Type 0 where
   pub due : (k : ℕ) → k < count → IsDue (attributes a.state.store) k
   pub answered : b.answered ≡ a.answered ++ first_checks id (attributes a.state.store) count
-  pub last : (b.last ≡ last_of a.last (first_checks id (attributes a.state.store) count))
+  pub last : ((b.last ≡ last_of a.last (first_checks id (attributes a.state.store) count)) × (b.over ≡ a.over))
       ⊎ ((b.last ≡ Some (check_at id (attributes a.state.store) count)) × IsDue (attributes a.state.store) count)
 
 -- a message, or a fault of the store, is told once no other one is due

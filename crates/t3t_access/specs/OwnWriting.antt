@@ -4,7 +4,7 @@ use Rattle.nfc_base.specs.Signal.{Signal}
 use Rattle.nfc_base.specs.TagLinks.{LinkView, Leads, PassInThree, images}
 use Rattle.nfc_base.specs.declared.tag_link.AskFault.TheVariants as ask
 use Rattle.t3t_tag.specs.Attributes.{message_blocks}
-use Rattle.t3t_tag.specs.Store.{attributes}
+use Rattle.t3t_tag.specs.Store.{IsT3Store, attributes}
 use Rattle.t3t_tag.specs.Form.{NotNdef, Version, BadSize, Unfinished, Message, IsSized, IsT3Form, is_writable}
 use Rattle.t3t_tag.specs.Step.{block_locked}
 use Rattle.t3t_access.specs.declared.fault.T3Fault.{T3Fault}
@@ -19,15 +19,17 @@ pub record SameBehind (message old s : List ℕ) : Type 0 where
   pub size : length s ≡ length old
   pub behind : drop (16 * suc (blocks_of message)) s ≡ drop (16 * suc (blocks_of message)) old
 
--- the store says that a write is under way
+-- the store says that a write is under way, and is one that a new tag may have
 pub record IsBegun (message old s : List ℕ) : Type 0 where
   pub form : IsT3Form s Unfinished
   pub same : SameBehind message old s
+  pub store : IsT3Store s
 
 -- it holds the new message
 pub record IsNew (message old s : List ℕ) : Type 0 where
   pub form : IsT3Form s (Message message)
   pub same : SameBehind message old s
+  pub store : IsT3Store s
 
 -- why it takes none
 abbrev pub IsBarred : List ℕ → Type 0
@@ -86,17 +88,17 @@ pub record IsPutDue (locked : List Bool) (block message : List ℕ) (n : ℕ) : 
   pub free : (k : ℕ) → k < n → get_or locked (put_at block message k).block false ≡ false
 
 -- What was answered is the Check of block 0, and the first so many Updates of those that are due, the one that is refused too. The
--- last one that was asked is the last of these, or the next.
+-- last one that was asked is the last of these, and ended no link, or the next.
 pub record WritesInOrder (id : List ℕ) (locked : List Bool) (message : List ℕ) (a b : LinkView) (count : ℕ) : Type 0 where
   pub due : (k : ℕ) → k < count → IsPutDue locked (attributes a.state.store) message k
   pub answered : b.answered ≡ a.answered ++ first_asked id (attributes a.state.store) message count
-  pub last : (b.last ≡ last_of a.last (first_asked id (attributes a.state.store) message count))
+  pub last : ((b.last ≡ last_of a.last (first_asked id (attributes a.state.store) message count)) × (b.over ≡ a.over))
       ⊎ ((b.last ≡ Some (command_at id (attributes a.state.store) message count)) × IsPutDue locked (attributes a.state.store) message count)
 
 -- or the Check wasn't answered
 pub record AsksNoUpdate (id : List ℕ) (a b : LinkView) : Type 0 where
   pub answered : b.answered ≡ a.answered
-  pub last : (b.last ≡ a.last) ⊎ (b.last ≡ Some (check_of id 0 1))
+  pub last : ((b.last ≡ a.last) × (b.over ≡ a.over)) ⊎ (b.last ≡ Some (check_of id 0 1))
 
 -- it is told that the message is written, or why the tag takes none, once no other Update is due
 abbrev pub IsAllAsked : Result (Unit {0}) T3Fault → Type 0 → Type 0

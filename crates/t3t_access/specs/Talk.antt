@@ -58,7 +58,7 @@ pub record IsCalm (a b : LinkView) : Type 0 where
 pub record Fails (a b : LinkView) (cs : List Signal) (c : Signal) (e : AskFault) : Type 0 where
   pub calls : Calls a b (cs ++ c ∷ [])
   pub answered : b.answered ≡ a.answered ++ cs
-  pub last : (b.last ≡ last_of a.last cs) ⊎ (b.last ≡ Some c)
+  pub last : ((b.last ≡ last_of a.last cs) × (b.over ≡ a.over)) ⊎ (b.last ≡ Some c)
   pub by : ByLink a b e
   pub calm : IsCalm a b → (r : Signal) → Says a cs c r → e ≡ Memory
 

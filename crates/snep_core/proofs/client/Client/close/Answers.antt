@@ -23,7 +23,7 @@ returns-in-Err-clause-err g c =
           c.args.carrier.now c.args.far.now s c.args.carrier.now c.args.far.now) from
           (talks_none g.C.Carrier.seen g.C.Carrier.swaps g.A.Answerer.steps g.A.Answerer.stops c.args.counts
           (begins l Leaves) c.args.carrier.now c.args.far.now);
-      cut = inl (inl (record { fault = c.spend.ensures.fault; link_is = refl; far_is = refl }));
+      cut = inl (inl (record { fault = c.in-Err.ensures.err; link_is = refl; far_is = refl }));
     })
 
 pub returns-then-not-is_open-clause-ok : goal.returns-then-not-is_open-clause-ok
@@ -39,7 +39,7 @@ returns-then-not-is_open-clause-ok g c =
 
 pub returns-in-Err-clause-fails : goal.returns-in-Err-clause-fails
 returns-in-Err-clause-fails g c = λ view peer a.
-    subst (λ f. AsideFails (view c.args.far.now) f (view c.args.far.now)) (sym c.spend.ensures.fault) refl
+    subst (λ f. AsideFails (view c.args.far.now) f (view c.args.far.now)) (sym c.in-Err.ensures.err) refl
 
 pub returns-then-not-is_open-clause-closed : goal.returns-then-not-is_open-clause-closed
 returns-then-not-is_open-clause-closed g c = λ view peer a.

@@ -1,7 +1,8 @@
 use Rattle.std.proofs.Common.{rules, ◌≡◌, ◌<◌, ◌^◌, false, List, ℕ, Some, refl, sym, subst, inl, inr}
+use Rattle.std.proofs.lemmas.Result.{IfErr-weaker, IfOk-weaker}
 use Rattle.snep_core.specs.Accord.{GetFails}
-use Rattle.snep_core.specs.Calling.{FailsBy, Talks}
-use Rattle.snep_core.specs.Jobs.{Begins, Ending, Over, Refused, Value}
+use Rattle.snep_core.specs.Calling.{ClientState, FailsBy, Talks}
+use Rattle.snep_core.specs.Jobs.{Begins, Ending, Over}
 use Rattle.snep_core.specs.Talk.{Ends, Gets, begins_from, begun, connected, get_bytes, one_on, sap_of_slot}
 use Rattle.snep_core.proofs.GetEnds.{get_fails, get_got}
 use Rattle.snep_core.proofs.RequestEnds.{slot_range}
@@ -28,38 +29,44 @@ returns-in-Err-ask-clause-err g c =
     λ going. inr
     (subst (λ (b : List ℕ). FailsBy g.C.Carrier.seen g.C.Carrier.swaps g.A.Answerer.steps g.A.Answerer.stops c.args.counts
     (begun (connected c.args.self.now.llc (sap_of_slot c.args.slot)) (one_on (sap_of_slot c.args.slot) (Begins (Some c.args.acceptable) b))) c.args.carrier.now c.args.far.now c.in-Err-ask.fault
-    c.ask.new.self.llc c.ask.new.carrier c.ask.new.far) e c.in-Err-ask.ensures.err)
+    c.ask.new.self.llc c.ask.new.carrier c.ask.new.far) e
+    (subst (λ (z : ClientState). FailsBy g.C.Carrier.seen g.C.Carrier.swaps g.A.Answerer.steps g.A.Answerer.stops c.args.counts
+    (begun (connected z.llc (sap_of_slot c.args.slot)) (one_on (sap_of_slot c.args.slot) (Begins (Some c.args.acceptable) c.in-Ok.request))) c.args.carrier.now c.args.far.now c.in-Err-ask.fault
+    c.ask.new.self.llc c.ask.new.carrier c.ask.new.far) c.self.view_is c.in-Err-ask.ensures.err))
 
-pub returns-in-Ok-Value-clause-ok : goal.returns-in-Ok-Value-clause-ok
-returns-in-Ok-Value-clause-ok g c =
+pub returns-clause-ok : goal.returns-clause-ok
+returns-clause-ok g c =
     let e : c.in-Ok.request ≡ get_bytes c.args.acceptable c.args.key.now = search rules in
-    let v : c.in-Ok-Value.value ≡ c.into_vec.result.items = search rules in
     let t =
-    subst (λ (o : Ending). Talks g.C.Carrier.seen g.C.Carrier.swaps g.A.Answerer.steps g.A.Answerer.stops c.args.counts
-    (begun (connected c.args.self.now.llc (sap_of_slot c.args.slot)) (one_on (sap_of_slot c.args.slot) (Begins (Some c.args.acceptable) c.in-Ok.request))) c.args.carrier.now c.args.far.now
-    (Ends (one_on (sap_of_slot c.args.slot) (Over o)) c.ask.new.self.llc) c.ask.new.carrier c.ask.new.far) c.in-Ok-Value.field-0-is c.in-Ok-Value.ensures.ok in
+    subst (λ (z : ClientState). Talks g.C.Carrier.seen g.C.Carrier.swaps g.A.Answerer.steps g.A.Answerer.stops c.args.counts
+    (begun (connected z.llc (sap_of_slot c.args.slot)) (one_on (sap_of_slot c.args.slot) (Begins (Some c.args.acceptable) c.in-Ok.request))) c.args.carrier.now c.args.far.now
+    (Ends (one_on (sap_of_slot c.args.slot) (Over c.in-Ok-ask.ending)) c.ask.new.self.llc) c.ask.new.carrier c.ask.new.far) c.self.view_is c.in-Ok-ask.ensures.ok in
     let u =
     subst (λ (b : List ℕ). Talks g.C.Carrier.seen g.C.Carrier.swaps g.A.Answerer.steps g.A.Answerer.stops c.args.counts
     (begun (connected c.args.self.now.llc (sap_of_slot c.args.slot)) (one_on (sap_of_slot c.args.slot) (Begins (Some c.args.acceptable) b))) c.args.carrier.now c.args.far.now
-    (Ends (one_on (sap_of_slot c.args.slot) (Over (Value c.in-Ok-Value.value))) c.ask.new.self.llc) c.ask.new.carrier c.ask.new.far) e t in
-    subst (λ (x : List ℕ). Talks g.C.Carrier.seen g.C.Carrier.swaps g.A.Answerer.steps g.A.Answerer.stops c.args.counts
+    (Ends (one_on (sap_of_slot c.args.slot) (Over c.in-Ok-ask.ending)) c.ask.new.self.llc) c.ask.new.carrier c.ask.new.far) e t in
+    IfOk-weaker c.value_of.result _ _ (λ value is. subst (λ (o : Ending). Talks g.C.Carrier.seen g.C.Carrier.swaps g.A.Answerer.steps g.A.Answerer.stops c.args.counts
     (begun (connected c.args.self.now.llc (sap_of_slot c.args.slot)) (one_on (sap_of_slot c.args.slot) (Begins (Some c.args.acceptable) (get_bytes c.args.acceptable c.args.key.now))))
-    c.args.carrier.now c.args.far.now (Ends (one_on (sap_of_slot c.args.slot) (Over (Value x))) c.ask.new.self.llc) c.ask.new.carrier c.ask.new.far) v u
+    c.args.carrier.now c.args.far.now (Ends (one_on (sap_of_slot c.args.slot) (Over o)) c.ask.new.self.llc) c.ask.new.carrier c.ask.new.far) is u) c.value_of.ensures.value
 
-pub returns-in-Ok-Refused-clause-err : goal.returns-in-Ok-Refused-clause-err
-returns-in-Ok-Refused-clause-err g c =
+pub returns-clause-err : goal.returns-clause-err
+returns-clause-err g c =
     let e : c.in-Ok.request ≡ get_bytes c.args.acceptable c.args.key.now = search rules in
     let t =
-    subst (λ (o : Ending). Talks g.C.Carrier.seen g.C.Carrier.swaps g.A.Answerer.steps g.A.Answerer.stops c.args.counts
-    (begun (connected c.args.self.now.llc (sap_of_slot c.args.slot)) (one_on (sap_of_slot c.args.slot) (Begins (Some c.args.acceptable) c.in-Ok.request))) c.args.carrier.now c.args.far.now
-    (Ends (one_on (sap_of_slot c.args.slot) (Over o)) c.ask.new.self.llc) c.ask.new.carrier c.ask.new.far) c.in-Ok-Refused.field-0-is c.in-Ok-Refused.ensures.ok in
-    λ going. inl (record {
-      why = c.in-Ok-Refused.refusal;
-      fault = c.fault.ensures;
-      talks = subst (λ (b : List ℕ). Talks g.C.Carrier.seen g.C.Carrier.swaps g.A.Answerer.steps g.A.Answerer.stops c.args.counts
-          (begun (connected c.args.self.now.llc (sap_of_slot c.args.slot)) (one_on (sap_of_slot c.args.slot) (Begins (Some c.args.acceptable) b))) c.args.carrier.now c.args.far.now
-          (Ends (one_on (sap_of_slot c.args.slot) (Over (Refused c.in-Ok-Refused.refusal))) c.ask.new.self.llc) c.ask.new.carrier c.ask.new.far) e t;
-    })
+    subst (λ (z : ClientState). Talks g.C.Carrier.seen g.C.Carrier.swaps g.A.Answerer.steps g.A.Answerer.stops c.args.counts
+    (begun (connected z.llc (sap_of_slot c.args.slot)) (one_on (sap_of_slot c.args.slot) (Begins (Some c.args.acceptable) c.in-Ok.request))) c.args.carrier.now c.args.far.now
+    (Ends (one_on (sap_of_slot c.args.slot) (Over c.in-Ok-ask.ending)) c.ask.new.self.llc) c.ask.new.carrier c.ask.new.far) c.self.view_is c.in-Ok-ask.ensures.ok in
+    let u =
+    subst (λ (b : List ℕ). Talks g.C.Carrier.seen g.C.Carrier.swaps g.A.Answerer.steps g.A.Answerer.stops c.args.counts
+    (begun (connected c.args.self.now.llc (sap_of_slot c.args.slot)) (one_on (sap_of_slot c.args.slot) (Begins (Some c.args.acceptable) b))) c.args.carrier.now c.args.far.now
+    (Ends (one_on (sap_of_slot c.args.slot) (Over c.in-Ok-ask.ending)) c.ask.new.self.llc) c.ask.new.carrier c.ask.new.far) e t in
+    λ going. IfErr-weaker c.value_of.result _ _ (λ fault r. inl (record {
+      why = r.0;
+      fault = r.2;
+      talks = subst (λ (o : Ending). Talks g.C.Carrier.seen g.C.Carrier.swaps g.A.Answerer.steps g.A.Answerer.stops c.args.counts
+          (begun (connected c.args.self.now.llc (sap_of_slot c.args.slot)) (one_on (sap_of_slot c.args.slot) (Begins (Some c.args.acceptable) (get_bytes c.args.acceptable c.args.key.now))))
+          c.args.carrier.now c.args.far.now (Ends (one_on (sap_of_slot c.args.slot) (Over o)) c.ask.new.self.llc) c.ask.new.carrier c.ask.new.far) r.1 u;
+    })) c.value_of.ensures.refused
 
 pub returns-in-Err-clause-fails : goal.returns-in-Err-clause-fails
 returns-in-Err-clause-fails g c = λ view peer a.
@@ -73,17 +80,17 @@ returns-in-Err-ask-clause-fails g c = λ view peer a.
     c.args.self.now.llc c.args.carrier.now c.args.far.now a c.args.counts c.in-Err-ask.fault c.ask.new.self.llc c.ask.new.carrier c.ask.new.far
     (returns-in-Err-ask-clause-err g c going)
 
-pub returns-in-Ok-Value-clause-value : goal.returns-in-Ok-Value-clause-value
-returns-in-Ok-Value-clause-value g c = λ view peer a.
+pub returns-clause-value : goal.returns-clause-value
+returns-clause-value g c = λ view peer a.
     let small : c.args.acceptable < 2 ^ 32 = search rules in
-    get_got g.C.Carrier.seen g.C.Carrier.swaps g.A.Answerer.steps g.A.Answerer.stops view peer (sap_of_slot c.args.slot) (slot_range c.args.slot c.requires.slot) c.args.acceptable small c.args.key.now c.requires.key
-    c.args.self.now.llc c.args.carrier.now c.args.far.now a c.args.counts c.into_vec.result.items c.ask.new.self.llc c.ask.new.carrier c.ask.new.far
-    (returns-in-Ok-Value-clause-ok g c)
+    IfOk-weaker c.value_of.result _ _ (λ value t. get_got g.C.Carrier.seen g.C.Carrier.swaps g.A.Answerer.steps g.A.Answerer.stops view peer (sap_of_slot c.args.slot) (slot_range c.args.slot c.requires.slot) c.args.acceptable small c.args.key.now c.requires.key
+    c.args.self.now.llc c.args.carrier.now c.args.far.now a c.args.counts value.items c.ask.new.self.llc c.ask.new.carrier c.ask.new.far t)
+    (returns-clause-ok g c)
 
-pub returns-in-Ok-Refused-clause-fails : goal.returns-in-Ok-Refused-clause-fails
-returns-in-Ok-Refused-clause-fails g c = λ view peer a.
+pub returns-clause-fails : goal.returns-clause-fails
+returns-clause-fails g c = λ view peer a.
     let going : c.args.self.now.spent ≡ false = search rules in
     let small : c.args.acceptable < 2 ^ 32 = search rules in
-    get_fails g.C.Carrier.seen g.C.Carrier.swaps g.A.Answerer.steps g.A.Answerer.stops view peer (sap_of_slot c.args.slot) (slot_range c.args.slot c.requires.slot) c.args.acceptable small c.args.key.now c.requires.key
-    c.args.self.now.llc c.args.carrier.now c.args.far.now a c.args.counts c.fault.result c.ask.new.self.llc c.ask.new.carrier c.ask.new.far
-    (returns-in-Ok-Refused-clause-err g c going)
+    IfErr-weaker c.value_of.result _ _ (λ fault t. get_fails g.C.Carrier.seen g.C.Carrier.swaps g.A.Answerer.steps g.A.Answerer.stops view peer (sap_of_slot c.args.slot) (slot_range c.args.slot c.requires.slot) c.args.acceptable small c.args.key.now c.requires.key
+    c.args.self.now.llc c.args.carrier.now c.args.far.now a c.args.counts fault c.ask.new.self.llc c.ask.new.carrier c.ask.new.far t)
+    (returns-clause-err g c going)

@@ -16,12 +16,12 @@ returns-in-Err-clause-err g c = λ going. inr (record {
   mid_far = c.args.far.now;
   talks = talks_none g.C.Carrier.seen g.C.Carrier.swaps g.A.Answerer.steps g.A.Answerer.stops c.args.counts
       (begins c.args.self.now.llc (Finds c.args.name.now)) c.args.carrier.now c.args.far.now;
-  cut = inl (inl (record { fault = c.spend.ensures.fault; link_is = refl; far_is = refl }));
+  cut = inl (inl (record { fault = c.in-Err.ensures.err; link_is = refl; far_is = refl }));
 })
 
 pub returns-in-Err-clause-fails : goal.returns-in-Err-clause-fails
 returns-in-Err-clause-fails g c = λ view peer a.
-    subst (λ f. AsideFails (view c.args.far.now) f (view c.args.far.now)) (sym c.spend.ensures.fault) refl
+    subst (λ f. AsideFails (view c.args.far.now) f (view c.args.far.now)) (sym c.in-Err.ensures.err) refl
 
 pub returns-clause-found : goal.returns-clause-found
 returns-clause-found g c =

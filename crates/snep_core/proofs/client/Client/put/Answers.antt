@@ -1,6 +1,6 @@
 use Rattle.std.proofs.Common.{rules, ◌≡◌, false, List, ℕ, None, refl, sym, subst, inl, inr, arith}
 use Rattle.snep_core.specs.Accord.{PutFails}
-use Rattle.snep_core.specs.Calling.{FailsBy, Talks}
+use Rattle.snep_core.specs.Calling.{ClientState, FailsBy, Talks}
 use Rattle.snep_core.specs.Jobs.{Begins, Done, Ending, Over, Refused}
 use Rattle.snep_core.specs.Talk.{Ends, Puts, alone, begins, begun, client_sap, connected, put_bytes}
 use Rattle.snep_core.proofs.PutEnds.{put_fails, put_taken}
@@ -22,14 +22,20 @@ pub returns-in-Err-ask-clause-err : goal.returns-in-Err-ask-clause-err
 returns-in-Err-ask-clause-err g c = λ going. inr
     (subst (λ (b : List ℕ). FailsBy g.C.Carrier.seen g.C.Carrier.swaps g.A.Answerer.steps g.A.Answerer.stops c.args.counts
     (begun (connected c.args.self.now.llc client_sap) (alone (Begins None b))) c.args.carrier.now c.args.far.now c.in-Err-ask.fault c.ask.new.self.llc
-    c.ask.new.carrier c.ask.new.far) c.in-Ok.ensures c.in-Err-ask.ensures.err)
+    c.ask.new.carrier c.ask.new.far) c.in-Ok.ensures
+    (subst (λ (z : ClientState). FailsBy g.C.Carrier.seen g.C.Carrier.swaps g.A.Answerer.steps g.A.Answerer.stops c.args.counts
+    (begun (connected z.llc client_sap) (alone (Begins None c.in-Ok.request))) c.args.carrier.now c.args.far.now c.in-Err-ask.fault c.ask.new.self.llc
+    c.ask.new.carrier c.ask.new.far) c.self.view_is c.in-Err-ask.ensures.err))
 
 pub returns-in-Ok-Done-clause-ok : goal.returns-in-Ok-Done-clause-ok
 returns-in-Ok-Done-clause-ok g c =
     let t =
     subst (λ (o : Ending). Talks g.C.Carrier.seen g.C.Carrier.swaps g.A.Answerer.steps g.A.Answerer.stops c.args.counts
     (begun (connected c.args.self.now.llc client_sap) (alone (Begins None c.in-Ok.request))) c.args.carrier.now c.args.far.now
-    (Ends (alone (Over o)) c.ask.new.self.llc) c.ask.new.carrier c.ask.new.far) c.in-Ok-Done.field-0-is c.in-Ok-Done.ensures.ok in
+    (Ends (alone (Over o)) c.ask.new.self.llc) c.ask.new.carrier c.ask.new.far) c.in-Ok-Done.field-0-is
+    (subst (λ (z : ClientState). Talks g.C.Carrier.seen g.C.Carrier.swaps g.A.Answerer.steps g.A.Answerer.stops c.args.counts
+    (begun (connected z.llc client_sap) (alone (Begins None c.in-Ok.request))) c.args.carrier.now c.args.far.now
+    (Ends (alone (Over c.in-Ok-Done.field-0)) c.ask.new.self.llc) c.ask.new.carrier c.ask.new.far) c.self.view_is c.in-Ok-Done.ensures.ok) in
     subst (λ (b : List ℕ). Talks g.C.Carrier.seen g.C.Carrier.swaps g.A.Answerer.steps g.A.Answerer.stops c.args.counts
     (begun (connected c.args.self.now.llc client_sap) (alone (Begins None b))) c.args.carrier.now c.args.far.now
     (Ends (alone (Over Done)) c.ask.new.self.llc) c.ask.new.carrier c.ask.new.far) c.in-Ok.ensures t
@@ -39,7 +45,10 @@ returns-in-Ok-Refused-clause-err g c =
     let t =
     subst (λ (o : Ending). Talks g.C.Carrier.seen g.C.Carrier.swaps g.A.Answerer.steps g.A.Answerer.stops c.args.counts
     (begun (connected c.args.self.now.llc client_sap) (alone (Begins None c.in-Ok.request))) c.args.carrier.now c.args.far.now
-    (Ends (alone (Over o)) c.ask.new.self.llc) c.ask.new.carrier c.ask.new.far) c.in-Ok-Refused.field-0-is c.in-Ok-Refused.ensures.ok in
+    (Ends (alone (Over o)) c.ask.new.self.llc) c.ask.new.carrier c.ask.new.far) c.in-Ok-Refused.field-0-is
+    (subst (λ (z : ClientState). Talks g.C.Carrier.seen g.C.Carrier.swaps g.A.Answerer.steps g.A.Answerer.stops c.args.counts
+    (begun (connected z.llc client_sap) (alone (Begins None c.in-Ok.request))) c.args.carrier.now c.args.far.now
+    (Ends (alone (Over c.in-Ok-Refused.field-0)) c.ask.new.self.llc) c.ask.new.carrier c.ask.new.far) c.self.view_is c.in-Ok-Refused.ensures.ok) in
     λ going. inl (record {
       why = c.in-Ok-Refused.refusal;
       fault = c.fault.ensures;

@@ -1,0 +1,118 @@
+/* Readings and writings of NFC Forum tags (Types 2, 4 and 5), a command at a time, by proved code.
+ *
+ * The library sends nothing: you have the radio. You keep what passed between your reader and the tag in a log, in memory of your own, and hand
+ * it in each time; what comes back is the next command, or the end. No call keeps anything, so any thread may call at any time, and a call may be
+ * made again. docs/c-library.md says what is proved of each.
+ *
+ * No pointer may be null, not even one to no bytes; `out` overlaps nothing else that is handed in. Structs begin as zeros.
+ */
+#ifndef ZEVLODEK_H
+#define ZEVLODEK_H
+
+#include <stdbool.h>
+#include <stddef.h>
+#include <stdint.h>
+#include <string.h>
+
+#ifdef __cplusplus
+extern "C" {
+#endif
+
+/* What a call answers. A fault is below zero, and leaves `out` as it was. */
+enum zev_answer {
+    ZEV_DONE = 0,  /* what was asked for is there */
+    ZEV_SEND = 1,  /* the command in `out` is to be sent to the tag */
+    ZEV_SILENT = 2 /* a tag gives no answer */
+};
+
+enum zev_fault {
+    ZEV_BAD_LOG = -1,      /* the bytes of the log are none that zev_log_add wrote */
+    ZEV_BAD_ARGUMENT = -2, /* a kind that isn't 2, 4 or 5, or bytes that can't be a tag's memory or frame */
+    ZEV_SHORT = -3,        /* `out` has fewer bytes than `length` tells: nothing was put there, and nothing was done */
+    ZEV_NO_MEMORY = -4,    /* malloc gave none */
+    ZEV_ENDS_EARLY = -5,   /* a memory that was read out ends before its container, or before its message */
+
+    /* of reading and writing a tag */
+    ZEV_NOT_NDEF = -101,       /* the container is none of an NDEF tag */
+    ZEV_VERSION = -102,        /* the container has another major version */
+    ZEV_NO_READ = -103,        /* reading isn't free */
+    ZEV_SECTORS = -104,        /* a Type 2 tag of more than one sector */
+    ZEV_BAD_SIZE = -105,       /* the container names a size that can't be */
+    ZEV_NO_MESSAGE_TLV = -106, /* the area has no TLV of a message */
+    ZEV_BAD_TLV = -107,        /* a TLV, or a message's length, leads out of the area */
+    ZEV_REFUSED = -108,        /* the tag refused a command: `code` */
+    ZEV_TAG_NO_MEMORY = -111,  /* malloc gave none: the same call may succeed later */
+    ZEV_READ_ONLY = -112,      /* writing isn't free */
+    ZEV_TOO_LONG = -113,       /* the message is longer than `capacity` */
+    ZEV_SHORT_MLC = -114,      /* a Type 4 tag takes fewer than two bytes a command */
+    ZEV_PROTOCOL = -115        /* an answer that no tag gives to its command, or a log of other commands than those that were to be sent */
+};
+
+/* What a call tells beside its answer. What isn't spoken of stays as it was. */
+typedef struct {
+    size_t length;     /* how many bytes stand in `out`; with ZEV_SHORT, how many it takes */
+    uint32_t capacity; /* of a survey, and with ZEV_TOO_LONG: how many bytes a message may have */
+    uint16_t code;     /* with ZEV_REFUSED: the tag's error (Type 5), its status bytes (Type 4), 0 (Type 2) */
+    uint8_t writable;  /* of a message that was read, and of a survey: 1 where writing is free */
+    uint8_t bits;      /* of a tag's answer: how many low bits of its last byte are sent, 0 for all */
+} zev_told;
+
+/* Goes on with the reading of a tag of this kind (2, 4 or 5; `id` has the eight bytes of a Type 5 tag's identifier, high byte first). ZEV_SEND: send
+ * the command in `out`, add it to the log with its answer, and call again. ZEV_DONE: the message stands in `out`. The log begins with no bytes. */
+int32_t zev_read_next(uint32_t kind, const uint8_t id[8], const uint8_t *log, size_t log_length, uint8_t *out, size_t out_length,
+                      zev_told *told);
+
+/* Goes on with the survey of a tag, likewise. ZEV_DONE: `length` tells how long its message is, `capacity` how long one may be, `writable` whether
+ * writing is free; `out` stays. */
+int32_t zev_survey_next(uint32_t kind, const uint8_t id[8], const uint8_t *log, size_t log_length, uint8_t *out, size_t out_length,
+                        zev_told *told);
+
+/* Goes on with the writing of a message, likewise. ZEV_DONE: all of it is written. Wherever it ends before, with the last command obeyed or not,
+ * the tag reads as the old message, the empty one or the new one. */
+int32_t zev_write_next(uint32_t kind, const uint8_t id[8], const uint8_t *message, size_t message_length, const uint8_t *log,
+                       size_t log_length, uint8_t *out, size_t out_length, zev_told *told);
+
+/* Tells the message of a Type 2 tag's memory that was read out, from its first byte on. ZEV_DONE: it stands in `out`, and `writable` tells whether writing
+ * is free. A fault of the memory is that of a reading. */
+int32_t zev_t2_message(const uint8_t *memory, size_t memory_length, uint8_t *out, size_t out_length, zev_told *told);
+
+/* One step of a Type 2 tag, for who answers as a tag: its memory of 4 to 256 blocks of four bytes, which the step changes; a byte for each block,
+ * not 0 where it is locked; and a command, of which `bits` low bits of the last byte came (0: all). ZEV_DONE: its answer stands in `out`, 16 bytes
+ * or four bits. ZEV_SILENT: it gives none. */
+int32_t zev_t2_tag(uint8_t *memory, size_t memory_length, const uint8_t *locks, size_t locks_length, const uint8_t *command,
+                   size_t command_length, uint8_t bits, uint8_t *out, size_t out_length, zev_told *told);
+
+/* What a fault says, in English. */
+const char *zev_fault_text(int32_t fault);
+
+/* A log, in memory of yours. */
+typedef struct {
+    uint8_t *bytes;
+    size_t length, room;
+} zev_log;
+
+/* Adds a command and its answer, of which `bits` low bits of the last byte came (0: all). False where the log has no room for it. */
+static inline bool zev_log_add(zev_log *log, const uint8_t *command, size_t command_length, const uint8_t *answer, size_t answer_length,
+                               uint8_t bits)
+{
+    if (command_length > 288 || answer_length > 288 || log->room - log->length < command_length + answer_length + 5) {
+        return false;
+    }
+    uint8_t *at = log->bytes + log->length;
+    *at++ = bits;
+    *at++ = (uint8_t)(command_length % 256);
+    *at++ = (uint8_t)(command_length / 256);
+    memcpy(at, command, command_length);
+    at += command_length;
+    *at++ = (uint8_t)(answer_length % 256);
+    *at++ = (uint8_t)(answer_length / 256);
+    memcpy(at, answer, answer_length);
+    log->length += command_length + answer_length + 5;
+    return true;
+}
+
+#ifdef __cplusplus
+}
+#endif
+
+#endif

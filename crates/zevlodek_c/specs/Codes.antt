@@ -1,0 +1,38 @@
+-- What a call answers in C, as a number (this project's own): one that isn't negative, or a fault below zero.
+use Rattle.std.specs.Prelude.{ℕ, ◌+◌, ℤ, pos, negsuc}
+
+-- what was asked for is there
+abbrev pub done : ℤ
+done = pos 0
+
+-- a command is to be sent
+abbrev pub send : ℤ
+send = pos 1
+
+-- a tag gives no answer
+abbrev pub silent : ℤ
+silent = pos 2
+
+-- the bytes of a log spell no turns: minus 1
+abbrev pub bad_log : ℤ
+bad_log = negsuc 0
+
+-- an argument isn't one that the call takes: minus 2
+abbrev pub bad_argument : ℤ
+bad_argument = negsuc 1
+
+-- what is to be told has no room: minus 3
+abbrev pub short : ℤ
+short = negsuc 2
+
+-- want of memory, where no tag is asked: minus 4
+abbrev pub no_memory : ℤ
+no_memory = negsuc 3
+
+-- a memory that was read out ends before its message does: minus 5
+abbrev pub ends_early : ℤ
+ends_early = negsuc 4
+
+-- a fault of reading or writing a tag, by its number: minus 100 and that number less
+abbrev pub tag_fault : ℕ → ℤ
+tag_fault number = negsuc (99 + number)

@@ -1,0 +1,36 @@
+//! What a call answers: one number that isn't negative, or a fault below zero.
+
+ghost use Rattle.std.specs.Prelude.{◌≡◌, ◌≤◌};
+ghost use Rattle.zevlodek_c.specs.Codes.{tag_fault};
+
+/// What was asked for is there.
+pub const DONE: i32 = 0;
+
+/// A command is to be sent.
+pub const SEND: i32 = 1;
+
+/// A tag gives no answer.
+pub const SILENT: i32 = 2;
+
+/// The bytes of a log spell no turns.
+pub const BAD_LOG: i32 = -1;
+
+/// An argument isn't one that the call takes.
+pub const BAD_ARGUMENT: i32 = -2;
+
+/// What is to be told has no room.
+pub const SHORT: i32 = -3;
+
+/// Want of memory, where no tag is asked.
+pub const NO_MEMORY: i32 = -4;
+
+/// A memory that was read out ends before its message does.
+pub const ENDS_EARLY: i32 = -5;
+
+/// A fault of reading or writing a tag, by its number.
+pub fn tag_fault(number: u8) -> i32
+    requires { number ≤ 15 }
+    ensures { result ≡ tag_fault number }
+{
+    -100 - number as i32
+}

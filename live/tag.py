@@ -1,0 +1,56 @@
+#!/usr/bin/env python3
+"""A Type 2 tag behind the pipe of `zev`: its memory is a file, its steps are the proved library's.
+
+    tag.py FILE [--cut N] [--obeys] [--locked BLOCK ..]
+
+`> HEX` or `> HEX/BITS` comes by standard input, `< HEX`, `< HEX/BITS` or `-` goes by standard output. With `--cut N` the tag is gone at the command with
+this number, counted from 0, which it still obeys with `--obeys`. The file has what the tag holds at each moment.
+"""
+
+from __future__ import annotations
+
+import argparse
+import re
+import sys
+from pathlib import Path
+
+from readers.pipe import spelled
+from zevlodek import Fault, Type2Tag
+
+COMMAND = re.compile(r"> (-|(?:[0-9A-F]{2})+)(?:/([1-7]))?")
+
+
+def serve(path: Path, tag: Type2Tag, cut: int, obeys: bool) -> None:
+    for number, line in enumerate(sys.stdin):
+        found = COMMAND.fullmatch(line.rstrip("\n"))
+        if number == cut and not obeys:
+            return
+        answer = None
+        if found:
+            content = b"" if found[1] == "-" else bytes.fromhex(found[1])
+            answer = tag.obey(content, int(found[2] or 0)) if len(content) <= 288 else None
+            path.write_bytes(tag.memory)
+        if number == cut:
+            return
+        print(f"< {spelled(*answer)}" if answer else "-", flush=True)
+
+
+def main() -> int:
+    words = argparse.ArgumentParser(description=__doc__.split("\n")[0])
+    words.add_argument("file", type=Path)
+    words.add_argument("--cut", type=int, default=-1)
+    words.add_argument("--obeys", action="store_true")
+    words.add_argument("--locked", type=int, nargs="*", default=[])
+    told = words.parse_args()
+    try:
+        serve(told.file, Type2Tag(told.file.read_bytes(), tuple(told.locked)), told.cut, told.obeys)
+    except (OSError, Fault) as fault:
+        print(f"tag.py: {fault}", file=sys.stderr)
+        return 1
+    except BrokenPipeError:
+        pass
+    return 0
+
+
+if __name__ == "__main__":
+    sys.exit(main())
