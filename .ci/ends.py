@@ -15,6 +15,8 @@ import tempfile
 import threading
 from pathlib import Path
 
+from stored import stored_scripts
+
 ROOT = Path(__file__).resolve().parent.parent
 # How many seconds one run may take.
 LIMIT = 120
@@ -125,16 +127,6 @@ def with_sink_failing(program, words, script, count):
         return bench.wait(timeout=LIMIT), pieces
 
 
-def stored_scripts():
-    """Each stored script with the words of its run and its report."""
-    for report in sorted(ROOT.glob("tests/cases/*/*.stdout")) + sorted(ROOT.glob("examples/*.stdout")):
-        script = report.with_suffix("")
-        words = Path(f"{script}.args")
-        said = words.read_text().split() if words.exists() else []
-        word = "sweep" if script.parent.name == "sweep" else "run"
-        yield script, [word, *said], script.read_bytes(), report.read_bytes()
-
-
 def sizes(script):
     """How many bytes the pieces of a script have. The reader asks for no more than a longest line has room for, and a pipe of
     packets drops what is beyond that of one, so a script with a line near the limit comes byte by byte alone."""
@@ -144,9 +136,10 @@ def sizes(script):
 
 def check_pieces(program):
     """Each stored script has the same report, however few bytes a call gives."""
-    for script, words, text, report in stored_scripts():
+    for script, words, report in stored_scripts():
+        text = script.read_bytes()
         for size in sizes(text):
-            if by_pieces(program, words, text, size)[1] != report:
+            if by_pieces(program, words, text, size)[1] != report.read_bytes():
                 yield f"{script.name}: another report by pieces of {size}"
 
 

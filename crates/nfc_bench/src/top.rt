@@ -7,11 +7,7 @@ ghost use Rattle.nfc_bench.specs.Limits.{most_read};
 ghost use Rattle.nfc_bench.specs.Run.{Ran, sees, line_fault, AllTaken, AddsFault, EndsDone, EndsRefused, EndsUnread, EndsUnwritten, EndsMemory, ReadsInTime, ReadsAtMost};
 ghost use Rattle.bench_world.specs.Obeying.{new_bench};
 
-#[cfg(test)]
-mod card_tests;
 mod counting;
-#[cfg(test)]
-mod crowd_tests;
 mod found;
 mod gathering;
 #[cfg(test)]
@@ -22,8 +18,6 @@ mod lines;
 mod make_tests;
 mod making;
 mod obeying;
-#[cfg(test)]
-mod peer_tests;
 pub mod program;
 #[cfg(test)]
 mod report_tests;
@@ -31,13 +25,9 @@ mod report_tests;
 mod runs;
 mod script;
 #[cfg(test)]
-mod store_tests;
-#[cfg(test)]
 mod sweep_tests;
 mod sweeping;
 mod swept;
-#[cfg(test)]
-mod tags_tests;
 #[cfg(test)]
 mod tests;
 mod text;
