@@ -1,8 +1,9 @@
 //! The bench by its public names, as another program drives it.
 
 use bench_script::parse_line;
-use bench_world::{Answer, Bench, ObeyFault, render};
-use nfc_base::Items;
+use bench_world::{Answer, Bench, Entry, ObeyFault, render};
+use std::alloc::Global;
+use std::process::Abort;
 use std::test::Fail;
 
 /// A line with its number, and its line of a report that tells answers alone.
@@ -17,29 +18,50 @@ const ROWS: [(u32, &str, &str); 4] = [
     (4, "remove 01020304", "4 ok\n"),
 ];
 
-#[test]
-fn bench_is_driven_by_its_public_names(rt: HostRuntime) -> Result<(), Fail> {
-    let alloc = rt.alloc();
-    let mut bench = Bench::new(alloc);
+/// Each line is obeyed.
+fn obey_all(rt: &impl Abort, alloc: Global, bench: &mut Bench) -> Result<(), Fail> {
     for (line, text, _) in ROWS {
         let command = parse_line(alloc, text.as_bytes())?;
         assert_eq!(rt; bench.obey(line, &command), Ok(()), "at {text}");
     }
-    let dump = parse_line(alloc, b"dump 01020304")?;
-    assert_eq!(rt; bench.obey(5, &dump), Err(ObeyFault::Refused));
-    let journal = bench.journal();
+    Ok(())
+}
+
+/// A line is refused.
+fn refuses(rt: &impl Abort, alloc: Global, bench: &mut Bench, text: &str) -> Result<(), Fail> {
+    let command = parse_line(alloc, text.as_bytes())?;
+    assert_eq!(rt; bench.obey(5, &command), Err(ObeyFault::Refused));
+    Ok(())
+}
+
+/// Whether the entry at a place tells this message of a tag that may be written.
+fn tells_message(journal: &[Entry], place: usize, wanted: &[u8]) -> bool {
+    let Some(entry) = journal.get(place) else {
+        return false;
+    };
+    match &entry.answer {
+        Answer::Message { message, writable } => *writable && message.as_slice() == wanted,
+        _ => false,
+    }
+}
+
+/// Each entry has its line of the report.
+fn reports(rt: &impl Abort, alloc: Global, journal: &[Entry]) -> Result<(), Fail> {
     assert_eq!(rt; journal.len(), ROWS.len());
-    let message = Items::from_bytes(alloc, &[0xD0, 0, 0])?;
-    assert!(rt;
-        journal[1].answer
-            == Answer::Message {
-                message,
-                writable: true
-            }
-    );
     for (entry, (_, _, report)) in journal.iter().zip(ROWS) {
         let text = render(alloc, entry, true)?;
         assert_eq!(rt; str::from_utf8(&text)?, report);
     }
+    Ok(())
+}
+
+#[test]
+fn bench_is_driven_by_its_public_names(rt: HostRuntime) -> Result<(), Fail> {
+    let alloc = rt.alloc();
+    let mut bench = Bench::new(alloc);
+    obey_all(&rt, alloc, &mut bench)?;
+    refuses(&rt, alloc, &mut bench, "dump 01020304")?;
+    reports(&rt, alloc, bench.journal())?;
+    assert!(rt; tells_message(bench.journal(), 1, &[0xD0, 0, 0]));
     Ok(())
 }
