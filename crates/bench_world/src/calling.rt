@@ -5,6 +5,7 @@ ghost use Rattle.std.specs.Prelude.{false, ◌≡◌, ◌↔◌, ◌≤◌, IsTr
 ghost use Rattle.std.specs.Char.{is_ascii_graphic};
 ghost use Rattle.std.specs.List.{list_all};
 ghost use Rattle.link_calls.specs.Asking.{IsShort, asking_of};
+ghost use Rattle.snep_core.specs.Slots.{is_staged_at};
 ghost use Rattle.bench_script.specs.Messages.{message_of};
 ghost use Rattle.bench_script.specs.Script.{SpellsName, longest_message};
 ghost use Rattle.bench_world.specs.Asked.{asked_on_link};
@@ -48,6 +49,7 @@ fn take_link(machines: &mut Machines, counts: Counts) -> Option<OnLink>
     ensures some { IfSome result (λ on. TakesLink machines.old on.place
         (record { peer = on.peer; initiator = on.initiator; client = on.client.llc }) on.far.end machines.new) }
     ensures going { IfSome result (λ on. on.client.spent ≡ false) }
+    ensures free { IfSome result (λ on. is_staged_at on.client.slots 0 ≡ false) }
     ensures counts { IfSome result (λ on. on.far.numbers ≡ counts) }
 {
     let Link {
@@ -74,6 +76,7 @@ fn take_link(machines: &mut Machines, counts: Counts) -> Option<OnLink>
 fn put_back(machines: &mut Machines, on: OnLink)
     requires place { on.place < length machines.old.ends }
     requires going { on.client.spent ≡ false }
+    requires free { is_staged_at on.client.slots 0 ≡ false }
     ensures { machines.new ≡ put_back machines.old on.place on.far.end
         (record { peer = on.peer; initiator = on.initiator; client = on.client.llc }) }
 {

@@ -9,7 +9,7 @@ ghost use Rattle.bench_world.specs.Links.{accepted_by, end_numbered, is_number, 
 ghost use Rattle.bench_world.specs.Peers.{set_under};
 ghost use Rattle.bench_world.specs.World.{FarEnd};
 ghost use Rattle.snep_core.specs.Calling.{ClientState};
-ghost use Rattle.snep_core.specs.Slots.{fresh_slots};
+ghost use Rattle.snep_core.specs.Slots.{fresh_slots, is_staged_at};
 
 use crate::bench::ObeyFault;
 use crate::entry::{Answer, Loss, Received};
@@ -35,12 +35,13 @@ pub struct Link {
 impl Model for Link {
     ghost use Rattle.std.specs.Prelude.{◌≡◌, false};
     ghost use Rattle.bench_world.specs.Links.{OpenLink};
+    ghost use Rattle.snep_core.specs.Slots.{is_staged_at};
 
     ghost Value = { OpenLink };
 
     ghost view = { λ l. record { peer = l.peer; initiator = l.initiator; client = l.client.llc } };
 
-    ghost invariant = { λ l. l.client.spent ≡ false };
+    ghost invariant = { λ l. (l.client.spent ≡ false) × (is_staged_at l.client.slots 0 ≡ false) };
 }
 
 /// A far end has accepted so many messages; where none stands, there are none.
@@ -371,6 +372,7 @@ impl Machines {
     ) -> Result<Answer, ObeyFault>
         requires few { length self.old.peers.links + 1 < 2 ^ 32 }
         requires fresh { client.spent ≡ false }
+        requires free { is_staged_at client.slots 0 ≡ false }
         ensures ok { IfOk result (λ a. a ≡ Answer.Linked (length self.old.peers.links + 1)) }
         ensures opened { OnOk result (self.new ≡ begun self.old peer start initiator client.llc) }
         ensures err { IfErr result (λ e. e ≡ ObeyFault.Memory) }

@@ -1,11 +1,13 @@
 //! A client's calls on the open link of a field. `counts` say how many PDUs each payload of the client's end has, and
 //! `far` is the peer's end, with those of its own payloads.
 
-ghost use Rattle.std.specs.Prelude.{◌≡◌, ◌≤◌, length, false, Err, IfOk, IfErr, OnOk};
+ghost use Rattle.std.specs.Prelude.{◌≡◌, ◌≤◌, ◌⊎◌, length, false, Err, IfOk, IfErr, OnOk};
 ghost use Rattle.snep_core.specs.Accord.{Accords, AsideFails, GetFails, IsFound, IsGot, IsTaken, PutFails};
 ghost use Rattle.snep_core.specs.Calling.{is_memory};
+ghost use Rattle.snep_core.specs.declared.fault.SnepFault.{SnepFault};
 ghost use Rattle.snep_core.specs.declared.job.Ending.TheVariants.{Done, Sap, Value};
 ghost use Rattle.snep_core.specs.declared.job.Job.TheVariants.{Over};
+ghost use Rattle.snep_core.specs.Slots.{is_staged_at, put_alone};
 ghost use Rattle.snep_core.specs.Talk.{Ends, Finds, Gets, Puts, alone, begins, client_sap};
 ghost use Rattle.link_calls.specs.Asking.{IsShort, asking_of};
 ghost use Rattle.link_calls.specs.Called.{Called, came_to};
@@ -19,7 +21,7 @@ use llcp_link::{Counted, Counts};
 use nfc_base::Items;
 use snep_core::{Client, Ending, Refusal, Server, SnepFault};
 
-/// Puts a message of at most 65,536 bytes.
+/// Puts a message of at most 65,536 bytes, where none waits on the client's first slot.
 pub fn put_on<L: PeerListener>(
     field: &mut Field<L>,
     initiator: &mut Initiator,
@@ -30,6 +32,7 @@ pub fn put_on<L: PeerListener>(
 ) -> Result<(), SnepFault>
     requires open_ { IsOpen L.Listener L.target field.old initiator.old }
     requires going { client.old.spent ≡ false }
+    requires free { is_staged_at client.old.slots 0 ≡ false }
     requires message { length message.now ≤ 65536 }
     ensures ok { OnOk result (IsMade L.Listener L.target counts (begins client.old.llc (Puts message.now))
         field.old initiator.old far.old field.new initiator.new far.new (Ends (alone (Over Done)) client.new.llc)) }
@@ -41,6 +44,8 @@ pub fn put_on<L: PeerListener>(
         → OnOk result (IsTaken client_sap message.now far.old.end client.new.llc far.new.end) }
     ensures fails { Accords client.old.llc far.old.end
         → IfErr result (λ e. PutFails client_sap message.now far.old.end e client.new.llc far.new.end) }
+    ensures slots { (client.new.slots ≡ put_alone result message.now client.old.slots)
+        ⊎ ((result ≡ Err SnepFault.Memory) × (client.new.slots ≡ client.old.slots)) }
 {
     let mut pair = DepPair::on(field, initiator);
     client.put(&mut pair, far, counts, message)
@@ -69,6 +74,7 @@ pub fn get_on<L: PeerListener>(
         → IfOk result (λ value. IsGot client_sap acceptable key.now value.items far.old.end client.new.llc far.new.end) }
     ensures fails { Accords client.old.llc far.old.end
         → IfErr result (λ e. GetFails client_sap acceptable key.now far.old.end e client.new.llc far.new.end) }
+    ensures slots { client.new.slots ≡ client.old.slots }
 {
     let mut pair = DepPair::on(field, initiator);
     client.get(&mut pair, far, counts, acceptable, key)
@@ -95,6 +101,7 @@ pub fn lookup_on<L: PeerListener>(
     ensures found { Accords client.old.llc far.old.end
         → IfOk result (λ sap. IsFound name.now far.old.end sap client.new.llc far.new.end) }
     ensures fails { Accords client.old.llc far.old.end → IfErr result (λ e. AsideFails far.old.end e far.new.end) }
+    ensures slots { client.new.slots ≡ client.old.slots }
 {
     let mut pair = DepPair::on(field, initiator);
     client.lookup(&mut pair, far, counts, name)
@@ -121,7 +128,8 @@ fn refused_or_failed(fault: SnepFault) -> Result<Ending, SnepFault>
     }
 }
 
-/// Asks for what a request says. Behind a closing the link is over; a refusal is an ending, and no fault.
+/// Asks for what a request says, where no message waits on the client's first slot. Behind a closing the link is over; a refusal is
+/// an ending, and no fault.
 pub fn call_on<L: PeerListener>(
     field: &mut Field<L>,
     initiator: &mut Initiator,
@@ -132,11 +140,13 @@ pub fn call_on<L: PeerListener>(
 ) -> Result<Ending, SnepFault>
     requires open_ { IsOpen L.Listener L.target field.old initiator.old }
     requires going { client.old.spent ≡ false }
+    requires free { is_staged_at client.old.slots 0 ≡ false }
     requires short { IsShort (asking_of request.now) }
     ensures called { Called L.Listener L.target counts (asking_of request.now) client.old.llc
         (record { air = field.old; initiator = initiator.old; far = far.old }) result
         client.new.llc (record { air = field.new; initiator = initiator.new; far = far.new }) }
     ensures going { OnOk result (client.new.spent ≡ false) }
+    ensures free { OnOk result (is_staged_at client.new.slots 0 ≡ false) }
 {
     match *request {
         LinkRequest::Put(message) => match put_on(field, initiator, client, far, counts, message) {

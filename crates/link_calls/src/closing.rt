@@ -48,6 +48,7 @@ pub fn close_and_release<L: PeerListener>(
         → OnOk result (IsClosed client_sap far.old.end client.new.llc far.new.end) }
     ensures fails { Accords client.old.llc far.old.end → ((l : L) → L.machine.handed l rls_frame ≡ Untouched)
         → IfErr result (λ e. AsideFails far.old.end e far.new.end) }
+    ensures slots { client.new.slots ≡ client.old.slots }
 {
     let mut pair = DepPair::on(field, initiator);
     match client.close(&mut pair, far, counts) {

@@ -3,6 +3,7 @@
 ghost use Rattle.std.specs.Prelude.{◌≡◌, ◌≤◌, ℕ, List, length, false, IfOk, OnOk};
 ghost use Rattle.dep_link.specs.Activating.{HasTarget};
 ghost use Rattle.link_calls.specs.Calls.{IsOpen};
+ghost use Rattle.snep_core.specs.Slots.{is_staged_at};
 
 use crate::Phone;
 use crate::meeting::{OWN, PHONES, bytes_of, met};
@@ -42,6 +43,7 @@ fn linked(
     requires { (bytes : List ℕ) → HasTarget ⟦<Phone as Listener>⟧ (λ l. l.target) field.old bytes }
     ensures open_ { IfOk result (λ p. IsOpen ⟦<Phone as Listener>⟧ (λ l. l.target) field.new p.0) }
     ensures going { IfOk result (λ p. p.1.spent ≡ false) }
+    ensures free { IfOk result (λ p. is_staged_at p.1.slots 0 ≡ false) }
 {
     let (initiator, general) = activate(field, OWN, far)?;
     let mut llc = Llc::new(alloc, PARAMS, 1, NoService);
@@ -60,8 +62,10 @@ fn looks_up(
 ) -> Result<u8, SnepFault>
     requires open_ { IsOpen ⟦<Phone as Listener>⟧ (λ l. l.target) field.old initiator.old }
     requires going { client.old.spent ≡ false }
+    requires free { is_staged_at client.old.slots 0 ≡ false }
     ensures open_ { OnOk result (IsOpen ⟦<Phone as Listener>⟧ (λ l. l.target) field.new initiator.new) }
     ensures going { OnOk result (client.new.spent ≡ false) }
+    ensures free { OnOk result (is_staged_at client.new.slots 0 ≡ false) }
 {
     let sap = lookup_on(
         field,
@@ -84,6 +88,7 @@ fn puts(
 ) -> Result<(), SnepFault>
     requires open_ { IsOpen ⟦<Phone as Listener>⟧ (λ l. l.target) field.old initiator.old }
     requires going { client.old.spent ≡ false }
+    requires free { is_staged_at client.old.slots 0 ≡ false }
     requires message { length message.now ≤ 65536 }
     ensures open_ { OnOk result (IsOpen ⟦<Phone as Listener>⟧ (λ l. l.target) field.new initiator.new) }
     ensures going { OnOk result (client.new.spent ≡ false) }
@@ -141,6 +146,7 @@ fn three_calls(
 ) -> Result<(), SnepFault>
     requires open_ { IsOpen ⟦<Phone as Listener>⟧ (λ l. l.target) field.old initiator.old }
     requires going { client.old.spent ≡ false }
+    requires free { is_staged_at client.old.slots 0 ≡ false }
 {
     assert_eq!(rt; looks_up(alloc, field, initiator, client, far)?, 4);
     puts(

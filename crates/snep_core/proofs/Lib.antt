@@ -50,6 +50,7 @@ pub mod AnswerPhases
 pub mod RequestEnds
 pub mod PutPhases
 pub mod PutEnds
+pub mod PutAlone
 pub mod ValuePhases
 pub mod GetPhases
 pub mod GetEnds

@@ -1,10 +1,12 @@
 -- The slots of a client: what was staged on each on its link, and how it ended (when a message is staged, and when it is put,
 -- is this project's own).
-use Rattle.std.specs.Prelude.{◌≡◌, ◌≤◌, ℕ, ◌+◌, ◌==◌, ◌||◌, Bool, true, false, List, [], ◌∷◌, length, map, replicate, set, get_or, Option, Some, None, if◌then◌else◌}
+use Rattle.std.specs.Prelude.{◌≡◌, ◌≤◌, ℕ, ◌+◌, ◌==◌, ◌||◌, Bool, true, false, List, [], ◌∷◌, length, map, replicate, set, get_or, Option, Some, None, Result, Ok, Err, if◌then◌else◌}
 pub use Rattle.snep_core.specs.declared.slot.Slot.{Slot}
 pub use Rattle.snep_core.specs.declared.slot.Slot.TheVariants.{NoMessage, Staged, Success, Rejected}
 pub use Rattle.snep_core.specs.declared.slot.Outcome.{Outcome}
 use Rattle.snep_core.specs.declared.slot.Outcome.TheVariants as outcomes
+use Rattle.snep_core.specs.declared.fault.SnepFault.{SnepFault}
+use Rattle.snep_core.specs.declared.fault.SnepFault.TheVariants as faults
 use Rattle.snep_core.specs.Jobs.{Job, Over, Done, Refused}
 use Rattle.snep_core.specs.Talk.{OnSap, Puts, TaskOn, client_sap}
 
@@ -113,3 +115,20 @@ dropped_one s = s
 
 abbrev pub dropped : List Slot → List Slot
 dropped slots = map dropped_one slots
+
+-- A slot whose message was put alone, by how the call ended: the message was accepted; or rejected; a far end that is given up leaves
+-- none; else it waits still.
+abbrev pub put_left : Result Unit SnepFault → Slot → Slot
+put_left (Ok u) s = Success
+put_left (Err faults.Reject) s = Rejected
+put_left (Err faults.NotFound) s = Rejected
+put_left (Err faults.Excess) s = Rejected
+put_left (Err faults.NotImplemented) s = Rejected
+put_left (Err (faults.LinkEnded c)) s = s
+put_left (Err faults.Memory) s = s
+put_left (Err faults.BadPeer) s = NoMessage
+put_left (Err faults.SlotBusy) s = s
+
+-- the slots, once a message was put alone from the first
+abbrev pub put_alone : Result Unit SnepFault → List ℕ → List Slot → List Slot
+put_alone ended m slots = set slots 0 (put_left ended (Staged m))

@@ -1,11 +1,11 @@
 //! A client of a SNEP server, over whatever carries payloads.
 
-ghost use Rattle.std.specs.Prelude.{◌≡◌, ◌<◌, ◌≤◌, [], length, true, false, IfOk, IfErr, OnOk};
+ghost use Rattle.std.specs.Prelude.{◌≡◌, ◌<◌, ◌≤◌, ◌⊎◌, ◌↔◌, [], length, true, false, Err, IfOk, IfErr, OnOk};
 ghost use Rattle.llcp_link.specs.Asking.{disconnected_by, is_open_by, looked_up};
 ghost use Rattle.snep_core.specs.Accord.{Accords, AsideFails, AtPeers, GetFails, IsBegun, IsClosed, IsFound, IsGot, IsTaken, PeerState, PutFails};
 ghost use Rattle.snep_core.specs.Calling.{FailsBy, RequestFails, Talks, is_memory, refused_by};
 ghost use Rattle.snep_core.specs.Jobs.{Done, Over, Refused, Sap, Value};
-ghost use Rattle.snep_core.specs.Slots.{fresh_slots};
+ghost use Rattle.snep_core.specs.Slots.{fresh_slots, is_staged_at, put_alone};
 ghost use Rattle.snep_core.specs.Talk.{Ends, Finds, Gets, Leaves, Puts, alone, begins, begins_from, begun, client_sap, connected, gave_between as gave, is_waiting as awaits, one_on, own_of, sap_of_slot, stands_of};
 ghost use Rattle.snep_core.specs.Waning.{Getting, IsOf, aim_by};
 ghost use Rattle.snep_core.specs.declared.fault.SnepFault.{SnepFault};
@@ -20,7 +20,7 @@ use crate::silent::NoService;
 use crate::slot::Slots;
 use bytes::Bytes;
 use llcp_link::{Counts, Llc, LlcFault, Standing};
-use nfc_base::{Answerer, Carrier};
+use nfc_base::{Answerer, Carrier, Items};
 use std::alloc::Global;
 use std::marker::Model;
 
@@ -213,6 +213,43 @@ impl ClientEnd {
             Ok(ending) => Ok(ending),
         }
     }
+
+    /// Puts a message of at most 65,536 bytes on the connection from the first SAP.
+    fn put<C: Carrier, A: Answerer>(
+        &mut self,
+        carrier: &mut C,
+        far: &mut A,
+        counts: Counts,
+        message: &[u8],
+    ) -> Result<(), SnepFault>
+        requires ready { C.ready carrier.old }
+        requires going { self.old.spent ≡ false }
+        requires message { length message.now ≤ 65536 }
+        ensures ok { OnOk result (Talks C.seen C.swaps A.steps A.stops counts (begins self.old.llc (Puts message.now))
+            carrier.old far.old (Ends (alone (Over Done)) self.new.llc) carrier.new far.new) }
+        ensures going { OnOk result (self.new.spent ≡ false) }
+        ensures err { IfErr result (λ e. RequestFails C.seen C.swaps A.steps A.stops client_sap counts
+            (begins self.old.llc (Puts message.now)) carrier.old far.old e self.new.llc carrier.new far.new) }
+        // Over a far end that serves as this project's server does, and with which the client accords:
+        ensures taken { AtPeers A.steps A.stops self.old.llc far.old (λ view.
+            OnOk result (IsTaken client_sap message.now (view far.old) self.new.llc (view far.new))) }
+        ensures fails { AtPeers A.steps A.stops self.old.llc far.old (λ view.
+            IfErr result (λ e. PutFails client_sap message.now (view far.old) e self.new.llc (view far.new))) }
+        ensures spent { IfErr result (λ e. self.new.spent ≡ is_memory e) }
+        ensures ready { C.ready carrier.new }
+        ensures same { C.lenders carrier.new ≡ C.lenders carrier.old }
+    {
+        let request = match write_request(self.alloc, PUT, &[], message) {
+            Err(_) => return Err(self.spend()),
+            Ok(request) => request,
+        };
+        match self.ask(carrier, far, counts, CLIENT_SAP, None, request) {
+            Err(fault) => Err(fault),
+            Ok(Ending::Done) => Ok(()),
+            Ok(Ending::Refused(refusal)) => Err(refusal.fault()),
+            Ok(Ending::Value(_) | Ending::Sap(_)) => unreachable!(),
+        }
+    }
 }
 
 impl Client {
@@ -232,7 +269,7 @@ impl Client {
         }
     }
 
-    /// Puts a message of at most 65,536 bytes.
+    /// Puts a message of at most 65,536 bytes: it is staged on slot 0 and put alone, and what waits on other slots waits still.
     pub fn put<C: Carrier, A: Answerer>(
         &mut self,
         carrier: &mut C,
@@ -245,16 +282,22 @@ impl Client {
         ensures ok { OnOk result (Talks C.seen C.swaps A.steps A.stops counts (begins self.old.llc (Puts message.now))
             carrier.old far.old (Ends (alone (Over Done)) self.new.llc) carrier.new far.new) }
         ensures going { OnOk result ((self.old.spent ≡ false) × (self.new.spent ≡ false)) }
-        ensures err { self.old.spent ≡ false → IfErr result (λ e. RequestFails C.seen C.swaps A.steps A.stops client_sap counts
+        ensures busy { self.old.spent ≡ false → (result ≡ Err SnepFault.SlotBusy) ↔ (is_staged_at self.old.slots 0 ≡ true) }
+        ensures err { self.old.spent ≡ false → is_staged_at self.old.slots 0 ≡ false
+            → IfErr result (λ e. RequestFails C.seen C.swaps A.steps A.stops client_sap counts
             (begins self.old.llc (Puts message.now)) carrier.old far.old e self.new.llc carrier.new far.new) }
         // Over a far end that serves as this project's server does, and with which the client accords:
         ensures taken { AtPeers A.steps A.stops self.old.llc far.old (λ view.
             OnOk result (IsTaken client_sap message.now (view far.old) self.new.llc (view far.new))) }
-        ensures fails { AtPeers A.steps A.stops self.old.llc far.old (λ view.
+        ensures fails { is_staged_at self.old.slots 0 ≡ false → AtPeers A.steps A.stops self.old.llc far.old (λ view.
             IfErr result (λ e. PutFails client_sap message.now (view far.old) e self.new.llc (view far.new))) }
         ensures spent { IfErr result (λ e. self.new.spent ≡ is_memory e) }
-        ensures slots { self.new.slots ≡ self.old.slots }
-        ensures stays { self.old.spent ≡ true
+        // The first slot tells how it ended, unless memory was wanting as the message was staged:
+        ensures slots { self.old.spent ≡ false → is_staged_at self.old.slots 0 ≡ false
+            → (self.new.slots ≡ put_alone result message.now self.old.slots)
+            ⊎ ((result ≡ Err SnepFault.Memory) × (self.new.slots ≡ self.old.slots)
+            × (carrier.new ≡ carrier.old) × (far.new ≡ far.old)) }
+        ensures stays { (self.old.spent ≡ true) ⊎ (is_staged_at self.old.slots 0 ≡ true)
             → (self.new ≡ self.old) × (carrier.new ≡ carrier.old) × (far.new ≡ far.old) }
         ensures ready { C.ready carrier.new }
         ensures same { C.lenders carrier.new ≡ C.lenders carrier.old }
@@ -262,19 +305,16 @@ impl Client {
         if self.end.spent {
             return Err(SnepFault::Memory);
         }
-        let request = match write_request(self.end.alloc, PUT, &[], message) {
-            Err(_) => return Err(self.end.spend()),
-            Ok(request) => request,
-        };
-        match self
-            .end
-            .ask(carrier, far, counts, CLIENT_SAP, None, request)
-        {
-            Err(fault) => Err(fault),
-            Ok(Ending::Done) => Ok(()),
-            Ok(Ending::Refused(refusal)) => Err(refusal.fault()),
-            Ok(Ending::Value(_) | Ending::Sap(_)) => unreachable!(),
+        if self.slots.is_staged(0) {
+            return Err(SnepFault::SlotBusy);
         }
+        let Ok(staged) = Items::from_bytes(self.end.alloc, message) else {
+            return Err(self.end.spend());
+        };
+        self.slots.stage(0, staged);
+        let ended = self.end.put(carrier, far, counts, message);
+        self.slots.end_put(0, ended);
+        ended
     }
 
     /// The value of a key of at most 65,536 bytes, where it has at most so many bytes, on the connection of a slot.

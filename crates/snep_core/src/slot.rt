@@ -1,7 +1,7 @@
 //! The slots of a client: what was staged on each, and how it ended.
 
-ghost use Rattle.std.specs.Prelude.{◌≡◌, ◌<◌, ◌≤◌, Some, length};
-ghost use Rattle.snep_core.specs.Slots.{AllFit, dropped, fresh_slots, has_staged, is_staged_at, job_from, marked_as, most_staged, noted, outcome_of, slot_at, slot_count, some_staged, staged_on, told_by};
+ghost use Rattle.std.specs.Prelude.{◌≡◌, ◌<◌, ◌≤◌, Some, length, set};
+ghost use Rattle.snep_core.specs.Slots.{AllFit, dropped, fresh_slots, has_staged, is_staged_at, job_from, marked_as, most_staged, noted, outcome_of, put_left, slot_at, slot_count, some_staged, staged_on, told_by};
 ghost use Rattle.snep_core.specs.Calling.{slots_left};
 
 use crate::client::CLIENT_SAP;
@@ -70,6 +70,23 @@ impl Slot {
         ensures { result ≡ has_staged self.now }
     {
         matches!(self, Slot::Staged(_))
+    }
+
+    /// Its message was put alone, which ended so: it was accepted, or rejected, or its far end was given up; else it waits still.
+    fn end_put(&mut self, ended: Result<(), SnepFault>)
+        ensures { self.new ≡ put_left ended self.old }
+    {
+        match ended {
+            Ok(()) => *self = Slot::Success,
+            Err(SnepFault::BadPeer) => *self = Slot::NoMessage,
+            Err(
+                SnepFault::Reject
+                | SnepFault::NotFound
+                | SnepFault::Excess
+                | SnepFault::NotImplemented,
+            ) => *self = Slot::Rejected,
+            Err(SnepFault::LinkEnded(_) | SnepFault::Memory | SnepFault::SlotBusy) => {}
+        }
     }
 
     /// The message that waits is answered so, if it is.
@@ -194,6 +211,14 @@ impl Slots {
         ensures { self.new ≡ staged_on self.old slot message }
     {
         self.all[slot as usize] = Slot::Staged(message);
+    }
+
+    /// The message of a slot was put alone, which ended so.
+    pub(crate) fn end_put(&mut self, slot: u8, ended: Result<(), SnepFault>)
+        requires { slot < 8 }
+        ensures { self.new ≡ set self.old slot (put_left ended (slot_at self.old slot)) }
+    {
+        self.all[slot as usize].end_put(ended);
     }
 
     /// What a slot tells.

@@ -21,6 +21,11 @@ const WIDE: [u8; 14] = [
     0x46, 0x66, 0x6D, 0x01, 0x01, 0x13, 0x02, 0x02, 0x07, 0x7F, 0x03, 0x02, 0x00, 0x13,
 ];
 
+/// Those of an end whose link takes as many bytes as one can, 2,175.
+const WIDEST: [u8; 14] = [
+    0x46, 0x66, 0x6D, 0x01, 0x01, 0x13, 0x02, 0x02, 0x07, 0xFF, 0x03, 0x02, 0x00, 0x13,
+];
+
 const PARAMS: LinkParams = LinkParams {
     version: 0x13,
     miu: 128,
@@ -173,6 +178,21 @@ pub(crate) fn roomy_ends(rt: &impl Abort, alloc: Global) -> Result<(Client, Llc<
     Ok((Client::new(alloc, near), far))
 }
 
+/// Both ends with the largest MIU and window, and a server that takes the longest messages.
+pub(crate) fn widest_ends(rt: &impl Abort, alloc: Global) -> Result<(Client, Llc<Server>), Fail> {
+    let params = LinkParams {
+        version: 0x13,
+        miu: 2175,
+        wks: 0x13,
+    };
+    let mut near = Llc::new(alloc, params, 15, NoService);
+    near.restart(&WIDEST);
+    let mut far = Llc::new(alloc, params, 15, Server::new(alloc, 65536));
+    assert_eq!(rt; far.listen("urn:nfc:sn:snep", 4), Ok(()));
+    far.restart(&WIDEST);
+    Ok((Client::new(alloc, near), far))
+}
+
 /// A client at the begin of a link.
 pub(crate) fn client(alloc: Global) -> Client {
     let mut llc = Llc::new(alloc, PARAMS, 1, NoService);
@@ -284,7 +304,7 @@ fn got(
     client.get(link, far, Counts::most(alloc), most, key)
 }
 
-fn numbered(alloc: Global, numbers: &[u32]) -> Result<Counts, AllocError> {
+pub(crate) fn numbered(alloc: Global, numbers: &[u32]) -> Result<Counts, AllocError> {
     Ok(Counts::new(Vec::from_slice(alloc, numbers)?))
 }
 

@@ -20,4 +20,6 @@ mod run_tests;
 #[cfg(test)]
 mod server_tests;
 #[cfg(test)]
+mod slot_tests;
+#[cfg(test)]
 mod stranger_tests;

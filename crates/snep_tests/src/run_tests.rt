@@ -83,7 +83,7 @@ fn a_slot_takes_a_message_once_its_last_is_answered(rt: HostRuntime) -> Result<(
         // what waits stays as other calls are made
         (Step::Put(&[3]), "Ok(())"),
         (Step::Outcome(3), "Staged"),
-        (Step::Outcome(0), "NoMessage"),
+        (Step::Outcome(0), "Success"),
         (Step::Run(&[]), "Ok(())"),
         (Step::Stage(3, &[4]), "Ok(())"),
         (Step::Outcome(3), "Staged"),

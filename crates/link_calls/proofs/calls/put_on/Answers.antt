@@ -34,10 +34,10 @@ returns-clause-err g c =
     given_back (λ a i. IfErr c.put.result (λ e. RequestFails g.L.Listener g.L.PeerListener.target c.args.counts from c.args.field.now c.args.initiator.now c.args.far.now a i c.put.new.far c.put.new.self.llc e))
     c.put.new.carrier.field.now _ c.put.new.carrier.initiator.now _ (search rules) (search rules)
     (IfErr-weaker c.put.result _ _ (λ e t. request_failed g.L.Listener g.L.PeerListener.target (seen_pair {L = g.row.L.Denot}) (laws g) c.on-pair.result c.put.new.carrier c.args.far.now c.put.new.far c.args.field.now c.args.initiator.now
-    c.on-pair.ensures.fresh c.requires.open_ c.put.ensures.ready c.args.counts from e c.put.new.self.llc t) (c.put.ensures.err c.requires.going))
+    c.on-pair.ensures.fresh c.requires.open_ c.put.ensures.ready c.args.counts from e c.put.new.self.llc t) (c.put.ensures.err c.requires.going c.requires.free))
 
 pub returns-clause-taken : goal.returns-clause-taken
 returns-clause-taken g c = λ accords. c.put.ensures.taken (λ p. p.end) counted_is_peer accords
 
 pub returns-clause-fails : goal.returns-clause-fails
-returns-clause-fails g c = λ accords. c.put.ensures.fails (λ p. p.end) counted_is_peer accords
+returns-clause-fails g c = λ accords. c.put.ensures.fails c.requires.free (λ p. p.end) counted_is_peer accords
