@@ -111,7 +111,8 @@ typedef struct {
 
 /* The far end of a link of LLCP with a SNEP server at SAP 4: what it is behind the payloads of a log, in the order in which they came, on a link
  * that began with these general bytes of the other end. `offers` are what it gives for get, as zev_offer_add writes them; there may be none. The log
- * begins with no bytes at each link, and each payload that NFC-DEP hands up is added before the reply is asked for.
+ * begins with no bytes at each link, and each payload that NFC-DEP hands up is added before the reply is asked for. Where zev_general_read has a fault
+ * of the general bytes no link begins, and each reply is empty.
  *
  * Tells the reply to the last payload, to be sent: ZEV_DONE: it stands in `out`, 2,178 bytes at most. */
 int32_t zev_peer_reply(const zev_peer *peer, const uint8_t *offers, size_t offers_length, const uint8_t *general, size_t general_length,
