@@ -123,24 +123,21 @@ fn begin(
 }
 
 /// Lets an end answer each payload of a log.
-fn answer_all(alloc: Global, end: Llc<Server>, log: &[u8]) -> Result<Replayed, AllocError>
+fn answer_all(alloc: Global, mut end: Llc<Server>, log: &[u8]) -> Result<Replayed, AllocError>
     requires { IsPayloadLog log.now }
     ensures { IfOk result (λ r. (payloads : List (List ℕ)) → SpellsPayloads payloads log.now
         → r ≡ answered_all (unasked end) payloads) }
 {
-    let mut replayed = Replayed {
-        end,
-        reply: Vec::new(alloc),
-    };
+    let mut reply = Vec::new(alloc);
     let mut rest = log;
     while !rest.is_empty() {
         let Some((payload, left)) = payload_of(rest) else {
             unreachable!()
         };
-        replayed.end.answer(alloc, payload, &mut replayed.reply)?;
+        end.answer(alloc, payload, &mut reply)?;
         rest = left;
     }
-    Ok(replayed)
+    Ok(Replayed { end, reply })
 }
 
 /// The far end behind the payloads of a log.

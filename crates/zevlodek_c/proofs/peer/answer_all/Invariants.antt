@@ -5,7 +5,7 @@ use Rattle.zevlodek_c.proofs.peer.answer_all.Given as goal
 abbrev pub invariant-loop-rest : goal.invariant-loop-rest
 invariant-loop-rest l = record {
   goes : (ps : List (List ℕ)) → SpellsPayloads ps l.initial.rest → (more : List (List ℕ)) × SpellsPayloads more l.rest
-      × (answered_all (unasked l.fn.end) ps ≡ answered_all (record { end = l.replayed-inside.end; reply = l.replayed-inside.reply.items }) more);
+      × (answered_all (unasked l.fn.end) ps ≡ answered_all (record { end = l.end; reply = l.reply.items }) more);
 }
 
 abbrev pub decreases-loop-rest : goal.decreases-loop-rest
