@@ -15,7 +15,7 @@ from typing import Callable, Generator, Iterator, Optional
 
 ROOT = Path(__file__).resolve().parent.parent
 PLACES = ("crates/zevlodek_c/out/x86_64-unknown-linux-gnu/c/libzevlodek.so", "c/out/libzevlodek.so")
-DONE, SEND, SILENT, SHORT, REFUSED, TOO_LONG = 0, 1, 2, -3, -108, -113
+DONE, SEND, SILENT, BAD_ARGUMENT, SHORT, REFUSED, TOO_LONG = 0, 1, 2, -2, -3, -108, -113
 FIRST_ROOM = 4096
 MOST_PAYLOAD, MOST_OFFER = 2178, 65535
 
@@ -210,6 +210,14 @@ class Type2Tag:
         return bytes(out[: told.length]), told.bits
 
 
+def made(kind: type[ctypes.Structure], **numbers: int) -> ctypes.Structure:
+    """A struct of these numbers; one that has no room there is a bad argument, and isn't cut."""
+    struct = kind(**numbers)
+    if any(getattr(struct, name) != number for name, number in numbers.items()):
+        raise fault(BAD_ARGUMENT, Told())
+    return struct
+
+
 def filled(call: str, *words) -> tuple[bytes, Told]:
     """What a call puts into `out`, its last words but one, which is made as long as it takes; and the numbers told."""
     room, told = FIRST_ROOM, Told()
@@ -225,7 +233,7 @@ def filled(call: str, *words) -> tuple[bytes, Told]:
 
 def write_general(params: LinkParams) -> bytes:
     """The general bytes of an end."""
-    return filled("zev_general_write", ctypes.byref(General(params.miu, params.services, params.version)))[0]
+    return filled("zev_general_write", ctypes.byref(made(General, miu=params.miu, services=params.services, version=params.version)))[0]
 
 
 def read_general(content: bytes) -> LinkParams:
@@ -249,7 +257,7 @@ class FarEnd:
     that it gives for get."""
 
     def __init__(self, general: bytes, miu: int = 2175, window: int = 15, limit: int = 65536, offers: tuple[tuple[bytes, bytes], ...] = ()):
-        self.sizes, self.general, self.log = Sizes(limit, miu, window), general, b""
+        self.sizes, self.general, self.log = made(Sizes, limit=limit, miu=miu, window=window), general, b""
         self.offers = b"".join(counted(part, MOST_OFFER) for offer in offers for part in offer)
 
     def words(self) -> tuple:

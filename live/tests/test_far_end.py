@@ -8,7 +8,8 @@ import unittest
 from pathlib import Path
 from typing import Iterator, NamedTuple
 
-from tests.test_stored import frame_of, scripts
+from tests.links import Link, Peer, bytes_of, links_of, report_of
+from tests.test_stored import scripts
 from zevlodek import FarEnd, Fault, LinkParams, Received, read_general, write_general
 
 ROOT = Path(__file__).resolve().parent.parent.parent
@@ -45,48 +46,48 @@ class Forged(NamedTuple):
     """A `forge` of a stored script whose payloads all were replied to, with its peer."""
 
     name: str
-    sizes: tuple[int, int, int]
-    offers: tuple[tuple[bytes, bytes], ...]
+    peer: Peer
     payloads: list[bytes]
     replies: list[bytes]
 
 
-class Placed(NamedTuple):
-    """A peer by its sizes, and what it offers."""
-
-    sizes: tuple[int, int, int]
-    offers: list[tuple[bytes, bytes]]
-
-
 def forged(script: Path) -> Iterator[Forged]:
-    answers = {}
-    for line in script.with_name(script.name + ".stdout").read_text(errors="replace").split("\n"):
-        number, _, text = line.partition(" ")
-        if number.isdigit():
-            answers[int(number)] = text.split(" ")
-    peers: dict[str, Placed] = {}
+    report, peers = report_of(script), {}
     for number, line in enumerate(script.read_text(errors="replace").split("\n"), 1):
-        words, answer = line.split(" "), answers.get(number, [""])
+        words, answer = line.split(" "), report.get(number, [""])[-1].split(" ")
         if answer == ["ok"] and words[:2] == ["place", "peer"]:
-            peers[words[2]] = Placed((int(words[4]), int(words[5]), int(words[6])), [])
+            peers[words[2]] = Peer((int(words[4]), int(words[5]), int(words[6])))
         elif answer == ["ok"] and words[0] == "offer":
-            peers[words[1]].offers.append((frame_of(words[2])[0], frame_of(words[3])[0]))
+            peers[words[1]].offers.append((bytes_of(words[2]), bytes_of(words[3])))
         elif words[0] == "forge" and answer[0] == "heard":
             peer = peers[words[1]]
-            parts = ([frame_of(word)[0] for word in told] for told in (words[2:], answer[1:]))
-            yield Forged(f"{script.parent.name}/{script.name} {number}", peer.sizes, tuple(peer.offers), *parts)
+            payloads, replies = ([bytes_of(word) for word in told] for told in (words[2:], answer[1:]))
+            yield Forged(f"{script.parent.name}/{script.name} {number}", Peer(peer.sizes, list(peer.offers)), payloads, replies)
 
 
 class Stored(unittest.TestCase):
+    def check(self, one: Forged | Link) -> FarEnd:
+        general = one.general if isinstance(one, Link) else LEAST
+        end = FarEnd(general, *one.peer.sizes, tuple(one.peer.offers))
+        with self.subTest(one.name):
+            self.assertEqual([end.answer(payload).hex() for payload, _ in zip(one.payloads, one.replies)], [reply.hex() for reply in one.replies])
+        return end
+
     def test_forged_payloads_have_their_replies(self):
-        seen = 0
+        seen = [self.check(one) for script in scripts() for one in forged(script)]
+        self.assertGreater(len(seen), 100)
+
+    def test_payloads_of_clients_have_their_replies(self):
+        """And what was put with success was accepted, in that order."""
+        seen = replies = accepted = 0
         for script in scripts():
-            for one in forged(script):
-                end = FarEnd(LEAST, *one.sizes, one.offers)
-                with self.subTest(one.name):
-                    self.assertEqual([end.answer(payload).hex() for payload in one.payloads], [reply.hex() for reply in one.replies])
-                seen += 1
-        self.assertGreater(seen, 100)
+            for link in links_of(script):
+                end = self.check(link)
+                told = [message for message, answer in link.puts if answer == "success"]
+                with self.subTest(link.name):
+                    self.assertEqual([end.received(index).message for index in range(end.count())][: len(told)], told)
+                seen, replies, accepted = seen + 1, replies + len(link.replies), accepted + len(told)
+        self.assertGreater(min(seen, accepted), 100, (seen, replies, accepted))
 
 
 class Faults(unittest.TestCase):
@@ -101,7 +102,7 @@ class Faults(unittest.TestCase):
             self.assertTrue(str(caught.exception).startswith("the general bytes"))
 
     def test_sizes_that_are_none(self):
-        for sizes in ((127, 1, 1024), (2176, 1, 1024), (128, 0, 1024), (128, 16, 1024), (128, 1, 1023), (128, 1, 65537)):
+        for sizes in ((127, 1, 1024), (2176, 1, 1024), (128, 0, 1024), (128, 16, 1024), (128, 1, 1023), (128, 1, 65537), (65536 + 128, 1, 1024), (128, 257, 1024)):
             with self.subTest(sizes), self.assertRaises(Fault) as caught:
                 FarEnd(LEAST, *sizes).answer(b"\0\0")
             self.assertEqual(caught.exception.number, -2)
