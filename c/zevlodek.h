@@ -28,7 +28,7 @@ enum zev_answer {
 
 enum zev_fault {
     ZEV_BAD_LOG = -1,      /* the bytes of the log are none that zev_log_add wrote, or zev_payload_add */
-    ZEV_BAD_ARGUMENT = -2, /* a number out of its range, or bytes that can't be a tag's memory or frame, or aren't offers */
+    ZEV_BAD_ARGUMENT = -2, /* a number out of its range, or bytes that can't be a tag's memory or frame, or that aren't offers */
     ZEV_SHORT = -3,        /* `out` has fewer bytes than `length` tells: nothing was put there, and nothing was done */
     ZEV_NO_MEMORY = -4,    /* malloc gave none */
     ZEV_ENDS_EARLY = -5,   /* a memory that was read out ends before its container, or before its message */
@@ -58,7 +58,7 @@ enum zev_fault {
 /* What a call tells beside its answer. What isn't spoken of stays as it was. */
 typedef struct {
     size_t length;     /* how many bytes stand in `out`; with ZEV_SHORT, how many it takes; of zev_peer_count, how many messages */
-    uint32_t capacity; /* of a survey, and with ZEV_TOO_LONG: how many bytes a message may have */
+    uint32_t capacity; /* of a survey, of zev_t2_find and zev_t5_find, and with ZEV_TOO_LONG: how many bytes a message may have */
     uint16_t code;     /* with ZEV_REFUSED: the tag's error (Type 5), its status bytes (Type 4), 0 (Type 2); of zev_peer_source, the SAP */
     uint8_t writable;  /* of a message that was read, and of a survey: 1 where writing is free */
     uint8_t bits;      /* of a tag's answer: how many low bits of its last byte are sent, 0 for all */
@@ -82,6 +82,26 @@ int32_t zev_write_next(uint32_t kind, const uint8_t id[8], const uint8_t *messag
 /* Tells the message of a Type 2 tag's memory that was read out, from its first byte on. ZEV_DONE: it stands in `out`, and `writable` tells whether writing
  * is free. A fault of the memory is that of a reading. */
 int32_t zev_t2_message(const uint8_t *memory, size_t memory_length, uint8_t *out, size_t out_length, zev_told *told);
+
+/* The same of a Type 5 tag, whose blocks have `block_size` bytes, 1 to 256. */
+int32_t zev_t5_message(uint32_t block_size, const uint8_t *memory, size_t memory_length, uint8_t *out, size_t out_length, zev_told *told);
+
+/* Tells how long the message of a Type 2 tag is, how long one may be, and whether writing is free, as a survey does, by the tag's whole memory: the
+ * tag ends where its memory does. */
+int32_t zev_t2_find(const uint8_t *memory, size_t memory_length, zev_told *told);
+
+/* The same of a Type 5 tag. */
+int32_t zev_t5_find(uint32_t block_size, const uint8_t *memory, size_t memory_length, zev_told *told);
+
+/* The NDEF file of a Type 4 tag: its identifier and its size, two bytes of which tell how long the message is; how many bytes one command may read
+ * and write; and 1 where writing is free. */
+typedef struct {
+    uint16_t id, size, mle, mlc;
+    uint8_t writable;
+} zev_t4_file;
+
+/* Tells the file that a Type 4 tag's capability container names, by its first 15 bytes. Where there is a fault `file` stays. */
+int32_t zev_t4_container(const uint8_t *container, size_t length, zev_t4_file *file);
 
 /* One step of a Type 2 tag, for who answers as a tag: its memory of 4 to 256 blocks of four bytes, which the step changes; a byte for each block,
  * not 0 where it is locked; and a command, of which `bits` low bits of the last byte came (0: all). ZEV_DONE: its answer stands in `out`, 16 bytes

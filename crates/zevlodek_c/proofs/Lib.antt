@@ -5,3 +5,4 @@ pub mod Whole
 pub mod Chains
 pub mod Chunks
 pub mod Telling
+pub mod NamedAreas

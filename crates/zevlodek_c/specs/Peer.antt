@@ -97,11 +97,11 @@ IsShown shown a out told seen = (seen ≡ shown a out told) ⊎ (seen ≡ answer
 -- What C sees of a far end behind the payloads of a log. Numbers and offers are looked at before the log, and the log
 -- before memory is asked for.
 pub record PeerTells (shown : Answered → List ℕ → Told → Seen) (p : Peer) (offers general log out : List ℕ)
-  (told : Told) (seen : Seen) : Type 0 where
-    pub taken : (os : List Offer) (payloads : List (List ℕ)) → IsPeer p → SpellsOffers os offers → SpellsPayloads payloads log
-        → IsShown shown (answered_all (unasked (begun_end p os general)) payloads) out told seen
-    pub no_log : IsPeerAsked p offers → (IsPayloadLog log → ⊥) → seen ≡ answers bad_log out told
-    pub refused : (IsPeerAsked p offers → ⊥) → seen ≡ answers bad_argument out told
+    (told : Told) (seen : Seen) : Type 0 where
+  pub taken : (os : List Offer) (payloads : List (List ℕ)) → IsPeer p → SpellsOffers os offers → SpellsPayloads payloads log
+      → IsShown shown (answered_all (unasked (begun_end p os general)) payloads) out told seen
+  pub no_log : IsPeerAsked p offers → (IsPayloadLog log → ⊥) → seen ≡ answers bad_log out told
+  pub refused : (IsPeerAsked p offers → ⊥) → seen ≡ answers bad_argument out told
 
 -- the reply to the last payload
 abbrev pub reply_shown : Answered → List ℕ → Told → Seen
