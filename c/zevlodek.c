@@ -24,6 +24,10 @@ const char *zev_fault_text(int32_t fault)
     case ZEV_TOO_LONG: return "the message is longer than its place";
     case ZEV_SHORT_MLC: return "one update brings fewer than two bytes";
     case ZEV_PROTOCOL: return "the tag sent a frame that is no allowed answer";
+    case ZEV_NO_MAGIC: return "the general bytes are not of LLCP";
+    case ZEV_NO_VERSION: return "the general bytes have no version";
+    case ZEV_OTHER_MAJOR: return "the general bytes have a version of another major number";
+    case ZEV_MALFORMED: return "the general bytes have a malformed parameter";
     default: return fault < 0 ? "another fault" : "no fault";
     }
 }

@@ -1,7 +1,8 @@
-/* Readings and writings of NFC Forum tags (Types 2, 4 and 5), a command at a time, by proved code.
+/* Readings and writings of NFC Forum tags (Types 2, 4 and 5), a command at a time, and the far end of a link of LLCP with a SNEP server, a payload
+ * at a time, by proved code.
  *
- * The library sends nothing: you have the radio. You keep what passed between your reader and the tag in a log, in memory of your own, and hand
- * it in each time; what comes back is the next command, or the end. No call keeps anything, so any thread may call at any time, and a call may be
+ * The library sends nothing: you have the radio. You keep what passed between your reader and the tag, or what came on a link, in a log, in memory of
+ * your own, and hand it in each time; what comes back is the next command, the reply, or the end. No call keeps anything, so any thread may call at any time, and a call may be
  * made again. docs/c-library.md says what is proved of each.
  *
  * No pointer may be null, not even one to no bytes; `out` overlaps nothing else that is handed in. Structs begin as zeros.
@@ -26,8 +27,8 @@ enum zev_answer {
 };
 
 enum zev_fault {
-    ZEV_BAD_LOG = -1,      /* the bytes of the log are none that zev_log_add wrote */
-    ZEV_BAD_ARGUMENT = -2, /* a kind that isn't 2, 4 or 5, or bytes that can't be a tag's memory or frame */
+    ZEV_BAD_LOG = -1,      /* the bytes of the log are none that zev_log_add wrote, or zev_payload_add */
+    ZEV_BAD_ARGUMENT = -2, /* a number out of its range, or bytes that can't be a tag's memory or frame, or that aren't offers */
     ZEV_SHORT = -3,        /* `out` has fewer bytes than `length` tells: nothing was put there, and nothing was done */
     ZEV_NO_MEMORY = -4,    /* malloc gave none */
     ZEV_ENDS_EARLY = -5,   /* a memory that was read out ends before its container, or before its message */
@@ -45,14 +46,20 @@ enum zev_fault {
     ZEV_READ_ONLY = -112,      /* writing isn't free */
     ZEV_TOO_LONG = -113,       /* the message is longer than `capacity` */
     ZEV_SHORT_MLC = -114,      /* a Type 4 tag takes fewer than two bytes a command */
-    ZEV_PROTOCOL = -115        /* an answer that no tag gives to its command, or a log of other commands than those that were to be sent */
+    ZEV_PROTOCOL = -115,       /* an answer that no tag gives to its command, or a log of other commands than those that were to be sent */
+
+    /* of the general bytes of a link */
+    ZEV_NO_MAGIC = -201,    /* they are not of LLCP */
+    ZEV_NO_VERSION = -202,  /* they have no version */
+    ZEV_OTHER_MAJOR = -203, /* their version has another major number */
+    ZEV_MALFORMED = -204    /* a parameter isn't whole */
 };
 
 /* What a call tells beside its answer. What isn't spoken of stays as it was. */
 typedef struct {
-    size_t length;     /* how many bytes stand in `out`; with ZEV_SHORT, how many it takes */
-    uint32_t capacity; /* of a survey, and with ZEV_TOO_LONG: how many bytes a message may have */
-    uint16_t code;     /* with ZEV_REFUSED: the tag's error (Type 5), its status bytes (Type 4), 0 (Type 2) */
+    size_t length;     /* how many bytes stand in `out`; with ZEV_SHORT, how many it takes; of zev_peer_count, how many messages */
+    uint32_t capacity; /* of a survey, of zev_t2_find and zev_t5_find, and with ZEV_TOO_LONG: how many bytes a message may have */
+    uint16_t code;     /* with ZEV_REFUSED: the tag's error (Type 5), its status bytes (Type 4), 0 (Type 2); of zev_peer_source, the SAP */
     uint8_t writable;  /* of a message that was read, and of a survey: 1 where writing is free */
     uint8_t bits;      /* of a tag's answer: how many low bits of its last byte are sent, 0 for all */
 } zev_told;
@@ -76,11 +83,72 @@ int32_t zev_write_next(uint32_t kind, const uint8_t id[8], const uint8_t *messag
  * is free. A fault of the memory is that of a reading. */
 int32_t zev_t2_message(const uint8_t *memory, size_t memory_length, uint8_t *out, size_t out_length, zev_told *told);
 
+/* The same of a Type 5 tag, whose blocks have `block_size` bytes, 1 to 256. */
+int32_t zev_t5_message(uint32_t block_size, const uint8_t *memory, size_t memory_length, uint8_t *out, size_t out_length, zev_told *told);
+
+/* Tells how long the message of a Type 2 tag is, how long one may be, and whether writing is free, as a survey does, by the tag's whole memory: the
+ * tag ends where its memory does. */
+int32_t zev_t2_find(const uint8_t *memory, size_t memory_length, zev_told *told);
+
+/* The same of a Type 5 tag. */
+int32_t zev_t5_find(uint32_t block_size, const uint8_t *memory, size_t memory_length, zev_told *told);
+
+/* The NDEF file of a Type 4 tag: its identifier and its size, two bytes of which tell how long the message is; how many bytes one command may read
+ * and write; and 1 where writing is free. */
+typedef struct {
+    uint16_t id, size, mle, mlc;
+    uint8_t writable;
+} zev_t4_file;
+
+/* Tells the file that a Type 4 tag's capability container names, by its first 15 bytes. Where there is a fault `file` stays. */
+int32_t zev_t4_container(const uint8_t *container, size_t length, zev_t4_file *file);
+
 /* One step of a Type 2 tag, for who answers as a tag: its memory of 4 to 256 blocks of four bytes, which the step changes; a byte for each block,
  * not 0 where it is locked; and a command, of which `bits` low bits of the last byte came (0: all). ZEV_DONE: its answer stands in `out`, 16 bytes
  * or four bits. ZEV_SILENT: it gives none. */
 int32_t zev_t2_tag(uint8_t *memory, size_t memory_length, const uint8_t *locks, size_t locks_length, const uint8_t *command,
                    size_t command_length, uint8_t bits, uint8_t *out, size_t out_length, zev_told *told);
+
+/* What an end of a link says of itself in its general bytes. */
+typedef struct {
+    uint16_t miu;      /* the longest information of a PDU that it takes: 128 to 2,175 bytes */
+    uint16_t services; /* its well-known services, as bits: 13h for link management, discovery and SNEP */
+    uint8_t version;   /* its version of LLCP, the major number in the high four bits: 13h of LLCP 1.3 */
+} zev_general;
+
+/* Tells the general bytes of an end, for ATR_REQ or ATR_RES. ZEV_DONE: they stand in `out`, 47 bytes at most. */
+int32_t zev_general_write(const zev_general *general, uint8_t *out, size_t out_length, zev_told *told);
+
+/* Tells what general bytes say. ZEV_DONE: `general` has it, with a MIU of 128 and no services where they don't say more. Else it stays. */
+int32_t zev_general_read(const uint8_t *bytes, size_t length, zev_general *general);
+
+/* The sizes of a far end. */
+typedef struct {
+    uint32_t limit; /* the longest message that its server takes: 1,024 to 65,536 bytes */
+    uint16_t miu;   /* the longest information of a PDU that it takes, as its general bytes say: 128 to 2,175 bytes */
+    uint8_t window; /* how many PDUs of a connection it takes before it acknowledges one: 1 to 15 */
+} zev_peer;
+
+/* The far end of a link of LLCP with a SNEP server at SAP 4: what it is behind the payloads of a log, in the order in which they came, on a link
+ * that began with these general bytes of the other end. `offers` are what it gives for get, as zev_offer_add writes them; there may be none. The log
+ * begins with no bytes at each link, and each payload that NFC-DEP hands up is added before the reply is asked for. Where zev_general_read has a fault
+ * of the general bytes no link begins, and each reply is empty.
+ *
+ * Tells the reply to the last payload, to be sent: ZEV_DONE: it stands in `out`, 2,178 bytes at most. */
+int32_t zev_peer_reply(const zev_peer *peer, const uint8_t *offers, size_t offers_length, const uint8_t *general, size_t general_length,
+                       const uint8_t *log, size_t log_length, uint8_t *out, size_t out_length, zev_told *told);
+
+/* Tells in `length` how many messages the server accepted on the link. */
+int32_t zev_peer_count(const zev_peer *peer, const uint8_t *offers, size_t offers_length, const uint8_t *general, size_t general_length,
+                       const uint8_t *log, size_t log_length, zev_told *told);
+
+/* Tells one of these messages, the first by `index` 0. ZEV_DONE: it stands in `out`. ZEV_BAD_ARGUMENT: there are not so many. */
+int32_t zev_peer_message(const zev_peer *peer, const uint8_t *offers, size_t offers_length, const uint8_t *general, size_t general_length,
+                         const uint8_t *log, size_t log_length, size_t index, uint8_t *out, size_t out_length, zev_told *told);
+
+/* Tells in `code` from which SAP of the other end this message came. */
+int32_t zev_peer_source(const zev_peer *peer, const uint8_t *offers, size_t offers_length, const uint8_t *general, size_t general_length,
+                        const uint8_t *log, size_t log_length, size_t index, zev_told *told);
 
 /* What a fault says, in English. */
 const char *zev_fault_text(int32_t fault);
@@ -108,6 +176,36 @@ static inline bool zev_log_add(zev_log *log, const uint8_t *command, size_t comm
     *at++ = (uint8_t)(answer_length / 256);
     memcpy(at, answer, answer_length);
     log->length += command_length + answer_length + 5;
+    return true;
+}
+
+/* Adds bytes behind their length. */
+static inline void zev_put_counted(zev_log *log, const uint8_t *bytes, size_t length)
+{
+    log->bytes[log->length] = (uint8_t)(length % 256);
+    log->bytes[log->length + 1] = (uint8_t)(length / 256);
+    memcpy(log->bytes + log->length + 2, bytes, length);
+    log->length += length + 2;
+}
+
+/* Adds a payload that came on a link, of 2,178 bytes at most. False where it is longer, or the log has no room for it. */
+static inline bool zev_payload_add(zev_log *log, const uint8_t *payload, size_t length)
+{
+    if (length > 2178 || log->room - log->length < length + 2) {
+        return false;
+    }
+    zev_put_counted(log, payload, length);
+    return true;
+}
+
+/* Adds a key and its value to offers, each of 65,535 bytes at most; of one key the last value counts. False where there is no room. */
+static inline bool zev_offer_add(zev_log *offers, const uint8_t *key, size_t key_length, const uint8_t *value, size_t value_length)
+{
+    if (key_length > 65535 || value_length > 65535 || offers->room - offers->length < key_length + value_length + 4) {
+        return false;
+    }
+    zev_put_counted(offers, key, key_length);
+    zev_put_counted(offers, value, value_length);
     return true;
 }
 

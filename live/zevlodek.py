@@ -1,4 +1,4 @@
-"""The C library of this repository, from Python: readings, surveys and writings of tags as generators, and a Type 2 tag.
+"""The C library of this repository, from Python: readings, surveys and writings of tags as generators, a Type 2 tag, and the far end of a link.
 
 A job yields a command (bytes) and is sent the tag's answer: a pair of its bytes and of how many low bits of the last byte came (0: all). It
 returns what it came to, or raises `Fault`. Where no answer comes the job is left as it is: `drive` raises `Gone` then, and sends nothing twice.
@@ -15,8 +15,9 @@ from typing import Callable, Generator, Iterator, Optional
 
 ROOT = Path(__file__).resolve().parent.parent
 PLACES = ("crates/zevlodek_c/out/x86_64-unknown-linux-gnu/c/libzevlodek.so", "c/out/libzevlodek.so")
-DONE, SEND, SILENT, SHORT, REFUSED, TOO_LONG = 0, 1, 2, -3, -108, -113
+DONE, SEND, SILENT, BAD_ARGUMENT, SHORT, REFUSED, TOO_LONG = 0, 1, 2, -2, -3, -108, -113
 FIRST_ROOM = 4096
+MOST_PAYLOAD, MOST_OFFER = 2178, 65535
 
 Answer = tuple[bytes, int]
 Transceive = Callable[[bytes], Optional[Answer]]
@@ -32,6 +33,18 @@ class Told(ctypes.Structure):
         ("writable", ctypes.c_uint8),
         ("bits", ctypes.c_uint8),
     ]
+
+
+class General(ctypes.Structure):
+    """`zev_general`: what an end of a link says of itself."""
+
+    _fields_ = [("miu", ctypes.c_uint16), ("services", ctypes.c_uint16), ("version", ctypes.c_uint8)]
+
+
+class Sizes(ctypes.Structure):
+    """`zev_peer`: the sizes of a far end."""
+
+    _fields_ = [("limit", ctypes.c_uint32), ("miu", ctypes.c_uint16), ("window", ctypes.c_uint8)]
 
 
 class Fault(Exception):
@@ -66,6 +79,23 @@ class Ground:
     length: int
     capacity: int
     writable: bool
+
+
+@dataclass(frozen=True)
+class LinkParams:
+    """What an end of a link says of itself: its MIU, its well-known services as bits, and its version of LLCP."""
+
+    miu: int = 128
+    services: int = 0x13
+    version: int = 0x13
+
+
+@dataclass(frozen=True)
+class Received:
+    """A message that a server accepted, and the SAP of the other end that it came from."""
+
+    source: int
+    message: bytes
 
 
 def library_path() -> str:
@@ -178,3 +208,82 @@ class Type2Tag:
             raise fault(said, told)
         self.memory = bytearray(held[: len(self.memory)])
         return bytes(out[: told.length]), told.bits
+
+
+def made(kind: type[ctypes.Structure], **numbers: int) -> ctypes.Structure:
+    """A struct of these numbers; one that has no room there is a bad argument, and isn't cut."""
+    struct = kind(**numbers)
+    if any(getattr(struct, name) != number for name, number in numbers.items()):
+        raise fault(BAD_ARGUMENT, Told())
+    return struct
+
+
+def filled(call: str, *words) -> tuple[bytes, Told]:
+    """What a call puts into `out`, its last words but one, which is made as long as it takes; and the numbers told."""
+    room, told = FIRST_ROOM, Told()
+    while True:
+        out = (ctypes.c_uint8 * room)()
+        said = getattr(library(), call)(*words, out, ctypes.c_size_t(room), ctypes.byref(told))
+        if said == DONE:
+            return bytes(out[: told.length]), told
+        if said != SHORT:
+            raise fault(said, told)
+        room = told.length
+
+
+def write_general(params: LinkParams) -> bytes:
+    """The general bytes of an end."""
+    return filled("zev_general_write", ctypes.byref(made(General, miu=params.miu, services=params.services, version=params.version)))[0]
+
+
+def read_general(content: bytes) -> LinkParams:
+    """What general bytes say of the end that sent them."""
+    told = General()
+    said = library().zev_general_read(*lent(content), ctypes.byref(told))
+    if said != DONE:
+        raise fault(said, Told())
+    return LinkParams(told.miu, told.services, told.version)
+
+
+def counted(content: bytes, most: int) -> bytes:
+    """Bytes behind their length."""
+    if len(content) > most:
+        raise ValueError(f"there may be {most} bytes")
+    return len(content).to_bytes(2, "little") + content
+
+
+class FarEnd:
+    """The far end of a link of LLCP that began with these general bytes of the other end, with a SNEP server. `offers` are keys with the values
+    that it gives for get."""
+
+    def __init__(self, general: bytes, miu: int = 2175, window: int = 15, limit: int = 65536, offers: tuple[tuple[bytes, bytes], ...] = ()):
+        self.sizes, self.general, self.log = made(Sizes, limit=limit, miu=miu, window=window), general, b""
+        self.offers = b"".join(counted(part, MOST_OFFER) for offer in offers for part in offer)
+
+    def words(self) -> tuple:
+        return ctypes.byref(self.sizes), *lent(self.offers), *lent(self.general), *lent(self.log)
+
+    def answer(self, payload: bytes) -> bytes:
+        """Takes a payload and gives the reply. Where there is a fault it counts as not taken."""
+        before, self.log = self.log, self.log + counted(payload, MOST_PAYLOAD)
+        try:
+            return filled("zev_peer_reply", *self.words())[0]
+        except Fault:
+            self.log = before
+            raise
+
+    def count(self) -> int:
+        """How many messages it accepted on this link."""
+        told = Told()
+        said = library().zev_peer_count(*self.words(), ctypes.byref(told))
+        if said != DONE:
+            raise fault(said, told)
+        return told.length
+
+    def received(self, index: int) -> Received:
+        """One of them, counted from 0."""
+        message, told = filled("zev_peer_message", *self.words(), ctypes.c_size_t(index))
+        said = library().zev_peer_source(*self.words(), ctypes.c_size_t(index), ctypes.byref(told))
+        if said != DONE:
+            raise fault(said, told)
+        return Received(told.code, message)

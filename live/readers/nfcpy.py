@@ -1,7 +1,8 @@
 """Readers that nfcpy knows. The chip finds and selects a tag, and does ISO-DEP; `exchange` carries a command and its answer.
 
 nfcpy gives bytes alone: a Type 2 tag's acknowledgement of four bits comes as one byte, so one byte is taken for four bits there. A command
-without an answer raises a TimeoutError, a damaged one a CommunicationError. Written from memory of nfcpy, whose
+without an answer raises a TimeoutError, a damaged one a CommunicationError. As a target of NFC-DEP (`nfc.dep.Target`) the chip cuts and joins
+payloads: `activate` gives the initiator's general bytes, `exchange` sends a reply and gives the next payload. Written from memory of nfcpy, whose
 documentation wasn't at hand; tried neither with that library nor with a reader.
 """
 
@@ -24,6 +25,7 @@ class Reader:
         try:
             import nfc
             import nfc.clf
+            import nfc.dep
             import nfc.tag
         except ImportError:
             raise NoReader("the library nfcpy isn't installed") from None
@@ -53,6 +55,20 @@ class Reader:
         except (self.nfc.clf.CommunicationError, self.nfc.tag.TagCommandError):
             return None
         return answer, 4 if len(answer) == 1 else 0
+
+    def listen(self, general: bytes) -> Optional[bytes]:
+        while True:
+            self.target = self.nfc.dep.Target(self.device)
+            said = self.target.activate(timeout=1.0, gbt=general)
+            if said is not None:
+                return bytes(said)
+
+    def hand(self, reply: Optional[bytes]) -> Optional[bytes]:
+        try:
+            payload = self.target.exchange(reply, self.seconds)
+        except self.nfc.clf.CommunicationError:
+            return None
+        return None if payload is None else bytes(payload)
 
     def close(self) -> None:
         self.device.close()

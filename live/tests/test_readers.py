@@ -89,21 +89,22 @@ class Pcsc(unittest.TestCase):
 
 
 class FakeNfcpy:
-    """nfc, nfc.clf and nfc.tag, with a tag on the reader: a Type 2 tag, or one of Type 4 behind the chip's ISO-DEP."""
+    """nfc, nfc.clf, nfc.dep and nfc.tag, with a tag on the reader: a Type 2 tag, or one of Type 4 behind the chip's ISO-DEP."""
 
     class Error(Exception):
         pass
 
     def __init__(self, tag, sel_res: int):
         self.tag, self.is_there, self.is_open = tag, True, True
-        nfc, clf, tags = (types.ModuleType(name) for name in ("nfc", "nfc.clf", "nfc.tag"))
-        nfc.clf, nfc.tag = clf, tags
+        nfc, clf, dep, tags = (types.ModuleType(name) for name in ("nfc", "nfc.clf", "nfc.dep", "nfc.tag"))
+        nfc.clf, nfc.dep, nfc.tag = clf, dep, tags
+        dep.Target = lambda device: self
         nfc.ContactlessFrontend = self.opened
         clf.CommunicationError = tags.TagCommandError = self.Error
         clf.RemoteTarget = lambda name: name
         tags.activate = lambda device, target: self
         self.target = types.SimpleNamespace(sel_res=bytes([sel_res]), sdd_res=b"\1\2\3\4")
-        self.modules = {"nfc": nfc, "nfc.clf": clf, "nfc.tag": tags}
+        self.modules = {"nfc": nfc, "nfc.clf": clf, "nfc.dep": dep, "nfc.tag": tags}
 
     def opened(self, path: str):
         if path != "usb":
@@ -145,6 +146,24 @@ class Nfcpy(unittest.TestCase):
         self.assertEqual(reader.find()[0], 4)
         drive(write(4, b"", bytes(500)), reader.transceive)
         self.assertEqual(drive(read(4), reader.transceive).message, bytes(500))
+
+    def test_a_far_end(self):
+        """The first second brings no initiator; a link that is over gives no payload."""
+        fake = FakeNfcpy(None, 0x00)
+        reader = self.reader(fake)
+        said, handed = [None, b"Ffm\1\1\x13"], []
+        payloads = [bytearray(b"\x11\x20"), bytearray(b"\0\0"), None]
+        fake.activate = lambda timeout, gbt: handed.append(gbt) or said.pop(0)
+        fake.exchange = lambda reply, seconds: handed.append(reply) or payloads.pop(0)
+        self.assertEqual(reader.listen(b"Ffm"), b"Ffm\1\1\x13")
+        self.assertEqual([reader.hand(reply) for reply in (None, b"\x81\x84", b"\0\0")], [b"\x11\x20", b"\0\0", None])
+        self.assertEqual(handed, [b"Ffm", b"Ffm", None, b"\x81\x84", b"\0\0"])
+
+        def gone(reply, seconds):
+            raise fake.Error()
+
+        fake.exchange = gone
+        self.assertIsNone(reader.hand(None))
 
     def test_a_tag_that_goes_away(self):
         fake = FakeNfcpy(Type2Tag(MEMORY), 0x00)

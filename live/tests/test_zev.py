@@ -9,6 +9,9 @@ import tempfile
 import unittest
 from pathlib import Path
 
+from tests.links import links_of
+from tests.test_stored import scripts
+
 LIVE = Path(__file__).resolve().parent.parent
 TAG = f"{sys.executable} {LIVE / 'tag.py'}"
 OLD = bytes.fromhex("D00000")
@@ -76,9 +79,61 @@ class WithATag(unittest.TestCase):
             self.assertIn(status, (0, 1))
 
 
+def lines(*payloads: bytes) -> str:
+    return "".join(f"< {payload.hex().upper() or '-'}\n" for payload in payloads)
+
+
+class Peers(unittest.TestCase):
+    """`zev peer`, with an initiator behind the pipe that says what stands in a list."""
+
+    SAID = bytes.fromhex("46666D010113")
+    OURS = "> 46666D010113020207FF03020013\n"
+    CONNECT, PUT = bytes.fromhex("1120"), bytes.fromhex("13200010020000000CD1010855016578616D706C65")
+
+    def test_the_links_of_stored_scripts(self):
+        links = [link for script in scripts() for link in links_of(script)]
+        for link in links[::9]:
+            sizes = [word for pair in zip(("--miu", "--window", "--limit"), map(str, link.peer.sizes)) for word in pair]
+            offers = [f"--offer={key.hex()}={value.hex()}" for key, value in link.peer.offers]
+            status, out, told = zev("peer", *sizes, *offers, text=lines(link.general, *link.payloads[: len(link.replies)]))
+            accepted = [bytes.fromhex(line.split()[2].strip("-")) for line in out.split("\n") if line.startswith("from ")]
+            success = [message for message, answer in link.puts if answer == "success"]
+            with self.subTest(link.name):
+                self.assertEqual((status, told), (0, ""))
+                self.assertEqual([line[2:] for line in out.split("\n") if line.startswith(">")][1:-1], [reply.hex().upper() for reply in link.replies])
+                self.assertEqual(accepted[: len(success)], success)
+        self.assertGreater(len(links), 300)
+
+    def test_one_link_after_the_other(self):
+        """Each begins with a far end that nothing came to; what isn't LLCP begins none."""
+        once = lines(self.SAID, self.CONNECT, self.PUT) + "-\n"
+        status, out, told = zev("peer", text=once + lines(b"\0") + once)
+        shown = f"{self.OURS}> 8184020207FF05010F\nfrom 32: {self.PUT[9:].hex().upper()}\nhttp://www.example\n> 830401108100000000\n"
+        self.assertEqual((status, out), (0, shown + self.OURS + shown + self.OURS))
+        self.assertEqual(told, "zev: the general bytes are not of LLCP\n")
+
+    def test_what_is_no_payload(self):
+        """The link is over, and the next line may begin another."""
+        for text in ("", "-\n", "<\n", "x" * 9000, "< 12/4\n", f"< {'00' * 2179}\n"):
+            with self.subTest(text[:9]):
+                status, out, told = zev("peer", text=lines(self.SAID, self.CONNECT) + text)
+                self.assertEqual((status, out.count(self.OURS), told), (0, 2, ""))
+
+    def test_a_program_that_goes_away(self):
+        for program in ("true", "echo '< 46666D010113'", "head -n 1"):
+            with self.subTest(program):
+                self.assertEqual(zev("peer", "--reader", f"pipe:{program}")[0], 0)
+
+
 class Words(unittest.TestCase):
+    NONE = (
+        ("write",), ("write", "D"), ("write", "D0", "--uri", "x"), ("read", "--reader", "none"), ("read", "--type", "5"), ("fly",),
+        ("peer", "--miu", "127"), ("peer", "--miu", "65664"), ("peer", "--window", "16"), ("peer", "--limit", "65537"),
+        ("peer", "--offer", "00"), ("peer", "--offer", "0=1"),
+    )  # fmt: skip
+
     def test_words_that_are_none(self):
-        for words in (("write",), ("write", "D"), ("write", "D0", "--uri", "x"), ("read", "--reader", "none"), ("read", "--type", "5"), ("fly",)):
+        for words in self.NONE:
             with self.subTest(words):
                 self.assertEqual(zev(*words)[0], 2)
 

@@ -4,3 +4,7 @@ pub mod Log
 pub mod Reading
 pub mod Dumps
 pub mod Tags
+pub mod Spelled
+pub mod General
+pub mod Peer
+pub mod Replaying

@@ -1,5 +1,5 @@
 -- What C is told of a reading, a survey or a writing that goes on a command at a time (this project's own).
-use Rattle.std.specs.Prelude.{◌≡◌, ℕ, ◌==◌, if◌then◌else◌, ℤ, ◌-◌, ◌⊎◌, List, Bool, Option, Some, None, true, false}
+use Rattle.std.specs.Prelude.{◌≡◌, ℕ, ◌==◌, if◌then◌else◌, ℤ, ◌-◌, ◌⊎◌, List, Option, Some, None}
 use Rattle.nfc_base.specs.declared.frame.Tech.{Tech}
 use Rattle.nfc_base.specs.declared.frame.Tech.TheVariants as techs
 use Rattle.tag_reader.specs.declared.how.How.{How}
@@ -28,7 +28,7 @@ use Rattle.zevlodek_c.specs.declared.log.LogFault.{LogFault}
 use Rattle.zevlodek_c.specs.declared.log.LogFault.TheVariants as logs
 use Rattle.zevlodek_c.specs.declared.showing.Told.{Told}
 use Rattle.zevlodek_c.specs.Codes.{done, send, bad_log, bad_argument, tag_fault}
-use Rattle.zevlodek_c.specs.Showing.{Seen, shows, answers}
+use Rattle.zevlodek_c.specs.Showing.{Seen, shows, answers, of_bool}
 use Rattle.zevlodek_c.specs.Log.{SpellsTurns, IsNoLog}
 
 -- The kinds of tags by their numbers in C; a Type 5 tag has an identifier, high byte first.
@@ -39,10 +39,6 @@ abbrev pub tech_of : How → Tech
 tech_of T2 = techs.A
 tech_of T4 = techs.A
 tech_of (T5 id) = techs.V
-
-abbrev pub of_bool : Bool → ℕ
-of_bool true = 1
-of_bool false = 0
 
 -- why no turns are read off a log
 abbrev pub no_turns : LogFault → ℤ

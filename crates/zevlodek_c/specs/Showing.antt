@@ -1,5 +1,5 @@
 -- What C sees behind a call: its answer, the slice that it lent for bytes, and the numbers told (this project's own).
-use Rattle.std.specs.Prelude.{ℕ, ◌++◌, List, length, drop, ℤ, nat_le, if◌then◌else◌}
+use Rattle.std.specs.Prelude.{ℕ, ◌++◌, List, length, drop, ℤ, nat_le, if◌then◌else◌, Bool, true, false}
 use Rattle.zevlodek_c.specs.declared.showing.Told.{Told}
 use Rattle.zevlodek_c.specs.Codes.{short}
 
@@ -20,3 +20,8 @@ shows answer bytes out told = record {
 -- an answer alone
 abbrev pub answers : ℤ → List ℕ → Told → Seen
 answers answer out told = record { answer = answer; out = out; told = told }
+
+-- whether something is so, as a number
+abbrev pub of_bool : Bool → ℕ
+of_bool true = 1
+of_bool false = 0

@@ -16,7 +16,7 @@ pub enum LogFault {
 }
 
 /// So many bytes as the first two say, low byte first, and what stands behind them.
-fn counted(log: &[u8]) -> Option<(&[u8], &[u8])>
+pub fn counted(log: &[u8]) -> Option<(&[u8], &[u8])>
     ensures some { IfSome result (λ p. (log.now ≡ counted p.0.now ++ p.1.now) × (length p.0.now < 65536)) }
     ensures none { result ≡ None → (bytes rest : List ℕ) → length bytes < 65536 → log.now ≡ counted bytes ++ rest → ⊥ }
 {

@@ -1,5 +1,5 @@
 use Rattle.std.proofs.Common.{rules, inl}
-use Rattle.zevlodek_c.specs.Reading.{of_bool}
+use Rattle.zevlodek_c.specs.Showing.{of_bool}
 use Rattle.zevlodek_c.proofs.Whole.{held_here}
 use Rattle.zevlodek_c.proofs.dumps.tell_area.Goals as goal
 
