@@ -21,7 +21,7 @@ use Rattle.peer_air.specs.PeerFars.{peer_ends}
 use Rattle.peer_air.proofs.PeerEnds.{are_far_ends}
 use Rattle.snep_core.specs.Server.{serving}
 use Rattle.bench_script.specs.declared.command.Command.{Command}
-use Rattle.bench_script.specs.declared.command.Command.TheVariants.{Find, Crowd, Read, Write, Link, Forge, Put, Get, Lookup, Unlink}
+use Rattle.bench_script.specs.declared.command.Command.TheVariants.{Find, Crowd, Poll3, Read, Read3, Write, Write3, Link, Forge, Put, Get, Lookup, Unlink}
 use Rattle.bench_script.specs.declared.command.DeviceId.{DeviceId}
 use Rattle.bench_script.specs.declared.command.DeviceId.TheVariants.{A, V}
 use Rattle.bench_script.specs.DeviceIds.{bytes_of}
@@ -35,6 +35,7 @@ use Rattle.bench_devices.specs.Reading.{AsksOf}
 use Rattle.bench_devices.specs.TagAsking.{tag_due}
 use Rattle.bench_devices.specs.Writing.{AsksWriteOf}
 use Rattle.bench_devices.proofs.CalmDues.{calm_finding, calm_crowding, calm_reading, calm_writing, calm_unasked}
+use Rattle.bench_devices.proofs.CalmThrees.{calm_sensing}
 use Rattle.bench_devices.proofs.PeerLinks.{devices_link}
 use Rattle.bench_world.specs.Reading.{ReadAsks}
 use Rattle.bench_world.specs.Writing.{WriteAsks}
@@ -88,6 +89,7 @@ nothing_due (Clash g x ∷ es) before each = nothing_due es (before ++ Clash g x
 calm_due : (s : State) (g : Given) (c : Command) (es : List Event) → (UsesFars c → ⊥) → IsAskedBy s c g.asked → EachDue (due s g c) [] es → AreCalm devices device_linked es
 calm_due s g Find es quiet asked each = calm_finding es each
 calm_due s g Crowd es quiet asked each = calm_crowding es each
+calm_due s g Poll3 es quiet asked each = calm_sensing es each
 calm_due s g (Read id) es quiet asked each = reads_calm (device_with (bytes_of id) s.world.field.listeners) g.asked id asked es each
 calm_due s g (Write id m) es quiet asked each = writes_calm (message_of m) (device_with (bytes_of id) s.world.field.listeners) g.asked id asked es each
 calm_due s g (Link id miu window) es quiet asked each = absurd (quiet tt)
@@ -102,6 +104,7 @@ calm_due s g c es quiet asked each = nothing_due es [] each
 begins_lit : (s : State) (g : Given) (c : Command) → (UsesFars c → ⊥) → (due s g c [] ≡ Over) ⊎ (due s g c [] ≡ LightUp)
 begins_lit s g Find quiet = inr refl
 begins_lit s g Crowd quiet = inr refl
+begins_lit s g Poll3 quiet = inr refl
 begins_lit s g (Read (A id)) quiet = inr refl
 begins_lit s g (Read (V id)) quiet = inr refl
 begins_lit s g (Write (A id) message) quiet = inr refl

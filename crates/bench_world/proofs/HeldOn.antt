@@ -12,7 +12,7 @@ use Rattle.air_core.specs.Conversation.{Note, Over, LightUp, Asks, AreTurns, Eac
 use Rattle.air_core.proofs.Following.{trace_first}
 use Rattle.t5t_tag.proofs.Bytes.{equal_bytes}
 use Rattle.bench_script.specs.declared.command.Command.{Command}
-use Rattle.bench_script.specs.declared.command.Command.TheVariants.{Skip, Fates, PlaceT2, PlaceT4, PlaceT5, PlacePeer, Lock, Busy, Offer, Remove, Dump, Inbox, Find, Crowd, Read, Write, Link, Forge, Put, Get, Lookup, Unlink}
+use Rattle.bench_script.specs.declared.command.Command.TheVariants.{Skip, Fates, PlaceT2, PlaceT3, PlaceT4, PlaceT5, PlacePeer, Lock, Busy, Offer, Remove, Dump, Inbox, Find, Crowd, Poll3, Read, Read3, Write, Write3, Link, Forge, Put, Get, Lookup, Unlink}
 use Rattle.bench_script.specs.declared.command.DeviceId.{DeviceId}
 use Rattle.bench_script.specs.DeviceIds.{bytes_of}
 use Rattle.bench_devices.specs.declared.device.Device.{Device}
@@ -22,7 +22,7 @@ use Rattle.bench_devices.specs.Keeping.{Fixed, fixed, Kept, kept, AllStayDevices
 use Rattle.bench_devices.specs.Placed.{device_with, without, with_changed}
 use Rattle.bench_world.specs.declared.entry.Entry.{Entry}
 use Rattle.bench_world.specs.World.{WholeWorld, bench_air, Stable, stable}
-use Rattle.bench_world.specs.Legal.{State, Given, AnswerLaw, ReadLaw, FindLaw, CrowdLaw, WritingLaw, LinkingLaw, CallLaw, AnswerBy, LegalStep, EachLegal, begun, changed, due, due_by, world_after, state_after}
+use Rattle.bench_world.specs.Legal.{State, Given, AnswerLaw, ReadLaw, FindLaw, CrowdLaw, SenseLaw, WritingLaw, LinkingLaw, CallLaw, AnswerBy, LegalStep, EachLegal, begun, changed, due, due_by, world_after, state_after}
 use Rattle.bench_world.specs.Behind.{Touches, LeaveAlone}
 use Rattle.snep_core.specs.Talk.{Puts, Gets, Finds}
 use Rattle.bench_script.specs.Messages.{message_of}
@@ -247,6 +247,7 @@ module _ (id : DeviceId) (s t : State) (g : Given) (e : Entry) (d : Device) (ste
   by_command Skip is alone = absurd (law_of Skip is)
   by_command (Fates fates) is alone = quiet_step (Fates fates) is (λ ns. refl) (still_found (bytes_of id) s.world.field.listeners d found)
   by_command (PlaceT2 i blocks head) is alone = quiet_step (PlaceT2 i blocks head) is (λ ns. refl) (more_found (bytes_of id) s.world.field.listeners _ d found)
+  by_command (PlaceT3 i blocks head) is alone = quiet_step (PlaceT3 i blocks head) is (λ ns. refl) (more_found (bytes_of id) s.world.field.listeners _ d found)
   by_command (PlaceT4 i code container head) is alone = quiet_step (PlaceT4 i code container head) is (λ ns. refl) (more_found (bytes_of id) s.world.field.listeners _ d found)
   by_command (PlaceT5 i blocks size head) is alone = quiet_step (PlaceT5 i blocks size head) is (λ ns. refl) (more_found (bytes_of id) s.world.field.listeners _ d found)
   by_command (PlacePeer i lr miu rw limit) is alone = quiet_step (PlacePeer i lr miu rw limit) is (λ ns. refl) (more_found (bytes_of id) s.world.field.listeners _ d found)
@@ -260,6 +261,9 @@ module _ (id : DeviceId) (s t : State) (g : Given) (e : Entry) (d : Device) (ste
   by_command (Inbox i) is alone = quiet_step (Inbox i) is (λ ns. refl) (still_found (bytes_of id) s.world.field.listeners d found)
   by_command Find is alone = let law : FindLaw s g.joins e.events e.answer = law_of Find is in asking_step Find is refl (ap (λ (z : Stable). z.devices) law.stays)
   by_command Crowd is alone = let law : CrowdLaw s g.joins e.events e.answer = law_of Crowd is in asking_step Crowd is refl (ap (λ (z : Stable). z.devices) law.stays)
+  by_command Poll3 is alone = let law : SenseLaw s g.joins e.events e.answer = law_of Poll3 is in asking_step Poll3 is refl (ap (λ (z : Stable). z.devices) law.stays)
+  by_command (Read3 i) is alone = absurd (law_of (Read3 i) is)
+  by_command (Write3 i m) is alone = absurd (law_of (Write3 i m) is)
   by_command (Read i) is alone = let law : ReadLaw s g.joins i g.asked e.events e.answer = law_of (Read i) is in asking_step (Read i) is refl (ap (λ (z : Stable). z.devices) law.stays)
   by_command (Write i m) is alone =
       let law : WritingLaw s g.joins i m g.asked e.events e.answer = law_of (Write i m) is in

@@ -13,6 +13,7 @@ pub mod Ranges
 pub mod Reached
 pub mod Telling
 pub mod Legality
+pub mod Senses
 pub mod OpensHere
 pub mod Restarted
 pub mod LinkHere
@@ -26,6 +27,7 @@ mod FirstBroken
 pub mod BrokenRead
 pub mod Complete
 pub mod CompleteTags
+pub mod CompleteThrees
 pub mod CompleteLinks
 pub mod OneForm
 pub mod WriteTelling

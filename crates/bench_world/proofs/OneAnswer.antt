@@ -25,7 +25,7 @@ use Rattle.isodep_link.specs.Asking as exchange
 use Rattle.bench_devices.specs.declared.polling.SeenKind.{SeenKind}
 use Rattle.bench_devices.specs.declared.polling.SeenKind.TheVariants as seen
 use Rattle.bench_devices.specs.CardAsking.{CardStanding, Activates, Exchanges, card_stands}
-use Rattle.bench_world.specs.Answering.{TellsFault, TagEnds, TagTells, TellsFound, TagsTell, tags_answer}
+use Rattle.bench_world.specs.Answering.{TellsFault, TagEnds, TagTells, TellsFound, TagsTell, tags_answer, ThreesTell, sensed_answer}
 use Rattle.bench_devices.specs.Answering.{TellsStanding, TellsExchange, TellsCard, TellsBy, InventoryEnds, FindEnds, FindTells}
 use Rattle.dep_link.specs.Activating.{atr_frame}
 use Rattle.bench_world.specs.Calls.{IfLinked, IsTold}
@@ -143,6 +143,12 @@ one_tags ds events a b p q =
   where
     one_some : (a b : Answer) → ◌≡◌ {A = Option Answer} (Some a) (Some b) → a ≡ b
     one_some a b e = cc
+
+-- A search for Type 3 tags has one answer.
+pub one_threes : (ds : List Device) (events : List Event) (a b : Answer) → ThreesTell ds events a → ThreesTell ds events b → a ≡ b
+one_threes ds events a b p q =
+    let same : p.found ≡ q.found = (one_end p.found q.found [] [] (sym p.told ∙ q.told)).0 in
+    same_some a b (sym p.answered ∙ ap sensed_answer same ∙ q.answered)
 
 -- An opening of a link has one answer.
 one_opened : (n : ℕ) (s : Standing) → AtMostOne (TellsStanding (λ answer. answer ≡ answers.Linked n) TellsLoss s)

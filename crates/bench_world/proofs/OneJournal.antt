@@ -4,7 +4,7 @@ use Rattle.nfc_base.specs.Signal.{Signal}
 use Rattle.nfc_base.specs.declared.event.Event.{Event}
 use Rattle.air_core.specs.Conversation.{Over, receptions}
 use Rattle.bench_script.specs.declared.command.Command.{Command}
-use Rattle.bench_script.specs.declared.command.Command.TheVariants.{Skip, Fates, PlaceT2, PlaceT4, PlaceT5, PlacePeer, Lock, Busy, Offer, Remove, Dump, Inbox, Find, Crowd, Read, Write, Link, Forge, Put, Get, Lookup, Unlink}
+use Rattle.bench_script.specs.declared.command.Command.TheVariants.{Skip, Fates, PlaceT2, PlaceT3, PlaceT4, PlaceT5, PlacePeer, Lock, Busy, Offer, Remove, Dump, Inbox, Find, Crowd, Poll3, Read, Read3, Write, Write3, Link, Forge, Put, Get, Lookup, Unlink}
 use Rattle.bench_devices.specs.declared.device.Device.{Device}
 use Rattle.bench_world.specs.declared.entry.Answer.{Answer}
 use Rattle.bench_world.specs.declared.entry.Answer.TheVariants.{Store}
@@ -31,7 +31,7 @@ use Rattle.bench_world.specs.Journal.{NumberedLine, AreEntriesOf, asking_lines, 
 use Rattle.bench_world.specs.SameCommands.{SameCommands}
 use Rattle.bench_script.proofs.Spelling.{spells_one}
 use Rattle.tag_reader.proofs.Lists.{one_list}
-use Rattle.bench_world.proofs.OneAnswer.{one_read, one_write, one_find, one_tags, one_forge, one_link, one_told_so, one_linked}
+use Rattle.bench_world.proofs.OneAnswer.{one_read, one_write, one_find, one_tags, one_threes, one_forge, one_link, one_told_so, one_linked}
 use Rattle.air_core.proofs.OneCourse.{one_course}
 
 one_asked_of : (o : Option Device) (a b : List Signal) → IfPlaced (λ d. ReadAsks d a) (a ≡ []) o → IfPlaced (λ d. ReadAsks d b) (b ≡ []) o → a ≡ b
@@ -65,6 +65,7 @@ one_answer : (s : State) (c : Command) (g : Given) (events : List Event) (a b : 
 one_answer s Skip g events a b p q = absurd p
 one_answer s (Fates fates) g events a b p q = p ∙ sym q
 one_answer s (PlaceT2 id blocks head) g events a b p q = p ∙ sym q
+one_answer s (PlaceT3 id blocks head) g events a b p q = p ∙ sym q
 one_answer s (PlaceT4 id code container head) g events a b p q = p ∙ sym q
 one_answer s (PlaceT5 id blocks size head) g events a b p q = p ∙ sym q
 one_answer s (PlacePeer id lr miu rw limit) g events a b p q = p ∙ sym q
@@ -76,6 +77,9 @@ one_answer s (Dump id) g events a b p q = one_dump (device_with (bytes_of id) s.
 one_answer s (Inbox id) g events a b p q = p ∙ sym q
 one_answer s Find g events a b p q = one_find s.world.field.listeners events a b p.tells q.tells
 one_answer s Crowd g events a b p q = one_tags s.world.field.listeners events a b p.tells q.tells
+one_answer s Poll3 g events a b p q = one_threes s.world.field.listeners events a b p.tells q.tells
+one_answer s (Read3 id) g events a b p q = absurd p
+one_answer s (Write3 id m) g events a b p q = absurd p
 one_answer s (Read id) g events a b p q = one_read id s.world.field.listeners g.asked events a b p.tells q.tells
 one_answer s (Write id m) g events a b p q = one_write id s.world.field.listeners (message_of m) g.asked events a b p.tells q.tells
 one_answer s (Link id miu window) g events a b p q = one_link (A id) s.world.field.listeners (length s.peers.links + 1) (own_general miu) events a b p.tells q.tells

@@ -7,7 +7,7 @@ use Rattle.nfc_base.specs.declared.event.Event.{Event}
 use Rattle.air_core.specs.Conversation.{replay}
 use Rattle.tag_writer.specs.Law.{Stopped}
 use Rattle.bench_script.specs.declared.command.Command.{Command}
-use Rattle.bench_script.specs.declared.command.Command.TheVariants.{Find, Crowd, Read, Write, Link, Forge, Put, Get, Lookup, Unlink}
+use Rattle.bench_script.specs.declared.command.Command.TheVariants.{Find, Crowd, Poll3, Read, Read3, Write, Write3, Link, Forge, Put, Get, Lookup, Unlink}
 use Rattle.bench_script.specs.declared.command.DeviceId.{DeviceId}
 use Rattle.bench_script.specs.declared.message.Msg.{Msg}
 use Rattle.bench_script.specs.DeviceIds.{bytes_of}
@@ -89,6 +89,7 @@ call_stays s joins asked c cut (Some l) still call = call.devices
 front_left : (s t : State) (g : Given) (c : Command) (cut : List Event) → FrontOf s g c cut None t → CutStores s g.joins c cut → Unfinished s c cut t
 front_left s t g Find cut front stores = front_stays s t g Find cut front (ap (λ (z : Stable). z.devices) stores)
 front_left s t g Crowd cut front stores = front_stays s t g Crowd cut front (ap (λ (z : Stable). z.devices) stores)
+front_left s t g Poll3 cut front stores = front_stays s t g Poll3 cut front (ap (λ (z : Stable). z.devices) stores)
 front_left s t g (Read id) cut front stores = front_stays s t g (Read id) cut front (ap (λ (z : Stable). z.devices) stores)
 front_left s t g (Write id m) cut front stores = front_written s t g id m cut front stores
 front_left s t g (Link id miu window) cut front stores = front_stays s t g (Link id miu window) cut front (ap (λ (z : Stable). z.devices) stores)

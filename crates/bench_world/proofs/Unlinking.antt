@@ -8,7 +8,7 @@ use Rattle.far_air.specs.FarEnds.{first_far, later_fars, by_link}
 use Rattle.far_air.specs.FarLaws.{shown}
 use Rattle.peer_air.specs.PeerFars.{peer_ends}
 use Rattle.bench_script.specs.declared.command.Command.{Command}
-use Rattle.bench_script.specs.declared.command.Command.TheVariants.{Remove, Find, Crowd, Read, Write, Link}
+use Rattle.bench_script.specs.declared.command.Command.TheVariants.{Remove, Find, Crowd, Poll3, Read, Read3, Write, Write3, Link}
 use Rattle.bench_script.specs.declared.command.DeviceId.{DeviceId}
 use Rattle.bench_script.specs.declared.command.DeviceId.TheVariants.{A}
 use Rattle.bench_script.specs.declared.message.Msg.{Msg}
@@ -90,6 +90,14 @@ find_resets = record {
 
 pub crowd_resets : IsReset Crowd
 crowd_resets = record {
+  front = λ s t g es told f. record { accepted = f.accepted; asks = f.asks; takes = f.takes; turns = f.turns; fates = f.fates; each = f.each; after = f.after };
+  next = λ s g ns. refl;
+  law = λ s g es answer l. record { tells = l.tells; stays = l.stays };
+  stores = λ s joins es stays. stays;
+}
+
+pub sense_resets : IsReset Poll3
+sense_resets = record {
   front = λ s t g es told f. record { accepted = f.accepted; asks = f.asks; takes = f.takes; turns = f.turns; fates = f.fates; each = f.each; after = f.after };
   next = λ s g ns. refl;
   law = λ s g es answer l. record { tells = l.tells; stays = l.stays };

@@ -4,7 +4,7 @@ ghost use Rattle.std.specs.Prelude.{◌≡◌, ◌⊎◌, Some, Err, IfOk, OnErr
 ghost use Rattle.nfca_poll.specs.declared.fault.PollFault.TheVariants as faults;
 ghost use Rattle.tag_reader.specs.declared.fault.ReadFault.TheVariants as reading;
 ghost use Rattle.tag_writer.specs.declared.fault.WriteFault.TheVariants as writing;
-ghost use Rattle.bench_world.specs.Answering.{poll_answer, told_by, MayEnd, written_by, MayEndWrite};
+ghost use Rattle.bench_world.specs.Answering.{poll_answer, three_told, told_by, MayEnd, written_by, MayEndWrite};
 ghost use Rattle.bench_world.specs.Crowded.{seen_card, seen_all, is_crowd};
 
 use crate::entry::{Answer, Seen};
@@ -13,6 +13,7 @@ use bench_script::DeviceId;
 use nfc_base::Items;
 use nfca_poll::{Kind, Picked, PollFault, Vcrowd};
 use std::alloc::{AllocError, Global};
+use t3t_access::Fcrowd;
 use tag_reader::{Found, ReadFault};
 use tag_writer::WriteFault;
 
@@ -27,6 +28,17 @@ pub fn missed(fault: PollFault) -> Result<Answer, AllocError>
         PollFault::NotFound => Ok(Answer::NotFound),
         PollFault::Memory => Err(AllocError),
         PollFault::Nobody | PollFault::BadAnswer => unreachable!(),
+    }
+}
+
+/// The answer that tells which Type 3 tags are there.
+pub fn sensed(found: Fcrowd) -> Answer
+    ensures { result ≡ three_told found }
+{
+    match found {
+        Fcrowd::Nobody => Answer::T3None,
+        Fcrowd::One(id) => Answer::T3One(id),
+        Fcrowd::Crowd => Answer::T3Crowd,
     }
 }
 

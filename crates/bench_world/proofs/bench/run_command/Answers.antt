@@ -53,6 +53,10 @@ pub returns-in-Crowd-clause-cut : goal.returns-in-Crowd-clause-cut
 returns-in-Crowd-clause-cut c = λ e.
     subst (λ x. IsCutOffBy (joins_for x c.args.joins) c.args.machines.now c.find_tags.new.machines x) (sym c.in-Crowd.is) (of_err c.find_tags.result e c.find_tags.ensures.cut)
 
+pub returns-in-Poll3-clause-cut : goal.returns-in-Poll3-clause-cut
+returns-in-Poll3-clause-cut c = λ e.
+    subst (λ x. IsCutOffBy (joins_for x c.args.joins) c.args.machines.now c.find_threes.new.machines x) (sym c.in-Poll3.is) (of_err c.find_threes.result e c.find_threes.ensures.cut)
+
 pub returns-in-Read-clause-cut : goal.returns-in-Read-clause-cut
 returns-in-Read-clause-cut c = λ e.
     subst (λ x. IsCutOffBy (joins_for x c.args.joins) c.args.machines.now c.read_tag.new.machines x) (sym c.in-Read.is) (of_err c.read_tag.result e c.read_tag.ensures.cut)
