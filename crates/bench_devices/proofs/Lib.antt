@@ -88,3 +88,4 @@ pub mod ThreePuts
 pub mod CalmThrees
 pub mod ThreeReading
 pub mod ThreeWriting
+pub mod ThreeLaw
