@@ -293,6 +293,8 @@ module _ (s t : State) (g : Given) (cut : List Event) (ys : List Story) (h : Kep
   front_by Poll3 front stores = unlinked_front s t g.joins Poll3 cut ys h refl refl
   front_by (Read id) front stores = unlinked_front s t g.joins (Read id) cut ys h refl refl
   front_by (Write id m) front stores = unlinked_front s t g.joins (Write id m) cut ys h refl refl
+  front_by (Read3 id) front stores = unlinked_front s t g.joins (Read3 id) cut ys h refl refl
+  front_by (Write3 id m) front stores = unlinked_front s t g.joins (Write3 id m) cut ys h refl refl
   front_by (Link id miu window) front stores = unlinked_front s t g.joins (Link id miu window) cut ys h refl refl
   front_by (Forge id payloads) front stores = by (opens_link id payloads cut) refl stores
     where

@@ -70,6 +70,10 @@ module _ (w : WholeWorld) (q : List Fate) (p : Peers) (ys : List Story) (g : Giv
       after_front o (Read id) es t front (reset w q p ys o stand g None (Read id) es refl refl refl refl refl (same_held (world_after (from o) g.joins (Read id) es) w (ap (λ (z : Stable). z.ends) stores)))
   front_by o (Write id m) es t stand front stores =
       after_front o (Write id m) es t front (reset w q p ys o stand g None (Write id m) es refl refl refl refl refl (same_held (world_after (from o) g.joins (Write id m) es) w stores.ends))
+  front_by o (Read3 id) es t stand front stores =
+      after_front o (Read3 id) es t front (reset w q p ys o stand g None (Read3 id) es refl refl refl refl refl (same_held (world_after (from o) g.joins (Read3 id) es) w (ap (λ (z : Stable). z.ends) stores)))
+  front_by o (Write3 id m) es t stand front stores =
+      after_front o (Write3 id m) es t front (reset w q p ys o stand g None (Write3 id m) es refl refl refl refl refl (same_held (world_after (from o) g.joins (Write3 id m) es) w stores.ends))
   front_by o (Link id miu window) es t stand front stores =
       let c : Command = Link id miu window in
       after_front o c es t front (reset w q p ys o stand g None c es refl refl refl refl refl (same_held (world_after (from o) g.joins c es) w (ap (λ (z : Stable). z.ends) stores)))

@@ -34,6 +34,9 @@ pub mod WriteTelling
 pub mod WriteBehind
 pub mod WriteLegality
 pub mod HeldOn
+pub mod WellStored
+pub mod ThreeTelling
+pub mod ThreeLegality
 pub mod ReadBehind
 pub mod OneAnswer
 pub mod QuietHearing

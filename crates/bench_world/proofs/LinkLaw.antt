@@ -355,8 +355,10 @@ module _ (w : WholeWorld) (q : List Fate) (p : Peers) (ys : List Story) (g : Giv
       after_front o Crowd es t front (reset w q p ys o stand g (Some a) Crowd es refl refl refl refl refl (same_held (world_after (from o) g.joins Crowd es) w (ap (λ (z : Stable). z.ends) law.stays)))
   step_by o Poll3 es t stand front law =
       after_front o Poll3 es t front (reset w q p ys o stand g (Some a) Poll3 es refl refl refl refl refl (same_held (world_after (from o) g.joins Poll3 es) w (ap (λ (z : Stable). z.ends) law.stays)))
-  step_by o (Read3 id) es t stand front law = absurd law
-  step_by o (Write3 id m) es t stand front law = absurd law
+  step_by o (Read3 id) es t stand front law =
+      after_front o (Read3 id) es t front (reset w q p ys o stand g (Some a) (Read3 id) es refl refl refl refl refl (same_held (world_after (from o) g.joins (Read3 id) es) w (ap (λ (z : Stable). z.ends) law.stays)))
+  step_by o (Write3 id m) es t stand front law =
+      after_front o (Write3 id m) es t front (reset w q p ys o stand g (Some a) (Write3 id m) es refl refl refl refl refl (same_held (world_after (from o) g.joins (Write3 id m) es) w law.stores.ends))
   step_by o (Read id) es t stand front law =
       after_front o (Read id) es t front (reset w q p ys o stand g (Some a) (Read id) es refl refl refl refl refl (same_held (world_after (from o) g.joins (Read id) es) w (ap (λ (z : Stable). z.ends) law.stays)))
   step_by o (Write id m) es t stand front law =

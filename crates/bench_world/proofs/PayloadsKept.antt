@@ -307,8 +307,8 @@ module _ (s : State) (g : Given) (ys : List Story) (h : KeptIn s ys) where
   step_kept Find es answer turns each law = none_open Find es answer refl refl refl
   step_kept Crowd es answer turns each law = none_open Crowd es answer refl refl refl
   step_kept Poll3 es answer turns each law = none_open Poll3 es answer refl refl refl
-  step_kept (Read3 id) es answer turns each law = absurd law
-  step_kept (Write3 id m) es answer turns each law = absurd law
+  step_kept (Read3 id) es answer turns each law = none_open (Read3 id) es answer refl refl refl
+  step_kept (Write3 id m) es answer turns each law = none_open (Write3 id m) es answer refl refl refl
   step_kept (Read id) es answer turns each law = none_open (Read id) es answer refl refl refl
   step_kept (Write id m) es answer turns each law = none_open (Write id m) es answer refl refl refl
   step_kept (Link id miu rw) es answer turns each law = link_kept id miu rw es answer law

@@ -153,6 +153,8 @@ open_before s Crowd l e = absurd (let clash : None ≡ Some l = e in cc)
 open_before s Poll3 l e = absurd (let clash : None ≡ Some l = e in cc)
 open_before s (Read id) l e = absurd (let clash : None ≡ Some l = e in cc)
 open_before s (Write id m) l e = absurd (let clash : None ≡ Some l = e in cc)
+open_before s (Read3 id) l e = absurd (let clash : None ≡ Some l = e in cc)
+open_before s (Write3 id m) l e = absurd (let clash : None ≡ Some l = e in cc)
 open_before s (Link id miu window) l e = absurd (let clash : None ≡ Some l = e in cc)
 open_before s (Forge id payloads) l e = absurd (let clash : None ≡ Some l = e in cc)
 open_before s (Remove id) l e = by (is_linked_to s id) e

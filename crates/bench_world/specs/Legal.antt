@@ -1,6 +1,6 @@
 -- Which entries a bench may have: what it accepts, what each command changes, which request is due, and what it
 -- answers. A later command adds a case to each definition.
-use Rattle.std.specs.Prelude.{◌≡◌, ◌⊎◌, ℕ, ◌+◌, ◌*◌, ◌-◌, ◌^◌, ◌<◌, ◌≤◌, List, [], ◌∷◌, ◌++◌, length, replicate, Option, Some, None, IsSome, Bool, true, false, if◌then◌else◌}
+use Rattle.std.specs.Prelude.{◌≡◌, ◌⊎◌, Err, ℕ, ◌+◌, ◌*◌, ◌-◌, ◌^◌, ◌<◌, ◌≤◌, List, [], ◌∷◌, ◌++◌, length, replicate, Option, Some, None, IsSome, Bool, true, false, if◌then◌else◌}
 use Rattle.std.specs.List.{All}
 use Rattle.nfc_base.specs.declared.event.Event.{Event}
 use Rattle.nfc_base.specs.declared.event.Event.TheVariants.{Request}
@@ -12,6 +12,7 @@ use Rattle.t2t_tag.specs.Store.{IsT2Store}
 use Rattle.t3t_tag.specs.Store as three
 use Rattle.t4t_tag.specs.Store.{IsT4Store, file_size}
 use Rattle.t5t_tag.specs.Store.{IsT5Store}
+use Rattle.t3t_access.specs.declared.fault.T3Fault.TheVariants as three_fault
 use Rattle.bench_script.specs.declared.command.Command.{Command}
 use Rattle.bench_script.specs.declared.command.Command.TheVariants.{Skip, Fates, PlaceT2, PlaceT3, PlaceT4, PlaceT5, PlacePeer, Lock, Busy, Offer, Remove, Dump, Inbox, Find, Crowd, Poll3, Read, Read3, Write, Write3, Link, Forge, Put, Get, Lookup, Unlink}
 use Rattle.bench_script.specs.declared.command.DeviceId.{DeviceId}
@@ -24,6 +25,7 @@ use Rattle.bench_devices.specs.Device.{most_devices, new_t2, new_t3, new_t4, new
 use Rattle.isodep_link.specs.Card.{most_busy}
 use Rattle.isodep_link.specs.Reader.{longest_extension}
 use Rattle.bench_devices.specs.TagAsking.{tag_due}
+use Rattle.bench_devices.specs.ThreeAsking.{three_due}
 use Rattle.bench_script.specs.DeviceIds.{bytes_of}
 use Rattle.bench_script.specs.Messages.{message_of}
 use Rattle.bench_devices.specs.Polling.{asks, finding_all}
@@ -53,6 +55,7 @@ use Rattle.bench_world.specs.Arriving.{ArrivesAt, ArrivesCutAt, ArrivesCutWithin
 use Rattle.bench_world.specs.Forging.{ForgeTells, forged_general, forging, opens_link}
 use Rattle.bench_world.specs.Answering.{TagTells, TellsFound, TagsTell, ThreesTell, CutTag}
 use Rattle.bench_world.specs.Reading.{TellsOf, ReadAsks}
+use Rattle.bench_world.specs.Threes.{KeepsStores3, ReadAsks3, TellsRead3, TellsWrite3, ThreeTells, WriteAsks3, WriteEnd3, end_told}
 use Rattle.bench_world.specs.Writing.{TellsWrite, WriteAsks, KeepsStores, ending_told}
 use Rattle.bench_devices.specs.Answering.{FindTells}
 
@@ -175,7 +178,7 @@ pub record MayBeBusy (s : State) (id : DeviceId) (count times : ℕ) : Type 0 wh
   pub long : (1 ≤ times) × (times ≤ longest_extension)
 
 -- The conditions of a command beside its grammar, in a state. Only what is placed can be taken away, and a tag alone
--- shows what it holds, and a peer alone what it accepted. No bench reads or writes a Type 3 tag yet.
+-- shows what it holds, and a peer alone what it accepted.
 abbrev pub Accepts : State → Command → Type 0
 Accepts s Skip = Unit {0}
 Accepts s (Fates fates) = Unit {0}
@@ -194,9 +197,9 @@ Accepts s Find = Unit {0}
 Accepts s Crowd = Unit {0}
 Accepts s Poll3 = Unit {0}
 Accepts s (Read id) = Unit {0}
-Accepts s (Read3 id) = ⊥
+Accepts s (Read3 id) = Unit {0}
 Accepts s (Write id message) = Unit {0}
-Accepts s (Write3 id message) = ⊥
+Accepts s (Write3 id message) = Unit {0}
 Accepts s (Link id miu window) = MayLink miu window
 Accepts s (Forge id payloads) = MayForge payloads
 Accepts s (Put message) = length (message_of message) ≤ longest_message
@@ -286,7 +289,9 @@ changed s Find = unlinked s
 changed s Crowd = unlinked s
 changed s Poll3 = unlinked s
 changed s (Read id) = unlinked s
+changed s (Read3 id) = unlinked s
 changed s (Write id message) = unlinked s
+changed s (Write3 id message) = unlinked s
 changed s (Link id miu window) = unlinked s
 changed s (Forge id payloads) = unlinked s
 changed s c = s
@@ -297,6 +302,9 @@ abbrev pub IsAskedBy : State → Command → List Signal → Type 0
 IsAskedBy s (Read id) asked = IfPlaced (λ d. ReadAsks d asked) (asked ≡ []) (device_with (bytes_of id) s.world.field.listeners)
 IsAskedBy s (Write id message) asked =
     IfPlaced (λ d. WriteAsks (message_of message) d asked) (asked ≡ []) (device_with (bytes_of id) s.world.field.listeners)
+IsAskedBy s (Read3 id) asked = IfPlaced (λ d. ReadAsks3 id d asked) (asked ≡ []) (device_with id s.world.field.listeners)
+IsAskedBy s (Write3 id message) asked =
+    IfPlaced (λ d. WriteAsks3 id (message_of message) d asked) (asked ≡ []) (device_with id s.world.field.listeners)
 IsAskedBy s c asked = asked ≡ []
 
 -- What is due in a command that asks nothing on the open link, by what the reader knows. Nothing is sent but in a read,
@@ -306,6 +314,8 @@ due_alone g Find ns = asks (finding_all ns)
 due_alone g Crowd ns = crowding ns
 due_alone g Poll3 ns = asks (sensing ns)
 due_alone g (Read id) ns = tag_due id g.asked ns
+due_alone g (Read3 id) ns = three_due id g.asked ns
+due_alone g (Write3 id message) ns = three_due id g.asked ns
 due_alone g (Write id message) ns = tag_due id g.asked ns
 due_alone g (Link id miu window) ns = linking (DeviceId.A id) (own_general miu) ns
 due_alone g (Forge id payloads) ns = forging id payloads ns
@@ -404,6 +414,21 @@ pub record WritingLaw (s : State) (joins : Joins) (id : DeviceId) (message : Msg
   pub tells : TagTells (TellsWrite (message_of message)) id s.world.field.listeners asked events answer
   pub stores : StoresLaw s joins id message (ending_told answer) events
 
+-- Likewise of Type 3 tags. A write of one passes other stores: the one before the command, then such that say that a write is under
+-- way, then such that hold the message.
+pub record Read3Law (s : State) (joins : Joins) (id : List ℕ) (asked : List Signal) (events : List Event) (answer : Answer) : Type 0 where
+  pub tells : ThreeTells TellsRead3 id s.world.field.listeners asked events answer
+  pub stays : LeavesStable s joins (Read3 id) events
+
+pub record Stores3Law (s : State) (joins : Joins) (id : List ℕ) (message : Msg) (end : WriteEnd3) (events : List Event) : Type 0 where
+  pub law : IfPlaced (λ d. KeepsStores3 (message_of message) d end s.world.field events) (Unit {0}) (device_with id s.world.field.listeners)
+  pub others : AllKeepBut id s.world.field.listeners (world_after s joins (Write3 id message) events).field.listeners
+  pub ends : (stable (world_after s joins (Write3 id message) events)).ends ≡ (stable s.world).ends
+
+pub record Writing3Law (s : State) (joins : Joins) (id : List ℕ) (message : Msg) (asked : List Signal) (events : List Event) (answer : Answer) : Type 0 where
+  pub tells : ThreeTells (TellsWrite3 (message_of message)) id s.world.field.listeners asked events answer
+  pub stores : Stores3Law s joins id message (end_told answer) events
+
 -- A dump tells what the device with this identifier holds.
 abbrev pub DumpLaw : State → DeviceId → Answer → Type 0
 DumpLaw s id answer = OfPlaced (λ d. answer ≡ answers.Store (memory_in d)) (device_with (bytes_of id) s.world.field.listeners)
@@ -478,6 +503,8 @@ AnswerAlone s g Find events answer = FindLaw s g.joins events answer
 AnswerAlone s g Crowd events answer = CrowdLaw s g.joins events answer
 AnswerAlone s g Poll3 events answer = SenseLaw s g.joins events answer
 AnswerAlone s g (Read id) events answer = ReadLaw s g.joins id g.asked events answer
+AnswerAlone s g (Read3 id) events answer = Read3Law s g.joins id g.asked events answer
+AnswerAlone s g (Write3 id message) events answer = Writing3Law s g.joins id message g.asked events answer
 AnswerAlone s g (Write id message) events answer = WritingLaw s g.joins id message g.asked events answer
 AnswerAlone s g (Link id miu window) events answer = LinkingLaw s g.joins id miu window events answer
 AnswerAlone s g (Forge id payloads) events answer = ForgeLaw s g.joins id payloads events answer
@@ -557,6 +584,8 @@ CutAlone s joins Find cut = LeavesStable s joins Find cut
 CutAlone s joins Crowd cut = LeavesStable s joins Crowd cut
 CutAlone s joins Poll3 cut = LeavesStable s joins Poll3 cut
 CutAlone s joins (Read id) cut = LeavesStable s joins (Read id) cut
+CutAlone s joins (Read3 id) cut = LeavesStable s joins (Read3 id) cut
+CutAlone s joins (Write3 id message) cut = Stores3Law s joins id message (Err three_fault.Memory) cut
 CutAlone s joins (Write id message) cut = StoresLaw s joins id message Stopped cut
 CutAlone s joins (Link id miu window) cut = LeavesStable s joins (Link id miu window) cut
 CutAlone s joins (Forge id payloads) cut = ForgeCutLeaves (opens_link id payloads cut) s joins id payloads cut

@@ -17,7 +17,7 @@ use crate::joins::Joins;
 use crate::linking::link;
 use crate::machines::Machines;
 use crate::peers::{inbox, offer_value, place_peer};
-use crate::threes::find_threes;
+use crate::threes::{find_threes, read_tag_three, write_tag_three};
 use air_core::Field;
 use bench_devices::{Device, PoweredTag, T2Upper, T4Upper, is_named, place_of};
 use bench_script::{Command, DeviceId};
@@ -371,7 +371,8 @@ fn run_command(
         Command::Crowd => find_tags(alloc, machines),
         Command::Poll3 => find_threes(machines),
         Command::Read { id } => read_tag(alloc, machines, id),
-        Command::Read3 { .. } | Command::Write3 { .. } => Err(ObeyFault::Refused),
+        Command::Read3 { id } => read_tag_three(alloc, machines, *id),
+        Command::Write3 { id, message } => write_tag_three(alloc, machines, *id, message),
         Command::Write { id, message } => write_message(alloc, machines, id, message),
         Command::Link { id, miu, rw } => link(alloc, machines, id, *miu, *rw),
         Command::Forge { id, payloads } => {
