@@ -16,7 +16,9 @@ CONTAINER_LENGTHS = range(15, 65)
 CONTAINER_FILE = 0xE103
 LONGEST_FILE = 0x7FFF
 LARGEST_T5_STORE = 65536
-NAMES = {"t2": "a Type 2 tag", "t4": "a Type 4 tag", "t5": "a Type 5 tag", "peer": "a peer"}
+T3_BLOCK_SIZE = 16
+MOST_MESSAGE_BLOCKS = 255
+NAMES = {"t2": "a Type 2 tag", "t3": "a Type 3 tag", "t4": "a Type 4 tag", "t5": "a Type 5 tag", "peer": "a peer"}
 
 
 class NotAccepted(Exception):
@@ -55,6 +57,16 @@ class Field:
             raise NotAccepted(f"{area}, which needs {needed} blocks, and the tag has {blocks}")
         self.add(ident, Device("t2", blocks))
 
+    def place_t3(self, ident: bytes, blocks: int, head: bytes) -> None:
+        check_fits(head, T3_BLOCK_SIZE * blocks, f"{counted(blocks, 'block')} of {T3_BLOCK_SIZE} bytes")
+        attributes = head.ljust(T3_BLOCK_SIZE, b"\0")[:T3_BLOCK_SIZE]
+        named = word_at(attributes, 3)
+        is_right = word_at(attributes, 14) == sum(attributes[:14])
+        if is_right and blocks <= named <= MOST_MESSAGE_BLOCKS:
+            told = f"bytes 3 and 4 name {counted(named, 'message block')} behind block 0"
+            raise NotAccepted(f"{told}, and the tag has {counted(blocks, 'block')} in all")
+        self.add(ident, Device("t3", blocks))
+
     def place_t4(self, ident: bytes, _code: int, container: bytes, head: bytes) -> None:
         if len(container) not in CONTAINER_LENGTHS:
             raise NotAccepted(f"the container has {len(container)} bytes, and it has to have 15 to 64")
@@ -89,7 +101,7 @@ class Field:
         return found
 
     def lock(self, ident: bytes, block: int) -> None:
-        device = self.device(ident, "lock", ("t2", "t5"))
+        device = self.device(ident, "lock", ("t2", "t3", "t5"))
         if block >= device.blocks:
             told = f"{hexadecimal(ident)} has {counted(device.blocks, 'block')}"
             raise NotAccepted(f"{told}, of which {device.blocks - 1} is the last")
@@ -104,7 +116,7 @@ class Field:
         self.device(ident, "inbox", ("peer",))
 
     def dump(self, ident: bytes) -> None:
-        self.device(ident, "dump", ("t2", "t4", "t5"))
+        self.device(ident, "dump", ("t2", "t3", "t4", "t5"))
 
     def remove(self, ident: bytes) -> None:
         self.device(ident, "remove", tuple(NAMES))

@@ -9,13 +9,15 @@ from script.field import Field
 from script.kinds import Fates, Hexadecimal, Identifier, Kind, Message, Name, Number, Payload, Size
 
 NFCA_ID = Identifier((4, 7, 10), "an identifier of NFC-A, 4, 7 or 10 bytes, two hexadecimal digits a byte")
+T3_ID = Identifier((8,), "the identifier of a Type 3 tag, 8 bytes, two hexadecimal digits a byte")
 T5_ID = Identifier((8,), "the identifier of a Type 5 tag, 8 bytes, high byte first, two hexadecimal digits a byte")
-ANY_ID = Identifier((4, 7, 8, 10), "an identifier, 4, 7 or 10 bytes of NFC-A or 8 of a Type 5 tag, two digits a byte")
+ANY_ID = Identifier((4, 7, 8, 10), "an identifier, 4, 7 or 10 bytes of NFC-A or 8 of a Type 3 or Type 5 tag, two digits a byte")
 HEX = Hexadecimal()
 MSG = Message()
 MIU = Number("MIU", 128, 2175, "how many bytes of information a PDU to this end may have")
 RW = Number("RW", 1, 15, "how many I PDUs this end can take that it hasn't acknowledged")
 T2_BLOCKS = Number("BLOCKS", 4, 256, "how many blocks of 4 bytes the tag has")
+T3_BLOCKS = Number("BLOCKS", 1, 256, "how many blocks of 16 bytes the tag has")
 T5_BLOCKS = Number("BLOCKS", 1, 16384, "how many blocks the tag has")
 CODE = Number("CODE", 0, 8, "how long frames it takes, 16, 24, 32, 40, 48, 64, 96, 128 or 256 bytes by its code")
 LR = Number("LR", 0, 3, "how long frames of NFC-DEP it takes, 64, 128, 192 or 254 bytes by their code")
@@ -60,6 +62,12 @@ IN_ORDER = (
         f"{FREE}; HEX fits into the blocks, and so does the area that its bytes 12 and 14 name",
     ),
     Command(
+        "place t3",
+        (T3_ID, T3_BLOCKS, HEX),
+        Field.place_t3,
+        f"{FREE}; HEX fits into the blocks, and so do the message blocks that block 0 names where its sum is right",
+    ),
+    Command(
         "place t4",
         (NFCA_ID, CODE, HEX, HEX),
         Field.place_t4,
@@ -73,7 +81,7 @@ IN_ORDER = (
         f"{FREE}; HEX fits into the blocks, and they have at most 65536 bytes",
     ),
     Command("place peer", (NFCA_ID, LR, MIU, RW, LIMIT), Field.place_peer, FREE),
-    Command("lock", (ANY_ID, BLOCK), Field.lock, "a Type 2 or Type 5 tag with this ID has this block"),
+    Command("lock", (ANY_ID, BLOCK), Field.lock, "a Type 2, Type 3 or Type 5 tag with this ID has this block"),
     Command("busy", (ANY_ID, COUNT, TIMES), Field.busy, "a Type 4 tag or a peer with this ID is placed"),
     Command("offer", (ANY_ID, HEX, HEX), Field.offer, "a peer with this ID is placed"),
     Command("remove", (ANY_ID,), Field.remove, "a device with this ID is placed"),
@@ -81,8 +89,11 @@ IN_ORDER = (
     Command("inbox", (ANY_ID,), Field.inbox, "a peer with this ID is placed"),
     Command("find", ()),
     Command("crowd", ()),
+    Command("poll3", ()),
     Command("read", (ANY_ID,)),
+    Command("read3", (T3_ID,)),
     Command("write", (ANY_ID, MSG)),
+    Command("write3", (T3_ID, MSG)),
     Command("link", (NFCA_ID, MIU, RW)),
     Command("forge", (NFCA_ID, Payload()), most=16),
     Command("put", (MSG,)),

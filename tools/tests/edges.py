@@ -7,10 +7,11 @@ from typing import Iterator
 from script.grammar import COMMANDS, IN_ORDER
 from script.kinds import Number
 
-IDS = {"t2": "01020304", "t4": "02030405", "t5": "E004010203040506", "peer": "08010203"}
+IDS = {"t2": "01020304", "t3": "0102030405060708", "t4": "02030405", "t5": "E004010203040506", "peer": "08010203"}
 CONTAINER = "000F20003B00340406E1{:02X}{:04X}0000"
 FIELD = [
     "place t2 01020304 16 -",
+    "place t3 0102030405060708 4 -",
     f"place t4 02030405 8 {CONTAINER.format(4, 16)} -",
     "place t5 E004010203040506 4 8 -",
     "place peer 08010203 3 128 1 1024",
@@ -19,6 +20,7 @@ FIELD = [
 LEGAL = {
     "fates": "fates P",
     "place t2": "place t2 01010101 64 -",
+    "place t3": "place t3 0101010101010101 14 -",
     "place t4": f"place t4 01010101 8 {CONTAINER.format(4, 16)} -",
     "place t5": "place t5 E001010101010101 4 4 -",
     "place peer": "place peer 01010101 3 128 1 1024",
@@ -30,8 +32,11 @@ LEGAL = {
     "inbox": "inbox 08010203",
     "find": "find",
     "crowd": "crowd",
+    "poll3": "poll3",
     "read": "read 02020202",
+    "read3": "read3 0102030405060708",
     "write": "write 02020202 00",
+    "write3": "write3 0102030405060708 00",
     "link": "link 02020202 128 1",
     "forge": "forge 02020202 1120",
     "put": "put 00",
@@ -74,7 +79,7 @@ def on_each_device() -> Iterator[str]:
             at = len(name.split(" "))
             words = line.split(" ")
             yield from (" ".join(words[:at] + [ident] + words[at + 1 :]) for ident in (*IDS.values(), "0F0F0F0F"))
-    for kind, last in (("t2", 15), ("t5", 3), ("t4", 0), ("peer", 0)):
+    for kind, last in (("t2", 15), ("t3", 3), ("t5", 3), ("t4", 0), ("peer", 0)):
         yield from (f"lock {IDS[kind]} {block}" for block in (0, last, last + 1))
 
 
@@ -83,6 +88,8 @@ def identifiers() -> Iterator[str]:
         yield f"read {ident}"
         yield f"link {ident} 128 1"
         yield f"place t5 {ident} 4 4 -"
+        yield f"place t3 {ident} 4 -"
+        yield f"read3 {ident}"
     for length in range(3, 12):
         yield f"read {'0A' * length}"
         yield f"place t2 {'0A' * length} 4 -"
@@ -94,6 +101,12 @@ def contents() -> Iterator[str]:
         head = "00" * min(count * size, 1500)
         yield f"place t5 E001010101010101 {count} {size} {head}"
         yield f"place t5 E001010101010101 {count} {size} {head}00"
+    for blocks, named in ((1, 0), (1, 1), (13, 12), (13, 13), (14, 13), (256, 255), (255, 255), (1, 256)):
+        attributes = bytes([0x10, 4, 1]) + named.to_bytes(2, "big") + bytes([0, 0, 0, 0, 0, 1, 0, 0, 0])
+        for sum_of in (sum(attributes), sum(attributes) + 1):
+            yield f"place t3 0101010101010101 {blocks} {(attributes + sum_of.to_bytes(2, 'big')).hex()}"
+        yield f"place t3 0101010101010101 {blocks} {'00' * min(16 * blocks, 1500)}"
+        yield f"place t3 0101010101010101 {blocks} {'00' * min(16 * blocks + 1, 1500)}"
     for blocks, area in ((4, 0), (5, 1), (6, 1), (16, 6), (15, 6), (256, 0x7E), (255, 0x7E), (4, 0x7F), (4, 0xFF)):
         yield f"place t2 01010101 {blocks} {'00' * 12}E110{area:02X}"
         yield f"place t2 01010101 {blocks} {'00' * 12}E210{area:02X}"
@@ -132,4 +145,6 @@ def longer_scripts() -> Iterator[str]:
         yield ("put " + "0" * (length - 4)) + "\n"
     yield "remove 01020304"
     yield "\n".join([*FIELD, "remove 01020304", "place t5 E001010101010101 1 4 -", "place peer 01020304 0 128 1 1024"])
+    yield "place t5 0102030405060708 4 8 -\nplace t3 0102030405060708 4 -\n"
+    yield "place t3 0102030405060708 4 -\nplace t5 0102030405060708 4 8 -\n"
     yield "\n".join([*FIELD, "remove 01020304", "remove 01020304"])

@@ -45,7 +45,7 @@ use Rattle.bench_devices.proofs.SelectingKept.{due_asked}
 use Rattle.bench_devices.proofs.SelectingV.{next_inventory}
 
 -- each request that is due is another frame
-abbrev AsksOther : (List Note → Next) → Type 0
+abbrev pub AsksOther : (List Note → Next) → Type 0
 AsksOther due = (ns : List Note) (f : Signal) → due ns ≡ Asks f → IsOther f
 
 are_calm : (es : List Event) → EachAsked IsOther es → AreCalm devices device_linked es
@@ -55,7 +55,7 @@ are_calm (Request f x ∷ es) h = (calm_frame f h.0, are_calm es h.1)
 are_calm (Answer g x ∷ es) h = are_calm es h
 are_calm (Clash g x ∷ es) h = are_calm es h
 
-calm_due : (due : List Note → Next) → AsksOther due → IsCalmDue due
+pub calm_due : (due : List Note → Next) → AsksOther due → IsCalmDue due
 calm_due due other es each = are_calm es (due_asked IsOther due other [] es each)
 
 -- calls

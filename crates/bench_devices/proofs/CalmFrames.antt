@@ -1,7 +1,7 @@
 -- What a reader asks is no ATR_REQ: calls, inventories, blocks of ISO-DEP, and the commands of reads and writes.
 use Rattle.std.proofs.Common.{◌≡◌, ℕ, ◌+◌, ◌*◌, ◌%◌, ◌≤◌, ◌==◌, ◌&&◌, nat_lt, List, [], ◌∷◌, ◌++◌, map, length, take, drop, slice_index, Bool, true, false, if◌then◌else◌, Some, None, refl, sym, ap, subst, arith}
 use Rattle.std.specs.List.{AllByRecursion}
-use Rattle.nfc_base.specs.declared.frame.Tech.TheVariants.{V}
+use Rattle.nfc_base.specs.declared.frame.Tech.TheVariants.{V, F}
 use Rattle.nfc_base.specs.Signal.{Signal, whole_a, is_nfc_a}
 use Rattle.nfc_base.specs.TagLinks.{plain_state}
 use Rattle.t5t_tag.specs.Spelling as t5
@@ -38,9 +38,12 @@ use Rattle.bench_devices.proofs.WriteLists.{both_all, puts_both, first_all, up_t
 abbrev pub IsOther : Signal → Type 0
 IsOther f = is_atr_req f ≡ false
 
--- a frame of NFC-V, and one that begins with another byte
+-- a frame of NFC-V, one of NFC-F, and one that begins with another byte
 pub other_tech : (f : Signal) → f.tech ≡ V → IsOther f
 other_tech f h = ap (λ t. names_atr (if is_nfc_a t && (f.tail == 0) then spelled_frame f.bytes else None)) h
+
+pub other_f : (f : Signal) → f.tech ≡ F → IsOther f
+other_f f h = ap (λ t. names_atr (if is_nfc_a t && (f.tail == 0) then spelled_frame f.bytes else None)) h
 
 pub other_head : (bytes : List ℕ) → (slice_index bytes 0 == start_byte) ≡ false → IsOther (whole_a bytes)
 other_head bytes h = ap names_atr (refused bytes h)

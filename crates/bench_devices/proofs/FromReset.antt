@@ -50,7 +50,7 @@ module _ {S X : Type 0} (e : Enquiry S X) (closes : Closes e) (asks_one : (ns : 
   abbrev next : List Note → Next
   next ns = asks (from_reset e ns)
 
-  next_asked : (ns : List Note) (f : Signal) → next ns ≡ Asks f → IsHarmless f
+  pub next_asked : (ns : List Note) (f : Signal) → next ns ≡ Asks f → IsHarmless f
   next_asked [] f due = absurd (light_is_no_request f due)
   next_asked (Lit ∷ ns) f due = subst IsHarmless (sym (asks_one ns f (sym (asks_same e closes ns) ∙ due))) sensed_harmless
   next_asked (Got h ∷ ns) f due = absurd (over_is_no_request f due)

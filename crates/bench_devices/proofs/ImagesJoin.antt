@@ -78,10 +78,29 @@ held_kept id (d ∷ ds) (e ∷ es) same =
     by_name false store later = later
 
 -- events that ask for nothing but what changes no device but in its state leave the store
-still_before : (id : List ℕ) (w : BenchWorld) (es : List Event) → EachAsked IsHarmless es → AllByRecursion (λ s. s ≡ held_by (device_with id (replay air w es).listeners)) (images_before id w es)
+pub still_before : (id : List ℕ) (w : BenchWorld) (es : List Event) → EachAsked IsHarmless es → AllByRecursion (λ s. s ≡ held_by (device_with id (replay air w es).listeners)) (images_before id w es)
 still_before id w [] h = tt
 still_before id w (e ∷ es) h = (sym (held_kept id w.listeners (replay air w (e ∷ es)).listeners (events_keep (e ∷ es) w h)), still_before id (air.happens w e) es (behind e h))
   where
+    behind : (x : Event) → EachAsked IsHarmless (x ∷ es) → EachAsked IsHarmless es
+    behind Reset k = k
+    behind (Request f y) k = k.1
+    behind (Answer g y) k = k
+    behind (Clash g y) k = k
+
+-- and so do all its images
+pub images_still : (id : List ℕ) (w : BenchWorld) (es : List Event) → EachAsked IsHarmless es → AllByRecursion (λ s. s ≡ held_by (device_with id w.listeners)) (images_of id w es)
+images_still id w [] h = (refl, tt)
+images_still id w (e ∷ es) h =
+    (refl, subst (λ x. AllByRecursion (λ s. s ≡ x) (images_of id (air.happens w e) es)) (held_kept id w.listeners (air.happens w e).listeners (events_keep (e ∷ []) w (first e h)))
+    (images_still id (air.happens w e) es (behind e h)))
+  where
+    first : (x : Event) → EachAsked IsHarmless (x ∷ es) → EachAsked IsHarmless (x ∷ [])
+    first Reset k = tt
+    first (Request f y) k = (k.0, tt)
+    first (Answer g y) k = tt
+    first (Clash g y) k = tt
+
     behind : (x : Event) → EachAsked IsHarmless (x ∷ es) → EachAsked IsHarmless es
     behind Reset k = k
     behind (Request f y) k = k.1

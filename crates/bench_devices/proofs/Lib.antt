@@ -85,5 +85,7 @@ pub mod SeekingOne
 pub mod ThreeTags
 pub mod ThreeLists
 pub mod ThreePuts
+pub mod CalmThrees
 pub mod ThreeReading
 pub mod ThreeWriting
+pub mod ThreeLaw

@@ -107,7 +107,7 @@ check_harmless id first count (Peer d) = refl
 check_harmless id first count (T5 p) = refl
 check_harmless id first count (T3 p) = still_three p (check_of id first count) (check_leaves p.tag id first count) p.lit
 
-all_more : (P : Signal → Type 0) (xs : List Signal) (y : Signal) → AllByRecursion P xs → P y → AllByRecursion P (xs ++ y ∷ [])
+pub all_more : (P : Signal → Type 0) (xs : List Signal) (y : Signal) → AllByRecursion P xs → P y → AllByRecursion P (xs ++ y ∷ [])
 all_more P [] y all here = (here, tt)
 all_more P (x ∷ xs) y all here = (all.0, all_more P xs y all.1 here)
 

@@ -255,7 +255,7 @@ module _ (a : Air Device) (place : ℕ) (id : List ℕ) (d : Device) (s : Stands
   fault_told fault.BadSize fed told law (inl u) = told_all (Err fault.BadSize) u u.whole (open_start fault.BadSize tt told) (at_store (λ st. ShowsOn st (Err fault.BadSize)) law.err.0)
   fault_told fault.BadSize fed told law (inr u) = absurd u.1
   fault_told (fault.Refused status) fed told law (inl u) =
-      told_all (Err (fault.Refused status)) u u.whole (open_start (fault.Refused status) tt told) (law.err.status', law.err.block, law.err.within, law.err.locked')
+      told_all (Err (fault.Refused status)) u u.whole (open_start (fault.Refused status) tt told) (at_store (λ st. ShowsOn st (Err (fault.Refused status))) (law.err.status', law.err.takes, law.err.number, law.err.some, law.err.locked'))
   fault_told (fault.Refused status) fed told law (inr u) = absurd u.1
   fault_told fault.ReadOnly fed told law (inl u) = told_all (Err fault.ReadOnly) u u.whole told.reads.answered.over (at_store (λ st. ShowsOn st (Err fault.ReadOnly)) law.err.0)
   fault_told fault.ReadOnly fed told law (inr u) = absurd u.1

@@ -29,3 +29,4 @@ pub mod LinkLaws
 pub mod Crowding
 pub mod Sensing
 pub mod Threes
+pub mod ThreeAsking

@@ -1,7 +1,7 @@
 //! Laws of the devices. The calls do nothing: they stand for these laws.
 
 ghost use Rattle.bench_devices.specs.Keeping.{DevicesStay, ImagesStay, AsideKeeps, OthersKeep};
-ghost use Rattle.bench_devices.specs.Calm.{DevicesLink, CalmFinding, CalmCrowding, CalmSelecting, CalmReading, CalmWriting, CalmUnasked};
+ghost use Rattle.bench_devices.specs.Calm.{DevicesLink, CalmFinding, CalmCrowding, CalmSensing, CalmSelecting, CalmReading, CalmWriting, CalmUnasked, CalmReadingThree, CalmWritingThree, CalmUnaskedThree};
 ghost use Rattle.nfc_base.specs.Choosing.{Choosing};
 ghost use Rattle.far_air.specs.FarEnds.{FarTable};
 ghost use Rattle.bench_devices.specs.LinkLaws.{LinkAsks, PeerStands, OthersAside, SwapsLeave, ReadyInStep, LinkedInStep, InStepTakesRls, NoneAtRls, TurnLeaves, ReleaseLeaves, OpensFar, SelectsFar, FarLeaves};
@@ -23,10 +23,14 @@ pub fn peers_stay_unlinked()
     ensures links { DevicesLink }
     ensures find { CalmFinding }
     ensures crowd { CalmCrowding }
+    ensures sense { CalmSensing }
     ensures select { CalmSelecting }
     ensures read { CalmReading }
     ensures write { CalmWriting }
     ensures none { CalmUnasked }
+    ensures read_three { CalmReadingThree }
+    ensures write_three { CalmWritingThree }
+    ensures no_three { CalmUnaskedThree }
 {}
 
 /// While a link is opened its peer is selected first, and then asked by ATR_REQ. What is said to a peer, while all others

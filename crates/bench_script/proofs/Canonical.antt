@@ -17,7 +17,7 @@ use Rattle.hex.proofs.HexLemmas.{length-encode_with, decode_of-encode_upper, dec
 use Rattle.nfc_base.specs.declared.event.Fate.{Fate}
 use Rattle.nfc_base.specs.declared.event.Fate.TheVariants.{Pass, Damage, Lose, Break}
 use Rattle.bench_script.specs.declared.command.Command.{Command}
-use Rattle.bench_script.specs.declared.command.Command.TheVariants.{Skip, Fates, PlaceT2, PlaceT4, PlaceT5, PlacePeer, Lock, Busy, Offer, Remove, Dump, Inbox, Find, Crowd, Read, Write, Link, Forge, Put, Get, Lookup, Unlink}
+use Rattle.bench_script.specs.declared.command.Command.TheVariants.{Skip, Fates, PlaceT2, PlaceT3, PlaceT4, PlaceT5, PlacePeer, Lock, Busy, Offer, Remove, Dump, Inbox, Find, Crowd, Poll3, Read, Read3, Write, Write3, Link, Forge, Put, Get, Lookup, Unlink}
 use Rattle.bench_script.specs.declared.command.DeviceId.{DeviceId}
 use Rattle.bench_script.specs.declared.command.DeviceId.TheVariants.{A, V}
 use Rattle.bench_script.specs.declared.message.Msg.{Msg}
@@ -258,6 +258,21 @@ t2_too id n head ws (i, b, h, e, p, q, r) =
       are = (literal (codes "place") refl, (literal (codes "t2") refl, (x.is, (y.is, z.is))));
     }
 
+t3_too : (id : List ℕ) (n : ℕ) (head : List ℕ) (ws : List (List ℕ)) → SpelledBy ws (PlaceT3 id n head)
+    → AllToo (PlaceT3 id n head) ws (canonical_words (PlaceT3 id n head))
+t3_too id n head ws (i, b, h, e, p, q, r) =
+    let x = ident_v_too i id p in
+    let y = number_is b n (let most : n ≤ 256 = q.2 in omega arith) q.0 in
+    let z = hex_too h head r in
+    let first : length i ≡ length (encode_upper id) = x.size in
+    let second : length b ≡ length (decimal n) = y.size in
+    let third : length h ≡ length (hex_text head) = z.size in
+    record {
+      spells = (encode_upper id, decimal n, hex_text head, refl, x.spells, (refl, q.1, q.2), z.spells);
+      sizes = cc;
+      are = (literal (codes "place") refl, (literal (codes "t3") refl, (x.is, (y.is, z.is))));
+    }
+
 t4_too : (id : List ℕ) (n : ℕ) (container head : List ℕ) (ws : List (List ℕ)) → SpelledBy ws (PlaceT4 id n container head)
     → AllToo (PlaceT4 id n container head) ws (canonical_words (PlaceT4 id n container head))
 t4_too id n container head ws (i, b, k, h, e, p, q, t, r) =
@@ -355,6 +370,7 @@ all_too (Fates fates) ws (f, e, p) =
       are = (literal (codes "fates") refl, x.is);
     }
 all_too (PlaceT2 id n head) ws s = t2_too id n head ws s
+all_too (PlaceT3 id n head) ws s = t3_too id n head ws s
 all_too (PlaceT4 id n container head) ws s = t4_too id n container head ws s
 all_too (PlaceT5 id n size head) ws s = t5_too id n size head ws s
 all_too (PlacePeer id lr miu rw limit) ws s = peer_too id lr miu rw limit ws s
@@ -415,6 +431,24 @@ all_too (Inbox id) ws (i, e, p) =
     }
 all_too Find ws e = record { spells = refl; sizes = ap (map length) e; are = literal (codes "find") refl }
 all_too Crowd ws e = record { spells = refl; sizes = ap (map length) e; are = literal (codes "crowd") refl }
+all_too Poll3 ws e = record { spells = refl; sizes = ap (map length) e; are = literal (codes "poll3") refl }
+all_too (Read3 id) ws (i, e, p) =
+    let x = ident_v_too i id p in
+    record {
+      spells = (encode_upper id, refl, x.spells);
+      sizes = ap (map length) e ∙ ap (λ n. 5 ∷ n ∷ []) x.size;
+      are = (literal (codes "read3") refl, x.is);
+    }
+all_too (Write3 id message) ws (i, m, e, p, q) =
+    let x = ident_v_too i id p in
+    let y = message_too m message q in
+    let first : length i ≡ length (encode_upper id) = x.size in
+    let second : length m ≡ length (message_text message) = y.size in
+    record {
+      spells = (encode_upper id, message_text message, refl, x.spells, y.spells);
+      sizes = cc;
+      are = (literal (codes "write3") refl, (x.is, y.is));
+    }
 all_too (Read id) ws (i, e, p) =
     let x = id_too i id p in
     record {

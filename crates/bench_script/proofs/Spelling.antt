@@ -8,7 +8,7 @@ use Rattle.nfc_base.specs.declared.event.Fate.TheVariants.{Pass, Damage, Lose, B
 use Rattle.hex.specs.Hex.{decode_of}
 use Rattle.hex.proofs.HexLemmas.{decode_of-same}
 use Rattle.bench_script.specs.declared.command.Command.{Command}
-use Rattle.bench_script.specs.declared.command.Command.TheVariants.{Skip, Fates, PlaceT2, PlaceT4, PlaceT5, PlacePeer, Lock, Busy, Offer, Remove, Dump, Inbox, Find, Crowd, Read, Write, Link, Forge, Put, Get, Lookup, Unlink}
+use Rattle.bench_script.specs.declared.command.Command.TheVariants.{Skip, Fates, PlaceT2, PlaceT3, PlaceT4, PlaceT5, PlacePeer, Lock, Busy, Offer, Remove, Dump, Inbox, Find, Crowd, Poll3, Read, Read3, Write, Write3, Link, Forge, Put, Get, Lookup, Unlink}
 use Rattle.bench_script.specs.declared.command.DeviceId.{DeviceId}
 use Rattle.bench_script.specs.declared.command.DeviceId.TheVariants.{A, V}
 use Rattle.bench_script.specs.declared.message.Msg.{Msg}
@@ -18,7 +18,7 @@ use Rattle.bench_script.specs.declared.script.words.CommandName.TheVariants as n
 use Rattle.std.specs.Prelude.{Option, Some, None}
 use Rattle.std.proofs.lemmas.List.{length-append}
 use Rattle.bench_script.specs.Words.{CutsWord, SpellsNoHex, name_text}
-use Rattle.bench_script.specs.Script.{words_of, is_skipped, SpellsHex, SpellsIdent, SpellsIdV, SpellsId, SpellsWithin, SpellsSize, SpellsCode, SpellsBlock, fate_letter, SpellsFates, SpellsMsg, SpellsPayload, SpellEach, SpellPayloads, most_payloads, SpelledBy, Spells, least_blocks, most_blocks, least_blocks_v, most_blocks_v, least_lr, most_lr, least_miu, most_miu, least_rw, most_rw, least_limit, most_limit, least_busy, most_busy, least_times, most_times, least_acceptable, most_acceptable}
+use Rattle.bench_script.specs.Script.{words_of, is_skipped, SpellsHex, SpellsIdent, SpellsIdV, SpellsId, SpellsWithin, SpellsSize, SpellsCode, SpellsBlock, fate_letter, SpellsFates, SpellsMsg, SpellsPayload, SpellEach, SpellPayloads, most_payloads, SpelledBy, Spells, least_blocks, most_blocks, least_blocks_f, most_blocks_f, least_blocks_v, most_blocks_v, least_lr, most_lr, least_miu, most_miu, least_rw, most_rw, least_limit, most_limit, least_busy, most_busy, least_times, most_times, least_acceptable, most_acceptable}
 use Rattle.nfca_poll.specs.Ident.{IsIdent}
 use Rattle.t5t_tag.specs.Store.{IsBlockSize}
 use Rattle.std.proofs.lemmas.Bool.{ne_eqb}
@@ -218,6 +218,7 @@ abbrev key_of : Command → ℕ
 key_of Skip = 0
 key_of (Fates a) = 3408
 key_of (PlaceT2 a b c) = 10216
+key_of (PlaceT3 a b c) = 10218
 key_of (PlaceT4 a b c d) = 10220
 key_of (PlaceT5 a b c d) = 10222
 key_of (PlacePeer a b c d e) = 11630
@@ -229,8 +230,11 @@ key_of (Dump a) = 1666
 key_of (Inbox a) = 3525
 key_of Find = 1552
 key_of Crowd = 3323
+key_of Poll3 = 2446
 key_of (Read a) = 1504
+key_of (Read3 a) = 2320
 key_of (Write a b) = 3311
+key_of (Write3 a b) = 4943
 key_of (Link a b c) = 1614
 key_of (Forge a b) = 3220
 key_of (Put a) = 810
@@ -242,6 +246,7 @@ key_at : (ws : List (List ℕ)) (c : Command) → SpelledBy ws c → key_by ws �
 key_at ws Skip p = absurd p
 key_at ws (Fates a) (w, is, p) = ap key_by is
 key_at ws (PlaceT2 a b c) (w, x, y, is, p, q, r) = ap key_by is
+key_at ws (PlaceT3 a b c) (w, x, y, is, p, q, r) = ap key_by is
 key_at ws (PlaceT4 a b c d) (w, x, y, z, is, p, q, r, s) = ap key_by is
 key_at ws (PlaceT5 a b c d) (w, x, y, z, is, p, q, r, s) = ap key_by is
 key_at ws (PlacePeer a b c d e) (w, x, y, z, v, is, p, q, r, s, t) = ap key_by is
@@ -253,8 +258,11 @@ key_at ws (Dump a) (w, is, p) = ap key_by is
 key_at ws (Inbox a) (w, is, p) = ap key_by is
 key_at ws Find e = ap key_by e
 key_at ws Crowd e = ap key_by e
+key_at ws Poll3 e = ap key_by e
 key_at ws (Read a) (w, is, p) = ap key_by is
+key_at ws (Read3 a) (w, is, p) = ap key_by is
 key_at ws (Write a b) (w, x, is, p, q) = ap key_by is
+key_at ws (Write3 a b) (w, x, is, p, q) = ap key_by is
 key_at ws (Link a b c) (w, x, y, is, p, q, r) = ap key_by is
 key_at ws (Forge a b) (w, hs, is, p, q) = ap key_by is
 key_at ws (Put a) (w, is, p) = ap key_by is
@@ -300,6 +308,16 @@ spelled_alike ws (Dump i) (Dump j) key (v, e, p) (w, f, q) =
     ap (λ x. let c : Command = Dump x in c) (id_one w i j (let P : List ℕ → Type 0 = λ t. SpellsId t i in subst P same p) q)
 spelled_alike ws Find Find key p q = refl
 spelled_alike ws Crowd Crowd key p q = refl
+spelled_alike ws Poll3 Poll3 key p q = refl
+spelled_alike ws (Read3 i) (Read3 j) key (v, e, p) (w, f, q) =
+    let same : v ≡ w = ap (word 1) (sym e ∙ f) in
+    ap (λ x. let c : Command = Read3 x in c) (decode_of-same w i j (let P : List ℕ → Type 0 = λ t. SpellsIdV t i in subst P same p).0 q.0)
+spelled_alike ws (Write3 i m) (Write3 j n) key (u, v, e, p, r) (u', v', e', p', r') =
+    let first : u ≡ u' = ap (word 1) (sym e ∙ e') in
+    let second : v ≡ v' = ap (word 2) (sym e ∙ e') in
+    let ids : i ≡ j = decode_of-same u' i j (let P : List ℕ → Type 0 = λ t. SpellsIdV t i in subst P first p).0 p'.0 in
+    let messages : m ≡ n = message_one v' m n (let P : List ℕ → Type 0 = λ t. SpellsMsg t m in subst P second r) r' in
+    cc
 spelled_alike ws (Read i) (Read j) key (v, e, p) (w, f, q) =
     let same : v ≡ w = ap (word 1) (sym e ∙ f) in
     ap (λ x. let c : Command = Read x in c) (id_one w i j (let P : List ℕ → Type 0 = λ t. SpellsId t i in subst P same p) q)
@@ -342,6 +360,14 @@ spelled_alike ws (PlaceT2 i m g) (PlaceT2 j n h) key (u, v, w, e, p, r, s) (u', 
     let third : w ≡ w' = ap (word 4) (sym e ∙ e') in
     let ids : i ≡ j = ident_one u' i j (let P : List ℕ → Type 0 = λ t. SpellsIdent t i in subst P first p) p' in
     let numbers : m ≡ n = within_one least_blocks most_blocks (omega arith) v' m n (let P : List ℕ → Type 0 = λ t. SpellsWithin least_blocks most_blocks t m in subst P second r) r' in
+    let heads : g ≡ h = hex_one w' g h (let P : List ℕ → Type 0 = λ t. SpellsHex t g in subst P third s) s' in
+    cc
+spelled_alike ws (PlaceT3 i m g) (PlaceT3 j n h) key (u, v, w, e, p, r, s) (u', v', w', e', p', r', s') =
+    let first : u ≡ u' = ap (word 2) (sym e ∙ e') in
+    let second : v ≡ v' = ap (word 3) (sym e ∙ e') in
+    let third : w ≡ w' = ap (word 4) (sym e ∙ e') in
+    let ids : i ≡ j = decode_of-same u' i j (let P : List ℕ → Type 0 = λ t. SpellsIdV t i in subst P first p).0 p'.0 in
+    let numbers : m ≡ n = within_one least_blocks_f most_blocks_f (omega arith) v' m n (let P : List ℕ → Type 0 = λ t. SpellsWithin least_blocks_f most_blocks_f t m in subst P second r) r' in
     let heads : g ≡ h = hex_one w' g h (let P : List ℕ → Type 0 = λ t. SpellsHex t g in subst P third s) s' in
     cc
 spelled_alike ws (PlaceT4 i m k g) (PlaceT4 j n l h) key (u, v, w, x, e, p, r, t, s) (u', v', w', x', e', p', r', t', s') =
@@ -389,6 +415,7 @@ pub nameless : (w : List ℕ) (ws : List (List ℕ)) → ((n : CommandName) → 
 nameless w ws none some Skip p = p
 nameless w ws none some (Fates fates) (f, e, p) = none names.Fates (let h : w ≡ codes "fates" = cc in h)
 nameless w ws none some (PlaceT2 id n head) (i, b, d, e, p, q, r) = none names.Place (let h : w ≡ codes "place" = cc in h)
+nameless w ws none some (PlaceT3 id n head) (i, b, d, e, p, q, r) = none names.Place (let h : w ≡ codes "place" = cc in h)
 nameless w ws none some (PlaceT4 id n k head) (i, b, s, d, e, p, q, t, r) = none names.Place (let h : w ≡ codes "place" = cc in h)
 nameless w ws none some (PlaceT5 id n k head) (i, b, s, d, e, p, q, t, r) = none names.Place (let h : w ≡ codes "place" = cc in h)
 nameless w ws none some (PlacePeer id n k g o) (i, b, s, d, l, e, p, q, t, r, u) = none names.Place (let h : w ≡ codes "place" = cc in h)
@@ -400,6 +427,9 @@ nameless w ws none some (Dump id) (i, e, p) = none names.Dump (let h : w ≡ cod
 nameless w ws none some (Remove id) (i, e, p) = none names.Remove (let h : w ≡ codes "remove" = cc in h)
 nameless w ws none some Find e = some (let h : ws ≡ [] = cc in h)
 nameless w ws none some Crowd e = some (let h : ws ≡ [] = cc in h)
+nameless w ws none some Poll3 e = some (let h : ws ≡ [] = cc in h)
+nameless w ws none some (Read3 id) (i, e, p) = none names.Read3 (let h : w ≡ codes "read3" = cc in h)
+nameless w ws none some (Write3 id message) (i, m, e, p, q) = none names.Write3 (let h : w ≡ codes "write3" = cc in h)
 nameless w ws none some (Read id) (i, e, p) = none names.Read (let h : w ≡ codes "read" = cc in h)
 nameless w ws none some (Write id message) (i, m, e, p, q) = none names.Write (let h : w ≡ codes "write" = cc in h)
 nameless w ws none some (Link id miu rw) (i, m, v, e, p, q, r) = none names.Link (let h : w ≡ codes "link" = cc in h)
@@ -417,6 +447,14 @@ head_refused ws i b h e none (PlaceT2 id n head) (i', b', h', e', p, q, r) =
     none.none head (let P : List ℕ → Type 0 = λ t. SpellsHex t head in subst P same r)
 head_refused ws i b h e none Skip p = p
 head_refused ws i b h e none c p = omega (arith, key_at (codes "place" ∷ codes "t2" ∷ ws) c p)
+
+pub head_three_refused : (ws : List (List ℕ)) (i b h : List ℕ) → ws ≡ i ∷ b ∷ h ∷ [] → SpellsNoHex h
+    → (c : Command) → SpelledBy (codes "place" ∷ codes "t3" ∷ ws) c → ⊥
+head_three_refused ws i b h e none (PlaceT3 id n head) (i', b', h', e', p, q, r) =
+    let same : h' ≡ h = cc in
+    none.none head (let P : List ℕ → Type 0 = λ t. SpellsHex t head in subst P same r)
+head_three_refused ws i b h e none Skip p = p
+head_three_refused ws i b h e none c p = omega (arith, key_at (codes "place" ∷ codes "t3" ∷ ws) c p)
 
 -- nor do four of which the last is none
 pub four_refused : (ws : List (List ℕ)) (i b s h : List ℕ) → ws ≡ i ∷ b ∷ s ∷ h ∷ [] → SpellsNoHex h
@@ -481,6 +519,7 @@ unfolding first_byte
 hash_begins_none ws Skip p h = p
 hash_begins_none ws (Fates fates) (f, e, p) h = omega (arith, h, ap first_byte e)
 hash_begins_none ws (PlaceT2 id n head) (i, b, d, e, p, q, r) h = omega (arith, h, ap first_byte e)
+hash_begins_none ws (PlaceT3 id n head) (i, b, d, e, p, q, r) h = omega (arith, h, ap first_byte e)
 hash_begins_none ws (PlaceT4 id n k head) (i, b, s, d, e, p, q, t, r) h = omega (arith, h, ap first_byte e)
 hash_begins_none ws (PlaceT5 id n k head) (i, b, s, d, e, p, q, t, r) h = omega (arith, h, ap first_byte e)
 hash_begins_none ws (PlacePeer id n k g o) (i, b, s, d, l, e, p, q, t, r, u) h = omega (arith, h, ap first_byte e)
@@ -492,6 +531,9 @@ hash_begins_none ws (Dump id) (i, e, p) h = omega (arith, h, ap first_byte e)
 hash_begins_none ws (Remove id) (i, e, p) h = omega (arith, h, ap first_byte e)
 hash_begins_none ws Find e h = omega (arith, h, ap first_byte e)
 hash_begins_none ws Crowd e h = omega (arith, h, ap first_byte e)
+hash_begins_none ws Poll3 e h = omega (arith, h, ap first_byte e)
+hash_begins_none ws (Read3 id) (i, e, p) h = omega (arith, h, ap first_byte e)
+hash_begins_none ws (Write3 id message) (i, m, e, p, q) h = omega (arith, h, ap first_byte e)
 hash_begins_none ws (Read id) (i, e, p) h = omega (arith, h, ap first_byte e)
 hash_begins_none ws (Write id message) (i, m, e, p, q) h = omega (arith, h, ap first_byte e)
 hash_begins_none ws (Link id miu rw) (i, m, w, e, p, q, r) h = omega (arith, h, ap first_byte e)

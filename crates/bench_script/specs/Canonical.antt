@@ -6,7 +6,7 @@ use Rattle.std.specs.Fmt.{decimal}
 use Rattle.hex.specs.Hex.{encode_upper}
 use Rattle.nfc_base.specs.declared.event.Fate.{Fate}
 use Rattle.bench_script.specs.declared.command.Command.{Command}
-use Rattle.bench_script.specs.declared.command.Command.TheVariants.{Skip, Fates, PlaceT2, PlaceT4, PlaceT5, PlacePeer, Lock, Busy, Offer, Remove, Dump, Inbox, Find, Crowd, Read, Write, Link, Forge, Put, Get, Lookup, Unlink}
+use Rattle.bench_script.specs.declared.command.Command.TheVariants.{Skip, Fates, PlaceT2, PlaceT3, PlaceT4, PlaceT5, PlacePeer, Lock, Busy, Offer, Remove, Dump, Inbox, Find, Crowd, Poll3, Read, Read3, Write, Write3, Link, Forge, Put, Get, Lookup, Unlink}
 use Rattle.bench_script.specs.declared.command.DeviceId.{DeviceId}
 use Rattle.bench_script.specs.declared.message.Msg.{Msg}
 use Rattle.bench_script.specs.declared.message.Msg.TheVariants.{Hex, Gen}
@@ -44,6 +44,7 @@ abbrev pub canonical_words : Command → List (List ℕ)
 canonical_words Skip = []
 canonical_words (Fates fates) = codes "fates" ∷ fates_text fates ∷ []
 canonical_words (PlaceT2 id blocks head) = codes "place" ∷ codes "t2" ∷ encode_upper id ∷ decimal blocks ∷ hex_text head ∷ []
+canonical_words (PlaceT3 id blocks head) = codes "place" ∷ codes "t3" ∷ encode_upper id ∷ decimal blocks ∷ hex_text head ∷ []
 canonical_words (PlaceT4 id code container head) =
     codes "place" ∷ codes "t4" ∷ encode_upper id ∷ decimal code ∷ hex_text container ∷ hex_text head ∷ []
 canonical_words (PlaceT5 id blocks size head) =
@@ -58,8 +59,11 @@ canonical_words (Dump id) = codes "dump" ∷ id_text id ∷ []
 canonical_words (Inbox id) = codes "inbox" ∷ id_text id ∷ []
 canonical_words Find = codes "find" ∷ []
 canonical_words Crowd = codes "crowd" ∷ []
+canonical_words Poll3 = codes "poll3" ∷ []
 canonical_words (Read id) = codes "read" ∷ id_text id ∷ []
+canonical_words (Read3 id) = codes "read3" ∷ encode_upper id ∷ []
 canonical_words (Write id message) = codes "write" ∷ id_text id ∷ message_text message ∷ []
+canonical_words (Write3 id message) = codes "write3" ∷ encode_upper id ∷ message_text message ∷ []
 canonical_words (Link id miu rw) = codes "link" ∷ encode_upper id ∷ decimal miu ∷ decimal rw ∷ []
 canonical_words (Forge id payloads) = codes "forge" ∷ encode_upper id ∷ map encode_upper payloads
 canonical_words (Put message) = codes "put" ∷ message_text message ∷ []

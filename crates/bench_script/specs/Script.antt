@@ -10,7 +10,7 @@ use Rattle.nfc_base.specs.declared.event.Fate.TheVariants.{Pass, Damage, Lose, B
 use Rattle.nfca_poll.specs.Ident.{IsIdent}
 use Rattle.t5t_tag.specs.Store.{IsBlockSize}
 use Rattle.bench_script.specs.declared.command.Command.{Command}
-use Rattle.bench_script.specs.declared.command.Command.TheVariants.{Skip, Fates, PlaceT2, PlaceT4, PlaceT5, PlacePeer, Lock, Busy, Offer, Remove, Dump, Inbox, Find, Crowd, Read, Write, Link, Forge, Put, Get, Lookup, Unlink}
+use Rattle.bench_script.specs.declared.command.Command.TheVariants.{Skip, Fates, PlaceT2, PlaceT3, PlaceT4, PlaceT5, PlacePeer, Lock, Busy, Offer, Remove, Dump, Inbox, Find, Crowd, Poll3, Read, Read3, Write, Write3, Link, Forge, Put, Get, Lookup, Unlink}
 use Rattle.bench_script.specs.declared.command.DeviceId.{DeviceId}
 use Rattle.bench_script.specs.declared.command.DeviceId.TheVariants.{A, V}
 use Rattle.bench_script.specs.declared.message.Msg.{Msg}
@@ -32,7 +32,7 @@ SpellsHex word bytes = ((word ≡ codes "-") × (bytes ≡ [])) ⊎ ((0 < length
 abbrev pub SpellsIdent : List ℕ → List ℕ → Type 0
 SpellsIdent word id = (decode_of word ≡ Ok id) × IsIdent id
 
--- ID of a Type 5 tag: two digits of either case a byte, high byte first
+-- ID of a Type 3 or Type 5 tag: two digits of either case a byte, of Type 5 high byte first
 abbrev pub SpellsIdV : List ℕ → List ℕ → Type 0
 SpellsIdV word id = (decode_of word ≡ Ok id) × (length id ≡ 8)
 
@@ -52,7 +52,14 @@ least_blocks = 4
 abbrev pub most_blocks : ℕ
 most_blocks = 256
 
--- the same of a Type 5 tag
+-- the same of a Type 3 tag
+abbrev pub least_blocks_f : ℕ
+least_blocks_f = 1
+
+abbrev pub most_blocks_f : ℕ
+most_blocks_f = 256
+
+-- ... and of a Type 5 tag
 abbrev pub least_blocks_v : ℕ
 least_blocks_v = 1
 
@@ -194,15 +201,19 @@ abbrev pub is_skipped : List ℕ → Bool
 is_skipped [] = true
 is_skipped (b ∷ bs) = b == 35
 
--- `fates FATES`, `place t2 ID BLOCKS HEX`, `place t4 ID CODE HEX HEX`, `place t5 ID BLOCKS SIZE HEX`,
+-- `fates FATES`, `place t2 ID BLOCKS HEX`, `place t3 ID BLOCKS HEX`, `place t4 ID CODE HEX HEX`, `place t5 ID BLOCKS SIZE HEX`,
 -- `place peer ID LR MIU RW LIMIT`, `lock ID BLOCK`, `busy ID COUNT TIMES`, `offer ID HEX HEX`, `remove ID`, `dump ID`, `inbox ID`,
--- `find`, `read ID`, `write ID MSG`, `link ID MIU RW`, `forge ID HEX ..`, `put MSG`, `get N HEX`, `lookup NAME` and `unlink`
+-- `find`, `crowd`, `poll3`, `read ID`, `read3 ID`, `write ID MSG`, `write3 ID MSG`, `link ID MIU RW`, `forge ID HEX ..`, `put MSG`,
+-- `get N HEX`, `lookup NAME` and `unlink`
 abbrev pub SpelledBy : List (List ℕ) → Command → Type 0
 SpelledBy ws Skip = ⊥
 SpelledBy ws (Fates fates) = (f : List ℕ) × (ws ≡ codes "fates" ∷ f ∷ []) × SpellsFates f fates
 SpelledBy ws (PlaceT2 id blocks head) =
     (i b h : List ℕ) × (ws ≡ codes "place" ∷ codes "t2" ∷ i ∷ b ∷ h ∷ [])
     × SpellsIdent i id × SpellsWithin least_blocks most_blocks b blocks × SpellsHex h head
+SpelledBy ws (PlaceT3 id blocks head) =
+    (i b h : List ℕ) × (ws ≡ codes "place" ∷ codes "t3" ∷ i ∷ b ∷ h ∷ [])
+    × SpellsIdV i id × SpellsWithin least_blocks_f most_blocks_f b blocks × SpellsHex h head
 SpelledBy ws (PlaceT4 id code container head) =
     (i c k h : List ℕ) × (ws ≡ codes "place" ∷ codes "t4" ∷ i ∷ c ∷ k ∷ h ∷ [])
     × SpellsIdent i id × SpellsCode c code × SpellsHex k container × SpellsHex h head
@@ -224,9 +235,13 @@ SpelledBy ws (Dump id) = (i : List ℕ) × (ws ≡ codes "dump" ∷ i ∷ []) ×
 SpelledBy ws (Inbox id) = (i : List ℕ) × (ws ≡ codes "inbox" ∷ i ∷ []) × SpellsId i id
 SpelledBy ws Find = ws ≡ codes "find" ∷ []
 SpelledBy ws Crowd = ws ≡ codes "crowd" ∷ []
+SpelledBy ws Poll3 = ws ≡ codes "poll3" ∷ []
 SpelledBy ws (Read id) = (i : List ℕ) × (ws ≡ codes "read" ∷ i ∷ []) × SpellsId i id
+SpelledBy ws (Read3 id) = (i : List ℕ) × (ws ≡ codes "read3" ∷ i ∷ []) × SpellsIdV i id
 SpelledBy ws (Write id message) =
     (i m : List ℕ) × (ws ≡ codes "write" ∷ i ∷ m ∷ []) × SpellsId i id × SpellsMsg m message
+SpelledBy ws (Write3 id message) =
+    (i m : List ℕ) × (ws ≡ codes "write3" ∷ i ∷ m ∷ []) × SpellsIdV i id × SpellsMsg m message
 SpelledBy ws (Link id miu rw) =
     (i m w : List ℕ) × (ws ≡ codes "link" ∷ i ∷ m ∷ w ∷ [])
     × SpellsIdent i id × SpellsWithin least_miu most_miu m miu × SpellsWithin least_rw most_rw w rw

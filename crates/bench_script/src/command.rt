@@ -8,7 +8,8 @@ use nfc_base::{Fate, Items};
 use nfca_poll::Ident;
 use std::alloc::{AllocError, Global};
 
-/// The identifier of a device: of NFC-A, or of Type 5, whose 8 bytes stand high byte first.
+/// The identifier of a device: of NFC-A, or of Type 3 or Type 5, which have one space of 8 bytes. Those of Type 5 stand high byte
+/// first.
 #[derive(Debug, Drop, PartialEq)]
 pub enum DeviceId {
     A(Ident),
@@ -46,6 +47,12 @@ pub enum Command {
     /// Puts a Type 2 tag of so many blocks into the field; its memory begins with `head`, and the rest is 0.
     PlaceT2 {
         id: Ident,
+        blocks: u16,
+        head: Items<u8>,
+    },
+    /// Puts a Type 3 tag of so many blocks of 16 bytes into the field.
+    PlaceT3 {
+        id: [u8; 8],
         blocks: u16,
         head: Items<u8>,
     },
@@ -106,13 +113,24 @@ pub enum Command {
     Find,
     /// Finds all Type 5 tags.
     Crowd,
+    /// Polls for Type 3 tags.
+    Poll3,
     /// Reads the NDEF message of a tag.
     Read {
         id: DeviceId,
     },
+    /// Reads the NDEF message of a Type 3 tag.
+    Read3 {
+        id: [u8; 8],
+    },
     /// Puts a message in the place of the one that a tag holds.
     Write {
         id: DeviceId,
+        message: Msg,
+    },
+    /// The same of a Type 3 tag.
+    Write3 {
+        id: [u8; 8],
         message: Msg,
     },
     /// Opens a link to a peer, with this MIU and window of the reader's end.
@@ -152,6 +170,7 @@ impl Command {
             Command::Skip => Ok(Command::Skip),
             Command::Fates(fates) => copy_fates(alloc, fates.as_slice()),
             Command::PlaceT2 { id, blocks, head } => copy_t2(alloc, id, *blocks, head.as_slice()),
+            Command::PlaceT3 { id, blocks, head } => copy_t3(alloc, *id, *blocks, head.as_slice()),
             Command::PlaceT4 {
                 id,
                 code,
@@ -194,8 +213,11 @@ impl Command {
             Command::Inbox { id } => Ok(Command::Inbox { id: id.copy() }),
             Command::Find => Ok(Command::Find),
             Command::Crowd => Ok(Command::Crowd),
+            Command::Poll3 => Ok(Command::Poll3),
             Command::Read { id } => Ok(Command::Read { id: id.copy() }),
+            Command::Read3 { id } => Ok(Command::Read3 { id: *id }),
             Command::Write { id, message } => copy_write(alloc, id, message),
+            Command::Write3 { id, message } => copy_write_three(alloc, *id, message),
             Command::Link { id, miu, rw } => Ok(Command::Link {
                 id: id.copy(),
                 miu: *miu,
@@ -226,6 +248,13 @@ fn copy_t2(alloc: Global, id: &Ident, blocks: u16, head: &[u8]) -> Result<Comman
     let head = Items::from_bytes(alloc, head)?;
     let id = id.copy();
     Ok(Command::PlaceT2 { id, blocks, head })
+}
+
+fn copy_t3(alloc: Global, id: [u8; 8], blocks: u16, head: &[u8]) -> Result<Command, AllocError>
+    ensures { IfOk result (λ c. c ≡ Command.PlaceT3 id blocks head.now) }
+{
+    let head = Items::from_bytes(alloc, head)?;
+    Ok(Command::PlaceT3 { id, blocks, head })
 }
 
 fn copy_t4(
@@ -281,6 +310,13 @@ fn copy_write(alloc: Global, id: &DeviceId, message: &Msg) -> Result<Command, Al
     let message = message.copy(alloc)?;
     let id = id.copy();
     Ok(Command::Write { id, message })
+}
+
+fn copy_write_three(alloc: Global, id: [u8; 8], message: &Msg) -> Result<Command, AllocError>
+    ensures { IfOk result (λ c. c ≡ Command.Write3 id message.now) }
+{
+    let message = message.copy(alloc)?;
+    Ok(Command::Write3 { id, message })
 }
 
 fn copy_forge(alloc: Global, id: &Ident, payloads: &[Items<u8>]) -> Result<Command, AllocError>

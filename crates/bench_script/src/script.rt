@@ -25,6 +25,11 @@ const LEAST_BLOCKS: u16 = 4;
 
 const MOST_BLOCKS: u16 = 256;
 
+/// The same of a Type 3 tag, whose blocks are named in one byte too.
+const LEAST_BLOCKS_F: u16 = 1;
+
+const MOST_BLOCKS_F: u16 = 256;
+
 /// The same of a Type 5 tag: a full store in blocks of four bytes has as many.
 const LEAST_BLOCKS_V: u16 = 1;
 
@@ -124,7 +129,9 @@ fn command_line(alloc: Global, line: &[u8]) -> Result<Command, LineFault>
         Some(CommandName::Dump) => dump_line(alloc, rest),
         Some(CommandName::Inbox) => inbox_line(alloc, rest),
         Some(CommandName::Read) => read_line(alloc, rest),
+        Some(CommandName::Read3) => read_three_line(alloc, rest),
         Some(CommandName::Write) => write_line(alloc, rest),
+        Some(CommandName::Write3) => write_three_line(alloc, rest),
         Some(CommandName::Link) => link_line(alloc, rest),
         Some(CommandName::Forge) => forge_line(alloc, rest),
         Some(CommandName::Put) => put_line(alloc, rest),
@@ -144,6 +151,9 @@ fn lone_word(name: &[u8]) -> Result<Command, LineFault>
     }
     if name == b"crowd".as_slice() {
         return Ok(Command::Crowd);
+    }
+    if name == b"poll3".as_slice() {
+        return Ok(Command::Poll3);
     }
     if name == b"unlink".as_slice() {
         return Ok(Command::Unlink);
@@ -252,6 +262,18 @@ fn read_line(alloc: Global, rest: &[u8]) -> Result<Command, LineFault>
     Ok(Command::Read { id })
 }
 
+/// `read3 ID`, behind its first word.
+fn read_three_line(alloc: Global, rest: &[u8]) -> Result<Command, LineFault>
+    ensures ok { IfOk result (λ c. SpelledBy (codes "read3" ∷ words_of rest.now) c) }
+    ensures refused { IsErrOf result LineFault.Refused → SpellsNone (codes "read3" ∷ words_of rest.now) }
+{
+    let Some(word) = only_word(rest) else {
+        return Err(LineFault::Refused);
+    };
+    let id = ident_word_v(alloc, word)?;
+    Ok(Command::Read3 { id })
+}
+
 /// `write ID MSG`, behind its first word.
 fn write_line(alloc: Global, rest: &[u8]) -> Result<Command, LineFault>
     ensures ok { IfOk result (λ c. SpelledBy (codes "write" ∷ words_of rest.now) c) }
@@ -265,6 +287,19 @@ fn write_line(alloc: Global, rest: &[u8]) -> Result<Command, LineFault>
     Ok(Command::Write { id, message })
 }
 
+/// `write3 ID MSG`, behind its first word.
+fn write_three_line(alloc: Global, rest: &[u8]) -> Result<Command, LineFault>
+    ensures ok { IfOk result (λ c. SpelledBy (codes "write3" ∷ words_of rest.now) c) }
+    ensures refused { IsErrOf result LineFault.Refused → SpellsNone (codes "write3" ∷ words_of rest.now) }
+{
+    let Some((id_text, message_text)) = two_words(rest) else {
+        return Err(LineFault::Refused);
+    };
+    let id = ident_word_v(alloc, id_text)?;
+    let message = message_word(alloc, message_text)?;
+    Ok(Command::Write3 { id, message })
+}
+
 /// `place KIND ..`, behind its first word.
 fn place_line(alloc: Global, rest: &[u8]) -> Result<Command, LineFault>
     ensures ok { IfOk result (λ c. SpelledBy (codes "place" ∷ words_of rest.now) c) }
@@ -276,6 +311,7 @@ fn place_line(alloc: Global, rest: &[u8]) -> Result<Command, LineFault>
     };
     match kind {
         b"t2" => place_t2(alloc, more),
+        b"t3" => place_t3(alloc, more),
         b"t4" => place_t4(alloc, more),
         b"t5" => place_t5(alloc, more),
         b"peer" => place_peer(alloc, more),
@@ -295,6 +331,20 @@ fn place_t2(alloc: Global, rest: &[u8]) -> Result<Command, LineFault>
     let blocks = within_word(alloc, blocks_text, LEAST_BLOCKS, MOST_BLOCKS)?;
     let head = hex_word(alloc, head_text)?;
     Ok(Command::PlaceT2 { id, blocks, head })
+}
+
+/// `place t3 ID BLOCKS HEX`, behind its second word.
+fn place_t3(alloc: Global, rest: &[u8]) -> Result<Command, LineFault>
+    ensures ok { IfOk result (λ c. SpelledBy (codes "place" ∷ codes "t3" ∷ words_of rest.now) c) }
+    ensures refused { IsErrOf result LineFault.Refused → SpellsNone (codes "place" ∷ codes "t3" ∷ words_of rest.now) }
+{
+    let Some((id_text, blocks_text, head_text)) = three_words(rest) else {
+        return Err(LineFault::Refused);
+    };
+    let id = ident_word_v(alloc, id_text)?;
+    let blocks = within_word(alloc, blocks_text, LEAST_BLOCKS_F, MOST_BLOCKS_F)?;
+    let head = hex_word(alloc, head_text)?;
+    Ok(Command::PlaceT3 { id, blocks, head })
 }
 
 /// `place t4 ID CODE HEX HEX`, behind its second word.

@@ -38,6 +38,10 @@ impl Command {
                 add_place(line, b"t2", id.view(), *blocks as u32)?;
                 add_hex(line, head.as_slice())
             }
+            Command::PlaceT3 { id, blocks, head } => {
+                add_place(line, b"t3", id.as_slice(), *blocks as u32)?;
+                add_hex(line, head.as_slice())
+            }
             Command::PlaceT4 {
                 id,
                 code,
@@ -84,9 +88,19 @@ impl Command {
             Command::Inbox { id } => add_named(line, b"inbox", id),
             Command::Find => line.extend_from_slice(b"find"),
             Command::Crowd => line.extend_from_slice(b"crowd"),
+            Command::Poll3 => line.extend_from_slice(b"poll3"),
             Command::Read { id } => add_named(line, b"read", id),
+            Command::Read3 { id } => {
+                line.extend_from_slice(b"read3")?;
+                add_digits(line, id.as_slice())
+            }
             Command::Write { id, message } => {
                 add_named(line, b"write", id)?;
+                add_message(line, message)
+            }
+            Command::Write3 { id, message } => {
+                line.extend_from_slice(b"write3")?;
+                add_digits(line, id.as_slice())?;
                 add_message(line, message)
             }
             Command::Link { id, miu, rw } => {

@@ -11,6 +11,7 @@ use Rattle.bench_world.proofs.LinkKept.{keeps_so, open_on}
 use Rattle.bench_world.specs.Obeying.{Machines, untraced, state_at, IsSettled, ObeyedBy, IsCutOff, IsCutOffBy, Benched, Adds, Obeys, Spoils, LacksMemory}
 use Rattle.bench_world.proofs.Numbers.{none_for}
 use Rattle.bench_world.proofs.Unfinished.{unfinished}
+use Rattle.bench_world.proofs.WellStored.{stored_step}
 
 -- what contracts see of a bench with this journal and these machines
 abbrev pub seen : List (List Entry) → List Entry → Machines → Bool → Benched
@@ -67,8 +68,11 @@ adds_entry old rs a b k js ks c answer e joins most other is settled o left adde
     as_obeys old (seen rs ks k false) e.line c other (subst A (sym is) it)
 
 -- Behind a command that was obeyed the bench is settled again, once its events are taken.
-pub settled_untraced : (joins : Joins) (a b : Machines) (c : Command) (answer : Answer) → ObeyedBy joins a b c answer → IsSettled (untraced b)
-settled_untraced joins a b c answer o = record {
+pub settled_untraced : (joins : Joins) (a b : Machines) (c : Command) (answer : Answer) → IsSettled a → ObeyedBy joins a b c answer → IsSettled (untraced b)
+settled_untraced joins a b c answer settled o = record {
+  stored =
+      stored_step (state_at a) (state_at b) o.given (record { line = 0; command = c; events = b.air.trace; answer = answer }) (record { front = o.front; over = o.over; answered = o.answered })
+      settled.idle.tame.sound settled.stored;
   idle = record { quiet = refl; tame = o.tame; tidy = o.tidy };
   places = record { ends = o.places.ends; numbers = o.places.numbers; served = o.places.served; apart = o.places.apart };
   link = keeps_so b (untraced b) refl (λ l at k. open_on b.air (untraced b).air b.ends b.peers l refl refl k) o.link;

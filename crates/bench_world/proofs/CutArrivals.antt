@@ -19,7 +19,7 @@ use Rattle.link_calls.specs.Arriving.{Arrives, ArrivesCut, StopsAtLast, all_answ
 use Rattle.snep_core.specs.Talk.{Puts, Gets, Finds}
 use Rattle.link_calls.specs.Asking.{LinkAsking, Does, Closes}
 use Rattle.bench_script.specs.declared.command.Command.{Command}
-use Rattle.bench_script.specs.declared.command.Command.TheVariants.{Find, Crowd, Read, Write, Link, Forge, Put, Get, Lookup, Unlink}
+use Rattle.bench_script.specs.declared.command.Command.TheVariants.{Find, Crowd, Poll3, Read, Read3, Write, Write3, Link, Forge, Put, Get, Lookup, Unlink}
 use Rattle.bench_script.specs.Messages.{message_of}
 use Rattle.bench_world.specs.World.{FarEnd}
 use Rattle.bench_world.specs.Arrivals.{Arrival, arrival_marks, arrivals_of, end_at, end_behind, giving_values}
@@ -290,8 +290,11 @@ module _ (s t : State) (g : Given) (cut : List Event) (ys : List Story) (h : Kep
   front_by : (c : Command) → FrontOf s g c cut None t → CutStores s g.joins c cut → Goal c
   front_by Find front stores = unlinked_front s t g.joins Find cut ys h refl refl
   front_by Crowd front stores = unlinked_front s t g.joins Crowd cut ys h refl refl
+  front_by Poll3 front stores = unlinked_front s t g.joins Poll3 cut ys h refl refl
   front_by (Read id) front stores = unlinked_front s t g.joins (Read id) cut ys h refl refl
   front_by (Write id m) front stores = unlinked_front s t g.joins (Write id m) cut ys h refl refl
+  front_by (Read3 id) front stores = unlinked_front s t g.joins (Read3 id) cut ys h refl refl
+  front_by (Write3 id m) front stores = unlinked_front s t g.joins (Write3 id m) cut ys h refl refl
   front_by (Link id miu window) front stores = unlinked_front s t g.joins (Link id miu window) cut ys h refl refl
   front_by (Forge id payloads) front stores = by (opens_link id payloads cut) refl stores
     where

@@ -6,7 +6,7 @@ use Rattle.nfc_base.specs.declared.event.Event.{Event}
 use Rattle.nfc_base.specs.declared.event.Fate.{Fate}
 use Rattle.air_core.specs.Conversation.{queue_after}
 use Rattle.bench_script.specs.declared.command.Command.{Command}
-use Rattle.bench_script.specs.declared.command.Command.TheVariants.{Find, Crowd, Read, Write, Link, Forge, Put, Get, Lookup, Unlink}
+use Rattle.bench_script.specs.declared.command.Command.TheVariants.{Find, Crowd, Poll3, Read, Read3, Write, Write3, Link, Forge, Put, Get, Lookup, Unlink}
 use Rattle.bench_devices.specs.declared.device.Device.{Device}
 use Rattle.bench_devices.specs.Keeping.{Kept, AllStayDevices, IsSound, StaysDevice, kept}
 use Rattle.bench_world.specs.declared.entry.Answer.TheVariants as answers
@@ -64,10 +64,16 @@ module _ (w : WholeWorld) (q : List Fate) (p : Peers) (ys : List Story) (g : Giv
       after_front o Find es t front (reset w q p ys o stand g None Find es refl refl refl refl refl (same_held (world_after (from o) g.joins Find es) w (ap (λ (z : Stable). z.ends) stores)))
   front_by o Crowd es t stand front stores =
       after_front o Crowd es t front (reset w q p ys o stand g None Crowd es refl refl refl refl refl (same_held (world_after (from o) g.joins Crowd es) w (ap (λ (z : Stable). z.ends) stores)))
+  front_by o Poll3 es t stand front stores =
+      after_front o Poll3 es t front (reset w q p ys o stand g None Poll3 es refl refl refl refl refl (same_held (world_after (from o) g.joins Poll3 es) w (ap (λ (z : Stable). z.ends) stores)))
   front_by o (Read id) es t stand front stores =
       after_front o (Read id) es t front (reset w q p ys o stand g None (Read id) es refl refl refl refl refl (same_held (world_after (from o) g.joins (Read id) es) w (ap (λ (z : Stable). z.ends) stores)))
   front_by o (Write id m) es t stand front stores =
       after_front o (Write id m) es t front (reset w q p ys o stand g None (Write id m) es refl refl refl refl refl (same_held (world_after (from o) g.joins (Write id m) es) w stores.ends))
+  front_by o (Read3 id) es t stand front stores =
+      after_front o (Read3 id) es t front (reset w q p ys o stand g None (Read3 id) es refl refl refl refl refl (same_held (world_after (from o) g.joins (Read3 id) es) w (ap (λ (z : Stable). z.ends) stores)))
+  front_by o (Write3 id m) es t stand front stores =
+      after_front o (Write3 id m) es t front (reset w q p ys o stand g None (Write3 id m) es refl refl refl refl refl (same_held (world_after (from o) g.joins (Write3 id m) es) w stores.ends))
   front_by o (Link id miu window) es t stand front stores =
       let c : Command = Link id miu window in
       after_front o c es t front (reset w q p ys o stand g None c es refl refl refl refl refl (same_held (world_after (from o) g.joins c es) w (ap (λ (z : Stable). z.ends) stores)))

@@ -21,7 +21,7 @@ use Rattle.peer_air.specs.PeerFars.{peer_ends}
 use Rattle.peer_air.proofs.PeerEnds.{are_far_ends}
 use Rattle.snep_core.specs.Server.{serving}
 use Rattle.bench_script.specs.declared.command.Command.{Command}
-use Rattle.bench_script.specs.declared.command.Command.TheVariants.{Find, Crowd, Read, Write, Link, Forge, Put, Get, Lookup, Unlink}
+use Rattle.bench_script.specs.declared.command.Command.TheVariants.{Find, Crowd, Poll3, Read, Read3, Write, Write3, Link, Forge, Put, Get, Lookup, Unlink}
 use Rattle.bench_script.specs.declared.command.DeviceId.{DeviceId}
 use Rattle.bench_script.specs.declared.command.DeviceId.TheVariants.{A, V}
 use Rattle.bench_script.specs.DeviceIds.{bytes_of}
@@ -35,7 +35,12 @@ use Rattle.bench_devices.specs.Reading.{AsksOf}
 use Rattle.bench_devices.specs.TagAsking.{tag_due}
 use Rattle.bench_devices.specs.Writing.{AsksWriteOf}
 use Rattle.bench_devices.proofs.CalmDues.{calm_finding, calm_crowding, calm_reading, calm_writing, calm_unasked}
+use Rattle.bench_devices.proofs.CalmThrees.{calm_sensing, calm_reading_three, calm_writing_three, calm_unasked_three}
 use Rattle.bench_devices.proofs.PeerLinks.{devices_link}
+use Rattle.bench_devices.specs.Device.{device_locks, device_store}
+use Rattle.bench_devices.specs.ThreeAsking.{three_due}
+use Rattle.bench_devices.specs.Threes.{ReadAsksThree, WriteAsksThreeOf}
+use Rattle.bench_world.specs.Threes.{IfThree, ReadAsks3, WriteAsks3}
 use Rattle.bench_world.specs.Reading.{ReadAsks}
 use Rattle.bench_world.specs.Writing.{WriteAsks}
 use Rattle.bench_devices.specs.Keeping.{AllStayDevices}
@@ -78,6 +83,19 @@ writes_calm m (Some d) asked id is = by_kind (kind_of d) is
     by_kind T3Kind none = subst (λ a. IsCalmDue (tag_due id a)) (sym none) (calm_unasked.1 id)
     by_kind PeerKind none = subst (λ a. IsCalmDue (tag_due id a)) (sym none) (calm_unasked.1 id)
 
+-- likewise of a Type 3 tag
+three_calm : (IsAll : Device → List Signal → Type 0) (id : List ℕ) (asked : List Signal) → ((d : Device) → IsAll d asked → IsCalmDue (three_due id asked)) → (o : Option Device)
+    → IfPlaced (λ d. IfThree (kind_of d) (IsAll d asked) (asked ≡ [])) (asked ≡ []) o → IsCalmDue (three_due id asked)
+three_calm IsAll id asked says None none = subst (λ a. IsCalmDue (three_due id a)) (sym none) (calm_unasked_three id)
+three_calm IsAll id asked says (Some d) is = by_kind (kind_of d) is
+  where
+    by_kind : (k : DeviceKind) → IfThree k (IsAll d asked) (asked ≡ []) → IsCalmDue (three_due id asked)
+    by_kind T2Kind none = subst (λ a. IsCalmDue (three_due id a)) (sym none) (calm_unasked_three id)
+    by_kind T3Kind a = says d a
+    by_kind T4Kind none = subst (λ a. IsCalmDue (three_due id a)) (sym none) (calm_unasked_three id)
+    by_kind PeerKind none = subst (λ a. IsCalmDue (three_due id a)) (sym none) (calm_unasked_three id)
+    by_kind T5Kind none = subst (λ a. IsCalmDue (three_due id a)) (sym none) (calm_unasked_three id)
+
 nothing_due : (es before : List Event) → EachDue (λ ns. Over) before es → AreCalm devices device_linked es
 nothing_due [] before each = tt
 nothing_due (Reset ∷ es) before each = nothing_due es (before ++ Reset ∷ []) each.1
@@ -88,8 +106,14 @@ nothing_due (Clash g x ∷ es) before each = nothing_due es (before ++ Clash g x
 calm_due : (s : State) (g : Given) (c : Command) (es : List Event) → (UsesFars c → ⊥) → IsAskedBy s c g.asked → EachDue (due s g c) [] es → AreCalm devices device_linked es
 calm_due s g Find es quiet asked each = calm_finding es each
 calm_due s g Crowd es quiet asked each = calm_crowding es each
+calm_due s g Poll3 es quiet asked each = calm_sensing es each
 calm_due s g (Read id) es quiet asked each = reads_calm (device_with (bytes_of id) s.world.field.listeners) g.asked id asked es each
 calm_due s g (Write id m) es quiet asked each = writes_calm (message_of m) (device_with (bytes_of id) s.world.field.listeners) g.asked id asked es each
+calm_due s g (Read3 id) es quiet asked each =
+    three_calm (λ d cs. ReadAsksThree id (device_store d) cs) id g.asked (λ d is. calm_reading_three id (device_store d) g.asked is) (device_with id s.world.field.listeners) asked es each
+calm_due s g (Write3 id m) es quiet asked each =
+    three_calm (λ d cs. WriteAsksThreeOf id (message_of m) d cs) id g.asked (λ d is. calm_writing_three id (device_store d) (device_locks d) (message_of m) g.asked is)
+    (device_with id s.world.field.listeners) asked es each
 calm_due s g (Link id miu window) es quiet asked each = absurd (quiet tt)
 calm_due s g (Forge id payloads) es quiet asked each = absurd (quiet tt)
 calm_due s g (Put m) es quiet asked each = absurd (quiet tt)
@@ -102,10 +126,13 @@ calm_due s g c es quiet asked each = nothing_due es [] each
 begins_lit : (s : State) (g : Given) (c : Command) → (UsesFars c → ⊥) → (due s g c [] ≡ Over) ⊎ (due s g c [] ≡ LightUp)
 begins_lit s g Find quiet = inr refl
 begins_lit s g Crowd quiet = inr refl
+begins_lit s g Poll3 quiet = inr refl
 begins_lit s g (Read (A id)) quiet = inr refl
 begins_lit s g (Read (V id)) quiet = inr refl
 begins_lit s g (Write (A id) message) quiet = inr refl
 begins_lit s g (Write (V id) message) quiet = inr refl
+begins_lit s g (Read3 id) quiet = inr refl
+begins_lit s g (Write3 id message) quiet = inr refl
 begins_lit s g (Link id miu window) quiet = absurd (quiet tt)
 begins_lit s g (Forge id payloads) quiet = absurd (quiet tt)
 begins_lit s g (Put m) quiet = absurd (quiet tt)

@@ -12,7 +12,7 @@ use Rattle.air_core.specs.Conversation.{Note, Over, LightUp, Asks, AreTurns, Eac
 use Rattle.air_core.proofs.Following.{trace_first}
 use Rattle.t5t_tag.proofs.Bytes.{equal_bytes}
 use Rattle.bench_script.specs.declared.command.Command.{Command}
-use Rattle.bench_script.specs.declared.command.Command.TheVariants.{Skip, Fates, PlaceT2, PlaceT4, PlaceT5, PlacePeer, Lock, Busy, Offer, Remove, Dump, Inbox, Find, Crowd, Read, Write, Link, Forge, Put, Get, Lookup, Unlink}
+use Rattle.bench_script.specs.declared.command.Command.TheVariants.{Skip, Fates, PlaceT2, PlaceT3, PlaceT4, PlaceT5, PlacePeer, Lock, Busy, Offer, Remove, Dump, Inbox, Find, Crowd, Poll3, Read, Read3, Write, Write3, Link, Forge, Put, Get, Lookup, Unlink}
 use Rattle.bench_script.specs.declared.command.DeviceId.{DeviceId}
 use Rattle.bench_script.specs.DeviceIds.{bytes_of}
 use Rattle.bench_devices.specs.declared.device.Device.{Device}
@@ -22,7 +22,7 @@ use Rattle.bench_devices.specs.Keeping.{Fixed, fixed, Kept, kept, AllStayDevices
 use Rattle.bench_devices.specs.Placed.{device_with, without, with_changed}
 use Rattle.bench_world.specs.declared.entry.Entry.{Entry}
 use Rattle.bench_world.specs.World.{WholeWorld, bench_air, Stable, stable}
-use Rattle.bench_world.specs.Legal.{State, Given, AnswerLaw, ReadLaw, FindLaw, CrowdLaw, WritingLaw, LinkingLaw, CallLaw, AnswerBy, LegalStep, EachLegal, begun, changed, due, due_by, world_after, state_after}
+use Rattle.bench_world.specs.Legal.{State, Given, AnswerLaw, ReadLaw, FindLaw, CrowdLaw, SenseLaw, Read3Law, WritingLaw, Writing3Law, LinkingLaw, CallLaw, AnswerBy, LegalStep, EachLegal, begun, changed, due, due_by, world_after, state_after}
 use Rattle.bench_world.specs.Behind.{Touches, LeaveAlone}
 use Rattle.snep_core.specs.Talk.{Puts, Gets, Finds}
 use Rattle.bench_script.specs.Messages.{message_of}
@@ -194,24 +194,26 @@ busy_own count times (Peer d) = refl
 busy_own count times (T5 p) = refl
 busy_own count times (T3 p) = refl
 
+-- A step of a command that asks nothing leads to what the command itself changed.
+pub nothing_happened : (s t : State) (g : Given) (e : Entry) → LegalStep s g e t → (c : Command) → e.command ≡ c → ((ns : List Note) → due s g c ns ≡ Over) → t ≡ state_after s g.joins c [] (Some e.answer)
+nothing_happened s t g e step c is over =
+    let each : EachDue (due s g c) [] e.events = subst (λ k. EachDue (due s g k) [] e.events) is step.front.each in
+    let turns : AreTurns bench_air (begun s g.joins c) e.events = subst (λ k. AreTurns bench_air (begun s g.joins k) e.events) is step.front.turns in
+    let none : e.events ≡ [] = nothing_sent (begun s g.joins c) e.events turns (over_all e.events [] each) in
+    step.front.after ∙ ap (λ k. state_after s g.joins k e.events (Some e.answer)) is ∙ ap (λ es. state_after s g.joins c es (Some e.answer)) none
+  where
+    over_all : (es before : List Event) → EachDue (due s g c) before es → EachDue (λ ns. Over) before es
+    over_all [] before q = tt
+    over_all (Reset ∷ es) before q = (sym (over _) ∙ q.0, over_all es (before ++ Reset ∷ []) q.1)
+    over_all (Request f x ∷ es) before q = (sym (over _) ∙ q.0, over_all es (before ++ Request f x ∷ []) q.1)
+    over_all (Answers f x ∷ es) before q = over_all es (before ++ Answers f x ∷ []) q
+    over_all (Clash f x ∷ es) before q = over_all es (before ++ Clash f x ∷ []) q
+
 -- So it is through a legal step.
 module _ (id : DeviceId) (s t : State) (g : Given) (e : Entry) (d : Device) (step : LegalStep s g e t) (found : device_with (bytes_of id) s.world.field.listeners ≡ Some d) where
   -- what the command itself changed, where it asks nothing
   quiet_step : (c : Command) → e.command ≡ c → ((ns : List Note) → due s g c ns ≡ Over) → IsAlike (bytes_of id) d (changed s c).world.field.listeners → IsAlike (bytes_of id) d t.world.field.listeners
-  quiet_step c is over alike =
-      let each : EachDue (due s g c) [] e.events = subst (λ k. EachDue (due s g k) [] e.events) is step.front.each in
-      let turns : AreTurns bench_air (begun s g.joins c) e.events = subst (λ k. AreTurns bench_air (begun s g.joins k) e.events) is step.front.turns in
-      let none : e.events ≡ [] = nothing_sent (begun s g.joins c) e.events turns (over_all e.events [] each) in
-      let after : t ≡ state_after s g.joins c [] (Some e.answer) =
-      step.front.after ∙ ap (λ k. state_after s g.joins k e.events (Some e.answer)) is ∙ ap (λ es. state_after s g.joins c es (Some e.answer)) none in
-      subst (λ (x : State). IsAlike (bytes_of id) d x.world.field.listeners) (sym after) alike
-    where
-      over_all : (es before : List Event) → EachDue (due s g c) before es → EachDue (λ ns. Over) before es
-      over_all [] before q = tt
-      over_all (Reset ∷ es) before q = (sym (over _) ∙ q.0, over_all es (before ++ Reset ∷ []) q.1)
-      over_all (Request f x ∷ es) before q = (sym (over _) ∙ q.0, over_all es (before ++ Request f x ∷ []) q.1)
-      over_all (Answers f x ∷ es) before q = over_all es (before ++ Answers f x ∷ []) q
-      over_all (Clash f x ∷ es) before q = over_all es (before ++ Clash f x ∷ []) q
+  quiet_step c is over alike = subst (λ (x : State). IsAlike (bytes_of id) d x.world.field.listeners) (sym (nothing_happened s t g e step c is over)) alike
 
   -- what was asked changed no store
   asking_step : (c : Command) → e.command ≡ c → (changed s c).world.field ≡ s.world.field → (stable (world_after s g.joins c e.events)).devices ≡ (stable (changed s c).world).devices
@@ -247,6 +249,7 @@ module _ (id : DeviceId) (s t : State) (g : Given) (e : Entry) (d : Device) (ste
   by_command Skip is alone = absurd (law_of Skip is)
   by_command (Fates fates) is alone = quiet_step (Fates fates) is (λ ns. refl) (still_found (bytes_of id) s.world.field.listeners d found)
   by_command (PlaceT2 i blocks head) is alone = quiet_step (PlaceT2 i blocks head) is (λ ns. refl) (more_found (bytes_of id) s.world.field.listeners _ d found)
+  by_command (PlaceT3 i blocks head) is alone = quiet_step (PlaceT3 i blocks head) is (λ ns. refl) (more_found (bytes_of id) s.world.field.listeners _ d found)
   by_command (PlaceT4 i code container head) is alone = quiet_step (PlaceT4 i code container head) is (λ ns. refl) (more_found (bytes_of id) s.world.field.listeners _ d found)
   by_command (PlaceT5 i blocks size head) is alone = quiet_step (PlaceT5 i blocks size head) is (λ ns. refl) (more_found (bytes_of id) s.world.field.listeners _ d found)
   by_command (PlacePeer i lr miu rw limit) is alone = quiet_step (PlacePeer i lr miu rw limit) is (λ ns. refl) (more_found (bytes_of id) s.world.field.listeners _ d found)
@@ -260,6 +263,13 @@ module _ (id : DeviceId) (s t : State) (g : Given) (e : Entry) (d : Device) (ste
   by_command (Inbox i) is alone = quiet_step (Inbox i) is (λ ns. refl) (still_found (bytes_of id) s.world.field.listeners d found)
   by_command Find is alone = let law : FindLaw s g.joins e.events e.answer = law_of Find is in asking_step Find is refl (ap (λ (z : Stable). z.devices) law.stays)
   by_command Crowd is alone = let law : CrowdLaw s g.joins e.events e.answer = law_of Crowd is in asking_step Crowd is refl (ap (λ (z : Stable). z.devices) law.stays)
+  by_command Poll3 is alone = let law : SenseLaw s g.joins e.events e.answer = law_of Poll3 is in asking_step Poll3 is refl (ap (λ (z : Stable). z.devices) law.stays)
+  by_command (Read3 i) is alone = let law : Read3Law s g.joins i g.asked e.events e.answer = law_of (Read3 i) is in asking_step (Read3 i) is refl (ap (λ (z : Stable). z.devices) law.stays)
+  by_command (Write3 i m) is alone =
+      let law : Writing3Law s g.joins i m g.asked e.events e.answer = law_of (Write3 i m) is in
+      let after : t ≡ state_after s g.joins (Write3 i m) e.events (Some e.answer) = step.front.after ∙ ap (λ k. state_after s g.joins k e.events (Some e.answer)) is in
+      subst (λ (x : State). IsAlike (bytes_of id) d x.world.field.listeners) (sym after)
+      (beside_found (bytes_of id) i alone s.world.field.listeners (world_after s g.joins (Write3 i m) e.events).field.listeners d law.stores.others found)
   by_command (Read i) is alone = let law : ReadLaw s g.joins i g.asked e.events e.answer = law_of (Read i) is in asking_step (Read i) is refl (ap (λ (z : Stable). z.devices) law.stays)
   by_command (Write i m) is alone =
       let law : WritingLaw s g.joins i m g.asked e.events e.answer = law_of (Write i m) is in

@@ -13,6 +13,7 @@ pub mod Ranges
 pub mod Reached
 pub mod Telling
 pub mod Legality
+pub mod Senses
 pub mod OpensHere
 pub mod Restarted
 pub mod LinkHere
@@ -26,12 +27,16 @@ mod FirstBroken
 pub mod BrokenRead
 pub mod Complete
 pub mod CompleteTags
+pub mod CompleteThrees
 pub mod CompleteLinks
 pub mod OneForm
 pub mod WriteTelling
 pub mod WriteBehind
 pub mod WriteLegality
 pub mod HeldOn
+pub mod WellStored
+pub mod ThreeTelling
+pub mod ThreeLegality
 pub mod ReadBehind
 pub mod OneAnswer
 pub mod QuietHearing

@@ -9,7 +9,7 @@ use Rattle.llcp_link.specs.State.{restarted}
 use Rattle.snep_core.specs.Server.{Received as Accepted, serving}
 use Rattle.snep_core.specs.Talk.{Puts, Gets, Finds}
 use Rattle.bench_script.specs.declared.command.Command.{Command}
-use Rattle.bench_script.specs.declared.command.Command.TheVariants.{Skip, Fates, PlaceT2, PlaceT4, PlaceT5, PlacePeer, Lock, Busy, Offer, Remove, Dump, Inbox, Find, Crowd, Read, Write, Link, Forge, Put, Get, Lookup, Unlink}
+use Rattle.bench_script.specs.declared.command.Command.TheVariants.{Skip, Fates, PlaceT2, PlaceT3, PlaceT4, PlaceT5, PlacePeer, Lock, Busy, Offer, Remove, Dump, Inbox, Find, Crowd, Poll3, Read, Read3, Write, Write3, Link, Forge, Put, Get, Lookup, Unlink}
 use Rattle.bench_script.specs.declared.command.DeviceId.{DeviceId}
 use Rattle.bench_script.specs.DeviceIds.{bytes_of}
 use Rattle.bench_script.specs.Messages.{message_of}
@@ -316,6 +316,11 @@ module _ (w : WholeWorld) (q : List Fate) (p : Peers) (ys : List Story) (g : Giv
       quietly w q p ys o stand g (Some a) c es t front (nothing_sent (begun (from o) g.joins c) es front.turns front.each)
       (tag_placed w q p ys o stand g (Some a) c es refl refl refl refl (ap (λ ks. record { numbers = p.numbers ++ None ∷ []; placed = next_number p; links = p.links; held = ks }) (map-append held w.fars (None ∷ [])))
       (places_more w.field.listeners _ p.numbers None w.fars None (many_numbers (from o) ys stand) (λ peer. absurd cc) stand.places))
+  step_by o (PlaceT3 id blocks head) es t stand front law =
+      let c : Command = PlaceT3 id blocks head in
+      quietly w q p ys o stand g (Some a) c es t front (nothing_sent (begun (from o) g.joins c) es front.turns front.each)
+      (tag_placed w q p ys o stand g (Some a) c es refl refl refl refl (ap (λ ks. record { numbers = p.numbers ++ None ∷ []; placed = next_number p; links = p.links; held = ks }) (map-append held w.fars (None ∷ [])))
+      (places_more w.field.listeners _ p.numbers None w.fars None (many_numbers (from o) ys stand) (λ peer. absurd cc) stand.places))
   step_by o (PlaceT5 id blocks size head) es t stand front law =
       let c : Command = PlaceT5 id blocks size head in
       quietly w q p ys o stand g (Some a) c es t front (nothing_sent (begun (from o) g.joins c) es front.turns front.each)
@@ -348,6 +353,12 @@ module _ (w : WholeWorld) (q : List Fate) (p : Peers) (ys : List Story) (g : Giv
       after_front o Find es t front (reset w q p ys o stand g (Some a) Find es refl refl refl refl refl (same_held (world_after (from o) g.joins Find es) w (ap (λ (z : Stable). z.ends) law.stays)))
   step_by o Crowd es t stand front law =
       after_front o Crowd es t front (reset w q p ys o stand g (Some a) Crowd es refl refl refl refl refl (same_held (world_after (from o) g.joins Crowd es) w (ap (λ (z : Stable). z.ends) law.stays)))
+  step_by o Poll3 es t stand front law =
+      after_front o Poll3 es t front (reset w q p ys o stand g (Some a) Poll3 es refl refl refl refl refl (same_held (world_after (from o) g.joins Poll3 es) w (ap (λ (z : Stable). z.ends) law.stays)))
+  step_by o (Read3 id) es t stand front law =
+      after_front o (Read3 id) es t front (reset w q p ys o stand g (Some a) (Read3 id) es refl refl refl refl refl (same_held (world_after (from o) g.joins (Read3 id) es) w (ap (λ (z : Stable). z.ends) law.stays)))
+  step_by o (Write3 id m) es t stand front law =
+      after_front o (Write3 id m) es t front (reset w q p ys o stand g (Some a) (Write3 id m) es refl refl refl refl refl (same_held (world_after (from o) g.joins (Write3 id m) es) w law.stores.ends))
   step_by o (Read id) es t stand front law =
       after_front o (Read id) es t front (reset w q p ys o stand g (Some a) (Read id) es refl refl refl refl refl (same_held (world_after (from o) g.joins (Read id) es) w (ap (λ (z : Stable). z.ends) law.stays)))
   step_by o (Write id m) es t stand front law =

@@ -25,9 +25,11 @@ use Rattle.isodep_link.specs.Asking as exchange
 use Rattle.bench_devices.specs.declared.polling.SeenKind.{SeenKind}
 use Rattle.bench_devices.specs.declared.polling.SeenKind.TheVariants as seen
 use Rattle.bench_devices.specs.CardAsking.{CardStanding, Activates, Exchanges, card_stands}
-use Rattle.bench_world.specs.Answering.{TellsFault, TagEnds, TagTells, TellsFound, TagsTell, tags_answer}
+use Rattle.bench_world.specs.Answering.{TellsFault, TagEnds, TagTells, TellsFound, TagsTell, tags_answer, ThreesTell, sensed_answer}
 use Rattle.bench_devices.specs.Answering.{TellsStanding, TellsExchange, TellsCard, TellsBy, InventoryEnds, FindEnds, FindTells}
 use Rattle.dep_link.specs.Activating.{atr_frame}
+use Rattle.bench_devices.specs.Sensing.{found_if, has_three}
+use Rattle.bench_world.specs.Threes.{ThreeEnds, ThreeTells}
 use Rattle.bench_world.specs.Calls.{IfLinked, IsTold}
 use Rattle.bench_world.specs.Links.{OpenLink}
 use Rattle.bench_world.specs.Linking.{TellsLoss, LinkEnds, LinkTells}
@@ -143,6 +145,31 @@ one_tags ds events a b p q =
   where
     one_some : (a b : Answer) → ◌≡◌ {A = Option Answer} (Some a) (Some b) → a ≡ b
     one_some a b e = cc
+
+-- A search for Type 3 tags has one answer.
+pub one_threes : (ds : List Device) (events : List Event) (a b : Answer) → ThreesTell ds events a → ThreesTell ds events b → a ≡ b
+one_threes ds events a b p q =
+    let same : p.found ≡ q.found = (one_end p.found q.found [] [] (sym p.told ∙ q.told)).0 in
+    same_some a b (sym p.answered ∙ ap sensed_answer same ∙ q.answered)
+
+-- A command of a Type 3 tag has one answer, where what it tells of a device is one thing.
+module _ (Tells : Device → Answer → Type 0) (one : (d : Device) → AtMostOne (Tells d)) (id : List ℕ) (ds : List Device) (asked : List Signal) where
+  one_three_placed : (o : Option Device) → AtMostOne (λ answer. OfPlaced (λ d. Tells d answer) o)
+  one_three_placed None a b p q = absurd p
+  one_three_placed (Some d) a b p q = one d a b p q
+
+  one_three_end : (r : Result (Unit {0}) PollFault) (behind : List Note) → AtMostOne (ThreeEnds Tells id ds asked r behind)
+  one_three_end (Ok x) behind a b p q =
+      one_standing (λ answer. OfPlaced (λ d. Tells d answer) (device_with id ds)) (one_three_placed (device_with id ds)) (stand 0 asked behind) a b p q
+  one_three_end (Err e) behind a b p q = same_some a b (sym p ∙ q)
+
+  pub one_three : (events : List Event) (a b : Answer) → ThreeTells Tells id ds asked events a → ThreeTells Tells id ds asked events b → a ≡ b
+  one_three events a b p q =
+      let same = one_end q.heard p.heard q.behind p.behind (sym q.sought ∙ p.sought) in
+      let r : Result (Unit {0}) PollFault = found_if (has_three id ds) p.heard in
+      let ends : ThreeEnds Tells id ds asked r p.behind b =
+      subst (λ ns. ThreeEnds Tells id ds asked r ns b) same.1 (subst (λ h. ThreeEnds Tells id ds asked (found_if (has_three id ds) h) q.behind b) same.0 q.ends) in
+      one_three_end r p.behind a b p.ends ends
 
 -- An opening of a link has one answer.
 one_opened : (n : ℕ) (s : Standing) → AtMostOne (TellsStanding (λ answer. answer ≡ answers.Linked n) TellsLoss s)

@@ -117,6 +117,10 @@ module _ (how : How) (size : ℕ) (store : List ℕ) where
   tells_form (answers.Inbox messages) t = absurd t
   tells_form (answers.Found devices crowd) t = absurd t
   tells_form (answers.Crowd tags) t = absurd t
+  tells_form answers.T3None t = absurd t
+  tells_form (answers.T3One id) t = absurd t
+  tells_form answers.T3Crowd t = absurd t
+  tells_form answers.Unfinished t = absurd t
   tells_form answers.Disturbed t = absurd t
   tells_form answers.FieldLost t = absurd t
   tells_form answers.NotFound t = absurd t

@@ -1,15 +1,25 @@
 -- The lines of a script have at most one legal journal, by the same numbers of PDUs, whatever its fates are.
-use Rattle.std.proofs.Common.{◌≡◌, ℕ, ◌+◌, List, [], ◌∷◌, map, length, Option, Some, None, refl, sym, ◌∙◌, ap, subst}
+use Rattle.std.proofs.lemmas.Bool.{cases_lt}
+use Rattle.std.proofs.Common.{◌⊎◌, inl, inr, ◌<◌, Bool, arith, ◌≡◌, ℕ, ◌+◌, List, [], ◌∷◌, map, length, Option, Some, None, refl, sym, ◌∙◌, ap, subst}
 use Rattle.nfc_base.specs.Signal.{Signal}
 use Rattle.nfc_base.specs.declared.event.Event.{Event}
 use Rattle.air_core.specs.Conversation.{Over, receptions}
 use Rattle.bench_script.specs.declared.command.Command.{Command}
-use Rattle.bench_script.specs.declared.command.Command.TheVariants.{Skip, Fates, PlaceT2, PlaceT4, PlaceT5, PlacePeer, Lock, Busy, Offer, Remove, Dump, Inbox, Find, Crowd, Read, Write, Link, Forge, Put, Get, Lookup, Unlink}
+use Rattle.bench_script.specs.declared.command.Command.TheVariants.{Skip, Fates, PlaceT2, PlaceT3, PlaceT4, PlaceT5, PlacePeer, Lock, Busy, Offer, Remove, Dump, Inbox, Find, Crowd, Poll3, Read, Read3, Write, Write3, Link, Forge, Put, Get, Lookup, Unlink}
 use Rattle.bench_devices.specs.declared.device.Device.{Device}
 use Rattle.bench_world.specs.declared.entry.Answer.{Answer}
 use Rattle.bench_world.specs.declared.entry.Answer.TheVariants.{Store}
 use Rattle.bench_world.specs.declared.entry.Entry.{Entry}
-use Rattle.bench_devices.specs.Device.{device_store, device_commands, how_of, size_of, memory_in, kind_of}
+use Rattle.std.specs.Prelude.{◌≤◌}
+use Rattle.t3t_tag.specs.Store.{attributes}
+use Rattle.t3t_access.specs.OwnWriting.{IsPutDue}
+use Rattle.t3t_access.specs.Reading.{IsDue, first_checks}
+use Rattle.t3t_access.specs.Writing.{first_asked}
+use Rattle.bench_devices.specs.Kinds.{DeviceKind, T2Kind, T3Kind, T4Kind, PeerKind, T5Kind}
+use Rattle.bench_devices.specs.Threes.{ReadAsksThree, WriteAsksThree, WriteAsksThreeOf}
+use Rattle.bench_world.specs.Threes.{IfThree, TellsRead3, TellsWrite3}
+use Rattle.bench_world.proofs.ThreeTelling.{one_read_told, one_write_told}
+use Rattle.bench_devices.specs.Device.{device_locks, device_store, device_commands, how_of, size_of, memory_in, kind_of}
 use Rattle.bench_devices.proofs.TagOrPeer.{one_if}
 use Rattle.bench_world.specs.Reading.{ReadAsks}
 use Rattle.bench_world.specs.Writing.{WriteAsks}
@@ -31,7 +41,7 @@ use Rattle.bench_world.specs.Journal.{NumberedLine, AreEntriesOf, asking_lines, 
 use Rattle.bench_world.specs.SameCommands.{SameCommands}
 use Rattle.bench_script.proofs.Spelling.{spells_one}
 use Rattle.tag_reader.proofs.Lists.{one_list}
-use Rattle.bench_world.proofs.OneAnswer.{one_read, one_write, one_find, one_tags, one_forge, one_link, one_told_so, one_linked}
+use Rattle.bench_world.proofs.OneAnswer.{one_read, one_write, one_find, one_tags, one_three, one_threes, one_forge, one_link, one_told_so, one_linked}
 use Rattle.air_core.proofs.OneCourse.{one_course}
 
 one_asked_of : (o : Option Device) (a b : List Signal) → IfPlaced (λ d. ReadAsks d a) (a ≡ []) o → IfPlaced (λ d. ReadAsks d b) (b ≡ []) o → a ≡ b
@@ -43,10 +53,42 @@ one_written_of message None a b p q = p ∙ sym q
 one_written_of message (Some d) a b p q =
     one_if (kind_of d) (AsksWriteOf message d) [] (one_write_list (how_of d) (size_of d) (device_commands d) (plain_state (device_store d)) message) a b p q
 
+-- likewise of a Type 3 tag: as many are asked as are due
+one_count : (P : ℕ → Type 0) (m n : ℕ) → ((k : ℕ) → k < m → P k) → (P m → ⊥) → ((k : ℕ) → k < n → P k) → (P n → ⊥) → m ≡ n
+one_count P m n low none low' none' = by_order (cases_lt m n) (cases_lt n m)
+  where
+    by_order : (m < n) ⊎ (n ≤ m) → (n < m) ⊎ (m ≤ n) → m ≡ n
+    by_order (inl less) other = absurd (none (low' m less))
+    by_order (inr more) (inl less) = absurd (none' (low n less))
+    by_order (inr more) (inr also) = omega (arith, more, also)
+
+one_read_list : (id store : List ℕ) (a b : List Signal) → ReadAsksThree id store a → ReadAsksThree id store b → a ≡ b
+one_read_list id store a b p q =
+    p.list ∙ ap (first_checks id (attributes store)) (one_count (IsDue (attributes store)) p.count q.count p.due p.last q.due q.last) ∙ sym q.list
+
+one_write_three : (id store : List ℕ) (locked : List Bool) (message : List ℕ) (a b : List Signal) → WriteAsksThree id store locked message a → WriteAsksThree id store locked message b → a ≡ b
+one_write_three id store locked message a b p q =
+    p.list ∙ ap (first_asked id (attributes store) message) (one_count (IsPutDue locked (attributes store) message) p.count q.count p.due p.last q.due q.last) ∙ sym q.list
+
+one_three_of : (IsAll : Device → List Signal → Type 0) → ((d : Device) (a b : List Signal) → IsAll d a → IsAll d b → a ≡ b) → (o : Option Device) (a b : List Signal)
+    → IfPlaced (λ d. IfThree (kind_of d) (IsAll d a) (a ≡ [])) (a ≡ []) o → IfPlaced (λ d. IfThree (kind_of d) (IsAll d b) (b ≡ [])) (b ≡ []) o → a ≡ b
+one_three_of IsAll one None a b p q = p ∙ sym q
+one_three_of IsAll one (Some d) a b p q = by_kind (kind_of d) p q
+  where
+    by_kind : (k : DeviceKind) → IfThree k (IsAll d a) (a ≡ []) → IfThree k (IsAll d b) (b ≡ []) → a ≡ b
+    by_kind T2Kind x y = x ∙ sym y
+    by_kind T3Kind x y = one d a b x y
+    by_kind T4Kind x y = x ∙ sym y
+    by_kind PeerKind x y = x ∙ sym y
+    by_kind T5Kind x y = x ∙ sym y
+
 -- a command asks one list of its tag
 one_asked_by : (s : State) (c : Command) (a b : List Signal) → IsAskedBy s c a → IsAskedBy s c b → a ≡ b
 one_asked_by s (Read id) a b p q = one_asked_of (device_with (bytes_of id) s.world.field.listeners) a b p q
 one_asked_by s (Write id m) a b p q = one_written_of (message_of m) (device_with (bytes_of id) s.world.field.listeners) a b p q
+one_asked_by s (Read3 id) a b p q = one_three_of (λ d xs. ReadAsksThree id (device_store d) xs) (λ d. one_read_list id (device_store d)) (device_with id s.world.field.listeners) a b p q
+one_asked_by s (Write3 id m) a b p q =
+    one_three_of (λ d xs. WriteAsksThreeOf id (message_of m) d xs) (λ d. one_write_three id (device_store d) (device_locks d) (message_of m)) (device_with id s.world.field.listeners) a b p q
 one_asked_by s c a b p q = p ∙ sym q
 
 -- a dump tells of one device
@@ -65,6 +107,7 @@ one_answer : (s : State) (c : Command) (g : Given) (events : List Event) (a b : 
 one_answer s Skip g events a b p q = absurd p
 one_answer s (Fates fates) g events a b p q = p ∙ sym q
 one_answer s (PlaceT2 id blocks head) g events a b p q = p ∙ sym q
+one_answer s (PlaceT3 id blocks head) g events a b p q = p ∙ sym q
 one_answer s (PlaceT4 id code container head) g events a b p q = p ∙ sym q
 one_answer s (PlaceT5 id blocks size head) g events a b p q = p ∙ sym q
 one_answer s (PlacePeer id lr miu rw limit) g events a b p q = p ∙ sym q
@@ -76,6 +119,10 @@ one_answer s (Dump id) g events a b p q = one_dump (device_with (bytes_of id) s.
 one_answer s (Inbox id) g events a b p q = p ∙ sym q
 one_answer s Find g events a b p q = one_find s.world.field.listeners events a b p.tells q.tells
 one_answer s Crowd g events a b p q = one_tags s.world.field.listeners events a b p.tells q.tells
+one_answer s Poll3 g events a b p q = one_threes s.world.field.listeners events a b p.tells q.tells
+one_answer s (Read3 id) g events a b p q = one_three TellsRead3 one_read_told id s.world.field.listeners g.asked events a b p.tells q.tells
+one_answer s (Write3 id m) g events a b p q =
+    one_three (TellsWrite3 (message_of m)) (one_write_told (message_of m)) id s.world.field.listeners g.asked events a b p.tells q.tells
 one_answer s (Read id) g events a b p q = one_read id s.world.field.listeners g.asked events a b p.tells q.tells
 one_answer s (Write id m) g events a b p q = one_write id s.world.field.listeners (message_of m) g.asked events a b p.tells q.tells
 one_answer s (Link id miu window) g events a b p q = one_link (A id) s.world.field.listeners (length s.peers.links + 1) (own_general miu) events a b p.tells q.tells

@@ -11,7 +11,7 @@ use Rattle.snep_core.specs.Server.{offered}
 use Rattle.snep_core.specs.Talk.{Ends as Finishes, Finds, Gets, GivesUp, Goes, Puts}
 use Rattle.link_calls.specs.CallDue.{CallStanding, Carries, Comes, BrokenBy, Strays}
 use Rattle.bench_script.specs.declared.command.Command.{Command}
-use Rattle.bench_script.specs.declared.command.Command.TheVariants.{Skip, Fates, PlaceT2, PlaceT4, PlaceT5, PlacePeer, Lock, Busy, Offer, Remove, Dump, Inbox, Find, Crowd, Read, Write, Link, Forge, Put, Get, Lookup, Unlink}
+use Rattle.bench_script.specs.declared.command.Command.TheVariants.{Skip, Fates, PlaceT2, PlaceT3, PlaceT4, PlaceT5, PlacePeer, Lock, Busy, Offer, Remove, Dump, Inbox, Find, Crowd, Poll3, Read, Read3, Write, Write3, Link, Forge, Put, Get, Lookup, Unlink}
 use Rattle.bench_script.specs.declared.command.DeviceId.{DeviceId}
 use Rattle.bench_script.specs.declared.command.DeviceId.TheVariants.{A}
 use Rattle.bench_script.specs.DeviceIds.{bytes_of}
@@ -289,6 +289,8 @@ module _ (s : State) (g : Given) (ys : List Story) (h : KeptIn s ys) where
   step_kept (Fates fates) es answer turns each law = quiet (Fates fates) es answer (λ ns. refl) turns each refl (same_kept (Fates fates) answer refl refl refl)
   step_kept (PlaceT2 id blocks head) es answer turns each law =
       quiet (PlaceT2 id blocks head) es answer (λ ns. refl) turns each refl (placed_kept (PlaceT2 id blocks head) answer None None refl refl refl)
+  step_kept (PlaceT3 id blocks head) es answer turns each law =
+      quiet (PlaceT3 id blocks head) es answer (λ ns. refl) turns each refl (placed_kept (PlaceT3 id blocks head) answer None None refl refl refl)
   step_kept (PlaceT4 id code container head) es answer turns each law =
       quiet (PlaceT4 id code container head) es answer (λ ns. refl) turns each refl (placed_kept (PlaceT4 id code container head) answer None None refl refl refl)
   step_kept (PlaceT5 id blocks size head) es answer turns each law =
@@ -304,6 +306,9 @@ module _ (s : State) (g : Given) (ys : List Story) (h : KeptIn s ys) where
   step_kept (Inbox id) es answer turns each law = quiet (Inbox id) es answer (λ ns. refl) turns each refl (same_kept (Inbox id) answer refl refl refl)
   step_kept Find es answer turns each law = none_open Find es answer refl refl refl
   step_kept Crowd es answer turns each law = none_open Crowd es answer refl refl refl
+  step_kept Poll3 es answer turns each law = none_open Poll3 es answer refl refl refl
+  step_kept (Read3 id) es answer turns each law = none_open (Read3 id) es answer refl refl refl
+  step_kept (Write3 id m) es answer turns each law = none_open (Write3 id m) es answer refl refl refl
   step_kept (Read id) es answer turns each law = none_open (Read id) es answer refl refl refl
   step_kept (Write id m) es answer turns each law = none_open (Write id m) es answer refl refl refl
   step_kept (Link id miu rw) es answer turns each law = link_kept id miu rw es answer law

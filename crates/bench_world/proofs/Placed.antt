@@ -10,12 +10,12 @@ use Rattle.nfca_poll.specs.Ident.{IsIdent}
 use Rattle.t4t_tag.specs.Store.{file_size}
 use Rattle.t5t_tag.specs.Store.{id_size}
 use Rattle.bench_script.specs.declared.command.Command.{Command}
-use Rattle.bench_script.specs.declared.command.Command.TheVariants.{Fates, PlaceT2, PlaceT4, PlaceT5, PlacePeer}
+use Rattle.bench_script.specs.declared.command.Command.TheVariants.{Fates, PlaceT2, PlaceT3, PlaceT4, PlaceT5, PlacePeer}
 use Rattle.bench_devices.specs.declared.device.Device.{Device}
 use Rattle.bench_world.specs.declared.entry.Answer.{Answer}
 use Rattle.bench_world.specs.declared.entry.Answer.TheVariants.{Done}
-use Rattle.bench_devices.specs.Device.{device_id, device_ready, device_selected, is_tag, new_t2, new_t4, new_t5, new_peer}
-use Rattle.bench_world.specs.Legal.{State, Given, no_joins, FrontOf, Accepts, IsAskedBy, IsFree, MayPlaceT2, MayPlaceT4, MayPlaceT5, MayPlacePeer, AnswerLaw, changed, due, memory_of}
+use Rattle.bench_devices.specs.Device.{device_id, device_ready, device_selected, is_tag, new_t2, new_t3, new_t4, new_t5, new_peer}
+use Rattle.bench_world.specs.Legal.{State, Given, no_joins, FrontOf, Accepts, IsAskedBy, IsFree, MayPlaceT2, MayPlaceT3, MayPlaceT4, MayPlaceT5, MayPlacePeer, AnswerLaw, changed, due, memory_of}
 use Rattle.bench_devices.specs.Device.{most_devices}
 use Rattle.bench_devices.specs.Keeping.{Kept, kept, IsSound, IsApart, AreTame}
 use Rattle.bench_devices.specs.Phases.{IsTidy, AreTidy}
@@ -157,6 +157,13 @@ t2_placed old new id blocks head settled ident may is =
     let d : Device = new_t2 id (memory_of (4 * blocks) head) in
     let O : Machines → Type 0 = λ m. Obeyed old m (PlaceT2 id blocks head) Done in
     subst O (sym is) (place_obeyed old (PlaceT2 id blocks head) d None None (with_tag old.peers) settled may refl refl refl refl (ident, refl, may.store) tt may.free (none_shown (device_linked d)) refl (λ e. no_peer e) (numbered_tag (next_number old.peers) old.peers.numbers settled.places.apart) refl refl (λ h. h))
+
+pub t3_placed : (old new : Machines) (id : List ℕ) (blocks : ℕ) (head : List ℕ) → IsSettled old → length id ≡ id_size → ((i : ℕ) → slice_index id i < 256) → MayPlaceT3 (state_at old) id blocks head
+    → new ≡ one_more old (new_t3 id (memory_of (16 * blocks) head)) → Obeyed old new (PlaceT3 id blocks head) Done
+t3_placed old new id blocks head settled eight bytes may is =
+    let d : Device = new_t3 id (memory_of (16 * blocks) head) in
+    let O : Machines → Type 0 = λ m. Obeyed old m (PlaceT3 id blocks head) Done in
+    subst O (sym is) (place_obeyed old (PlaceT3 id blocks head) d None None (with_tag old.peers) settled may refl refl refl refl (eight, bytes, may.store.blocks) tt may.free (none_shown (device_linked d)) refl (λ e. no_peer e) (numbered_tag (next_number old.peers) old.peers.numbers settled.places.apart) refl refl (λ h. h))
 
 pub t4_placed : (old new : Machines) (id : List ℕ) (code : ℕ) (container head : List ℕ) → IsSettled old → IsIdent id → MayPlaceT4 (state_at old) id code container head
     → new ≡ one_more old (new_t4 id code container (memory_of (file_size container) head)) → Obeyed old new (PlaceT4 id code container head) Done

@@ -12,7 +12,7 @@ use Rattle.air_core.proofs.Following.{trace_first}
 use Rattle.nfca_poll.specs.RoundTrace.{rounds, up_to_reset, back_noise}
 use Rattle.nfca_poll.specs.Inventory.{tries, inventory_all, inventory_of}
 use Rattle.bench_script.specs.declared.command.Command.{Command}
-use Rattle.bench_script.specs.declared.command.Command.TheVariants.{Find, Crowd, Read, Write}
+use Rattle.bench_script.specs.declared.command.Command.TheVariants.{Find, Crowd, Poll3, Read, Read3, Write, Write3}
 use Rattle.bench_script.specs.declared.command.DeviceId.{DeviceId}
 use Rattle.bench_script.specs.declared.command.DeviceId.TheVariants.{A, V}
 use Rattle.bench_script.specs.DeviceIds.{bytes_of}
@@ -30,7 +30,7 @@ use Rattle.bench_world.specs.declared.entry.Entry.{Entry}
 use Rattle.bench_world.specs.Answering.{TagEnds, TagTells, TellsFault}
 use Rattle.bench_world.specs.Completing.{IsQuietOnce, HadSixBad, IsUndisturbed}
 use Rattle.bench_world.specs.Legal.{State, Given, LegalStep, AnswerLaw, ReadLaw, CrowdLaw, WritingLaw, changed, due}
-use Rattle.bench_world.specs.Quiet.{AllPass, QuietStays, QuietReads, QuietWrites, QuietFinds, QuietTags}
+use Rattle.bench_world.specs.Quiet.{AllPass, QuietStays, QuietReads, QuietWrites, QuietFinds, QuietTags, QuietThrees}
 use Rattle.bench_world.specs.Reading.{TellsOf}
 use Rattle.bench_world.specs.Writing.{TellsWrite}
 use Rattle.bench_script.specs.Messages.{message_of}
@@ -38,6 +38,8 @@ use Rattle.bench_script.specs.declared.message.Msg.{Msg}
 use Rattle.bench_world.proofs.Numbers.{UsesFars}
 use Rattle.bench_world.proofs.Complete.{reads_complete, writes_complete, finds_complete}
 use Rattle.bench_world.proofs.CompleteTags.{tells_quietly}
+use Rattle.bench_world.proofs.CompleteThrees.{threes_complete}
+use Rattle.t3t_access.specs.Polling.{sensf_req}
 use Rattle.bench_world.proofs.OneAnswer.{one_end}
 use Rattle.bench_world.proofs.Fronts.{on_field}
 
@@ -152,6 +154,11 @@ quiet_tags s t g e step is pass =
     let none : noise e.events ≡ 0 = quiet_of s t g e Crowd step is refl pass in
     let law : CrowdLaw s g.joins e.events e.answer = subst (λ c. AnswerLaw s g c e.events e.answer) is step.answered in
     tells_quietly s.world.field.listeners e.events e.answer law.tells none (no_breaks e.events none)
+
+pub quiet_threes : QuietThrees
+quiet_threes s t g e step is pass =
+    let none : noise e.events ≡ 0 = quiet_of s t g e Poll3 step is refl pass in
+    threes_complete s t g e step is (no_breaks e.events none) (few_noisy (noisy_tries sensf_req e.events) (no_noisy _ e.events none))
 
 -- six bad receptions of a wait are what the command tells
 told_six : (Tells : Answer → Type 0) (kind : SeenKind) (asked : List Signal) (ns : List Note) (answer : Answer) → TellsBy kind Tells TellsFault asked ns answer → HadSixBad kind asked ns → answer ≡ SixBad

@@ -8,7 +8,7 @@ use Rattle.nfc_base.specs.Trace.{noise}
 use Rattle.nfc_base.specs.declared.event.Fate.{Fate}
 use Rattle.air_core.specs.Conversation.{Note, Next, LightUp, AreTurns, FatesFrom, EachDue, Moment, receptions}
 use Rattle.bench_script.specs.declared.command.Command.{Command}
-use Rattle.bench_script.specs.declared.command.Command.TheVariants.{Skip, Fates, PlaceT2, PlaceT4, PlaceT5, PlacePeer, Lock, Busy, Offer, Remove, Dump, Inbox, Find, Crowd, Read, Write, Link, Forge, Put, Get, Lookup, Unlink}
+use Rattle.bench_script.specs.declared.command.Command.TheVariants.{Skip, Fates, PlaceT2, PlaceT3, PlaceT4, PlaceT5, PlacePeer, Lock, Busy, Offer, Remove, Dump, Inbox, Find, Crowd, Poll3, Read, Read3, Write, Write3, Link, Forge, Put, Get, Lookup, Unlink}
 use Rattle.bench_script.specs.declared.command.DeviceId.{DeviceId}
 use Rattle.bench_script.specs.declared.command.DeviceId.TheVariants.{A, V}
 use Rattle.bench_script.specs.declared.message.Msg.{Msg}
@@ -46,7 +46,7 @@ use Rattle.bench_world.proofs.CompleteForging.{forges_quietly}
 use Rattle.bench_world.proofs.CompleteLinkings.{links_quietly}
 use Rattle.bench_world.proofs.Fronts.{on_field}
 use Rattle.bench_world.proofs.Placing.{IsWith, is_with, with_sound}
-use Rattle.bench_world.proofs.Quiet.{quiet_stays, quiet_reads, quiet_writes, quiet_finds, quiet_tags}
+use Rattle.bench_world.proofs.Quiet.{quiet_stays, quiet_reads, quiet_writes, quiet_finds, quiet_tags, quiet_threes}
 use Rattle.bench_world.proofs.QuietLinks.{quiet_talks}
 use Rattle.bench_world.proofs.Written.{told_written}
 use Rattle.bench_world.proofs.WholeNotes.{all_unharmed, nothing_asked, whole_notes}
@@ -146,6 +146,7 @@ module _ (s t : State) (g : Given) (line : List ℕ) (e : Entry) (r : IsReady s.
   by_command Skip is id of = absurd cc
   by_command (Fates fates) is id of = absurd cc
   by_command (PlaceT2 i blocks head) is id of = absurd cc
+  by_command (PlaceT3 i blocks head) is id of = absurd cc
   by_command (PlaceT4 i code container head) is id of = absurd cc
   by_command (PlaceT5 i blocks size head) is id of = absurd cc
   by_command (PlacePeer i lr miu rw limit) is id of = absurd cc
@@ -157,6 +158,9 @@ module _ (s t : State) (g : Given) (line : List ℕ) (e : Entry) (r : IsReady s.
   by_command (Inbox i) is id of = absurd cc
   by_command Find is id of = absurd cc
   by_command Crowd is id of = absurd cc
+  by_command Poll3 is id of = absurd cc
+  by_command (Read3 i) is id of = absurd cc
+  by_command (Write3 i m) is id of = absurd cc
   by_command (Link i miu window) is id of = let same : A i ≡ id = cc in subst (λ x. AnswersAll x e) same (link_answered i miu window is)
   by_command (Forge i payloads) is id of = let same : A i ≡ id = cc in subst (λ x. AnswersAll x e) same (forge_answered i payloads is)
   by_command (Put m) is id of = absurd cc
@@ -196,6 +200,7 @@ passes_still : (s : State) (line : List ℕ) (c : Command) → AllPass s.queue �
 passes_still s line Skip h q sp = h
 passes_still s line (Fates fates) h q sp = join_pass s.queue fates h (q fates sp)
 passes_still s line (PlaceT2 id blocks head) h q sp = h
+passes_still s line (PlaceT3 id blocks head) h q sp = h
 passes_still s line (PlaceT4 id code container head) h q sp = h
 passes_still s line (PlaceT5 id blocks size head) h q sp = h
 passes_still s line (PlacePeer id lr miu rw limit) h q sp = h
@@ -207,6 +212,9 @@ passes_still s line (Dump id) h q sp = h
 passes_still s line (Inbox id) h q sp = h
 passes_still s line Find h q sp = h
 passes_still s line Crowd h q sp = h
+passes_still s line Poll3 h q sp = h
+passes_still s line (Read3 id) h q sp = h
+passes_still s line (Write3 id m) h q sp = h
 passes_still s line (Read id) h q sp = h
 passes_still s line (Write id m) h q sp = h
 passes_still s line (Link id miu window) h q sp = h
@@ -228,6 +236,7 @@ quiet_entry s t g line e calm q sp step =
         written = λ id m d w may. told_written s e id m d calm.ready w.placed (quiet_writes s t g e id m d step w.command w.placed w.named calm.queue) may;
         finds = λ is. quiet_finds s t g e step is calm.queue;
         tags = λ is. quiet_tags s t g e step is calm.queue;
+        threes = λ is. quiet_threes s t g e step is calm.queue;
         links = links_quietly s t g e calm.ready step calm.queue;
         forges = forges_quietly s t g e calm.ready step calm.queue;
         talks = quiet_talks s t g e step calm.queue;

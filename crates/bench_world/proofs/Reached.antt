@@ -11,7 +11,7 @@ use Rattle.isodep_link.specs.Reader.{longest_extension}
 use Rattle.isodep_link.proofs.Heeding.{AreBytes, no_bytes}
 use Rattle.t4t_tag.specs.Store.{file_size}
 use Rattle.bench_script.specs.declared.command.Command.{Command}
-use Rattle.bench_script.specs.declared.command.Command.TheVariants.{Skip, Fates, PlaceT2, PlaceT4, PlaceT5, PlacePeer, Lock, Busy, Offer, Remove, Dump, Inbox, Find, Crowd, Read, Write, Link, Forge, Put, Get, Lookup, Unlink}
+use Rattle.bench_script.specs.declared.command.Command.TheVariants.{Skip, Fates, PlaceT2, PlaceT3, PlaceT4, PlaceT5, PlacePeer, Lock, Busy, Offer, Remove, Dump, Inbox, Find, Crowd, Poll3, Read, Read3, Write, Write3, Link, Forge, Put, Get, Lookup, Unlink}
 use Rattle.bench_script.specs.declared.message.Msg.{Msg}
 use Rattle.bench_script.specs.declared.message.Msg.TheVariants.{Hex, Gen}
 use Rattle.bench_script.specs.DeviceIds.{bytes_of}
@@ -19,7 +19,7 @@ use Rattle.bench_script.specs.Messages.{message_of}
 use Rattle.bench_script.specs.Script.{Spells, SpellsHex, SpellsMsg, is_skipped}
 use Rattle.bench_devices.specs.declared.device.Device.{Device}
 use Rattle.bench_devices.specs.declared.device.Device.TheVariants.{T2, T4, Peer, T5, T3}
-use Rattle.bench_devices.specs.Device.{most_devices, device_id, new_t2, new_t4, new_t5, new_peer, device_locked, device_busy}
+use Rattle.bench_devices.specs.Device.{most_devices, device_id, new_t2, new_t3, new_t4, new_t5, new_peer, device_locked, device_busy}
 use Rattle.bench_devices.specs.Keeping.{Fixed, kept, container_of, IsSound, IsApart, AreSound, AreTame, AllStayDevices}
 use Rattle.bench_devices.specs.Phases.{IsTidy, AreTidy}
 use Rattle.bench_devices.specs.Placed.{without, with_changed}
@@ -215,6 +215,8 @@ ready_changed : (s : State) (line : List ℕ) (c : Command) → Spells line c �
 ready_changed s line Skip sp is r = r
 ready_changed s line (Fates fates) sp is r = r
 ready_changed s line (PlaceT2 id blocks head) sp is r = ready_more s (new_t2 id (memory_of (4 * blocks) head)) (sp.4.1, refl, is.store) tt no_bytes is.free r
+ready_changed s line (PlaceT3 id blocks head) sp is r =
+    ready_more s (new_t3 id (memory_of (16 * blocks) head)) (sp.4.1, (decode_of-ok sp.0 id sp.4.0).3, is.store.blocks) tt no_bytes is.free r
 ready_changed s line (PlaceT4 id code container head) sp is r =
     let file : List ℕ = memory_of (file_size container) head in
     ready_more s (new_t4 id code container file)
@@ -236,7 +238,10 @@ ready_changed s line (Dump id) sp is r = r
 ready_changed s line (Inbox id) sp is r = r
 ready_changed s line Find sp is r = r
 ready_changed s line Crowd sp is r = r
+ready_changed s line Poll3 sp is r = r
 ready_changed s line (Read id) sp is r = r
+ready_changed s line (Read3 id) sp is r = r
+ready_changed s line (Write3 id m) sp is r = r
 ready_changed s line (Write id m) sp is r = r
 ready_changed s line (Link id miu window) sp is r = r
 ready_changed s line (Forge id payloads) sp is r = r

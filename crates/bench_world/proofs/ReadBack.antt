@@ -18,7 +18,7 @@ use Rattle.nfc_base.specs.declared.event.Fate.{Fate}
 use Rattle.nfc_base.specs.declared.event.Fate.TheVariants.{Pass, Damage, Lose, Break}
 use Rattle.bench_script.specs.Canonical.{hex_text}
 use Rattle.bench_world.specs.declared.entry.Answer.{Answer as Said}
-use Rattle.bench_world.specs.declared.entry.Answer.TheVariants.{Done, Store, Found, Crowd, Message, NotNdef, Version, NoRead, Sectors, BadSize, NoMessageTlv, BadTlv, Disturbed, FieldLost, NotFound, SixBad, Written, Refused, ReadOnly, TooLong, ShortMlc, WrongKind, Inbox, Linked, Success, Reject, Value, NoValue, Excess, NotImplemented, Sap, LinkEnded, Replies, Unlinked, NoLink}
+use Rattle.bench_world.specs.declared.entry.Answer.TheVariants.{Done, Store, Found, Crowd, T3None, T3One, T3Crowd, Message, NotNdef, Version, NoRead, Sectors, BadSize, NoMessageTlv, BadTlv, Unfinished, Disturbed, FieldLost, NotFound, SixBad, Written, Refused, ReadOnly, TooLong, ShortMlc, WrongKind, Inbox, Linked, Success, Reject, Value, NoValue, Excess, NotImplemented, Sap, LinkEnded, Replies, Unlinked, NoLink}
 use Rattle.bench_world.specs.Report.{tail_text, frame_text, fate_text, sent_text, event_text, answer_text, line_text}
 use Rattle.bench_world.specs.ReadBack.{IsOf, LinesTellEvents, AnswersApart}
 
@@ -225,6 +225,10 @@ letter_first (Store bytes) = omega arith
 letter_first (Inbox messages) = omega arith
 letter_first (Found devices crowd) = omega arith
 letter_first (Crowd tags) = omega arith
+letter_first T3None = omega arith
+letter_first (T3One id) = omega arith
+letter_first T3Crowd = omega arith
+letter_first Unfinished = omega arith
 letter_first (Message message writable) = omega arith
 letter_first (Linked link) = omega arith
 letter_first Success = omega arith

@@ -8,7 +8,7 @@ use Rattle.llcp_link.specs.State.{restarted}
 use Rattle.snep_core.specs.Server.{serving}
 use Rattle.nfc_base.specs.declared.event.Event.{Event}
 use Rattle.bench_script.specs.declared.command.Command.{Command}
-use Rattle.bench_script.specs.declared.command.Command.TheVariants.{Remove, Find, Crowd, Read, Write, Link, Forge, Put, Get, Lookup, Unlink}
+use Rattle.bench_script.specs.declared.command.Command.TheVariants.{Remove, Find, Crowd, Poll3, Read, Read3, Write, Write3, Link, Forge, Put, Get, Lookup, Unlink}
 use Rattle.bench_world.specs.declared.entry.Answer.{Answer}
 use Rattle.bench_world.specs.declared.entry.Answer.TheVariants as answers
 use Rattle.bench_world.specs.declared.entry.Entry.{Entry}
@@ -150,8 +150,11 @@ still_held n (p ∷ ps) ks (x ∷ hs) k all found = by (is_number n p) refl foun
 pub open_before : (s : State) (c : Command) (l : OpenLink) → (changed s c).link ≡ Some l → s.link ≡ Some l
 open_before s Find l e = absurd (let clash : None ≡ Some l = e in cc)
 open_before s Crowd l e = absurd (let clash : None ≡ Some l = e in cc)
+open_before s Poll3 l e = absurd (let clash : None ≡ Some l = e in cc)
 open_before s (Read id) l e = absurd (let clash : None ≡ Some l = e in cc)
 open_before s (Write id m) l e = absurd (let clash : None ≡ Some l = e in cc)
+open_before s (Read3 id) l e = absurd (let clash : None ≡ Some l = e in cc)
+open_before s (Write3 id m) l e = absurd (let clash : None ≡ Some l = e in cc)
 open_before s (Link id miu window) l e = absurd (let clash : None ≡ Some l = e in cc)
 open_before s (Forge id payloads) l e = absurd (let clash : None ≡ Some l = e in cc)
 open_before s (Remove id) l e = by (is_linked_to s id) e

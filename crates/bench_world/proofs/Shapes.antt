@@ -6,7 +6,7 @@ use Rattle.std.specs.Cmp.Lexicographic.{pointwise}
 use Rattle.nfc_base.specs.declared.event.Event.{Event}
 use Rattle.air_core.specs.Conversation.{replay}
 use Rattle.bench_script.specs.declared.command.Command.{Command}
-use Rattle.bench_script.specs.declared.command.Command.TheVariants.{Skip, Fates, PlaceT2, PlaceT4, PlaceT5, PlacePeer, Lock, Busy, Offer, Remove, Dump, Inbox, Find, Crowd, Read, Write, Link, Forge, Put, Get, Lookup, Unlink}
+use Rattle.bench_script.specs.declared.command.Command.TheVariants.{Skip, Fates, PlaceT2, PlaceT3, PlaceT4, PlaceT5, PlacePeer, Lock, Busy, Offer, Remove, Dump, Inbox, Find, Crowd, Poll3, Read, Read3, Write, Write3, Link, Forge, Put, Get, Lookup, Unlink}
 use Rattle.bench_script.specs.DeviceIds.{bytes_of}
 use Rattle.bench_script.specs.Script.{Spells, is_skipped}
 use Rattle.bench_script.proofs.Spelling.{spells_one}
@@ -129,6 +129,7 @@ pub accepts_too : (s t : State) (c : Command) → AreAlike s t → Accepts s c �
 accepts_too s t Skip alike is = tt
 accepts_too s t (Fates fates) alike is = tt
 accepts_too s t (PlaceT2 id blocks head) alike is = record { free = free_too s t id alike is.free; fits = is.fits; store = is.store }
+accepts_too s t (PlaceT3 id blocks head) alike is = record { free = free_too s t id alike is.free; fits = is.fits; store = is.store }
 accepts_too s t (PlaceT4 id code container head) alike is = record { free = free_too s t id alike is.free; fits = is.fits; store = is.store }
 accepts_too s t (PlaceT5 id blocks size head) alike is = record { free = free_too s t id alike is.free; fits = is.fits; store = is.store }
 accepts_too s t (PlacePeer id lr miu rw limit) alike is = record { free = free_too s t id alike is.free; code = is.code; size = is.size; window = is.window; limit = is.limit }
@@ -150,7 +151,10 @@ accepts_too s t (Inbox id) alike is =
     of_too (λ x. x.tag ≡ false) (device_with (bytes_of id) s.world.field.listeners) (device_with (bytes_of id) t.world.field.listeners) (same_with (bytes_of id) s t alike) is
 accepts_too s t Find alike is = tt
 accepts_too s t Crowd alike is = tt
+accepts_too s t Poll3 alike is = tt
 accepts_too s t (Read id) alike is = tt
+accepts_too s t (Read3 id) alike is = tt
+accepts_too s t (Write3 id m) alike is = tt
 accepts_too s t (Write id m) alike is = tt
 accepts_too s t (Link id miu window) alike is = is
 accepts_too s t (Forge id payloads) alike is = is
@@ -205,6 +209,7 @@ changes_alike : (s t : State) (c : Command) → AreAlike s t → AreAlike (chang
 changes_alike s t Skip alike = alike
 changes_alike s t (Fates fates) alike = alike
 changes_alike s t (PlaceT2 id blocks head) alike = placed_alike s.world.field.listeners t.world.field.listeners _ alike
+changes_alike s t (PlaceT3 id blocks head) alike = placed_alike s.world.field.listeners t.world.field.listeners _ alike
 changes_alike s t (PlaceT4 id code container head) alike = placed_alike s.world.field.listeners t.world.field.listeners _ alike
 changes_alike s t (PlaceT5 id blocks size head) alike = placed_alike s.world.field.listeners t.world.field.listeners _ alike
 changes_alike s t (PlacePeer id lr miu rw limit) alike = placed_alike s.world.field.listeners t.world.field.listeners _ alike
@@ -220,7 +225,10 @@ changes_alike s t (Dump id) alike = alike
 changes_alike s t (Inbox id) alike = alike
 changes_alike s t Find alike = alike
 changes_alike s t Crowd alike = alike
+changes_alike s t Poll3 alike = alike
 changes_alike s t (Read id) alike = alike
+changes_alike s t (Read3 id) alike = alike
+changes_alike s t (Write3 id m) alike = alike
 changes_alike s t (Write id m) alike = alike
 changes_alike s t (Link id miu window) alike = alike
 changes_alike s t (Forge id payloads) alike = alike

@@ -6,7 +6,7 @@ use Rattle.snep_core.specs.Server.{Received}
 use Rattle.snep_core.specs.Talk.{Leaves, begins}
 use Rattle.link_calls.specs.Asking.{LinkAsking, Does, Closes}
 use Rattle.bench_script.specs.declared.command.Command.{Command}
-use Rattle.bench_script.specs.declared.command.Command.TheVariants.{Put, Get, Lookup, Unlink, Read, Write}
+use Rattle.bench_script.specs.declared.command.Command.TheVariants.{Put, Get, Lookup, Unlink, Read, Read3, Write, Write3}
 use Rattle.bench_world.specs.Asked.{IsOnLink, asked_on_link}
 use Rattle.bench_world.specs.Calls.{OfEnd, accepting_if, due_asked, with_accepted}
 use Rattle.bench_world.specs.Legal.{State, CutFront, CutShort, IsAskedBy, Joins, changed, end_of}
@@ -33,6 +33,8 @@ still_on s c on = off on
 pub asks_none : (s : State) (c : Command) → IsOnLink c → IsAskedBy s c []
 asks_none s (Read id) on = off on
 asks_none s (Write id m) on = off on
+asks_none s (Read3 id) on = off on
+asks_none s (Write3 id m) on = off on
 asks_none s c on = refl
 
 -- it is cut off as a front of its step alone says

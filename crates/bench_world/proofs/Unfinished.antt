@@ -2,19 +2,19 @@
 use Rattle.bench_world.specs.Forging.{opens_link}
 use Rattle.bench_world.specs.Legal.{ForgeHalts}
 use Rattle.bench_world.proofs.ForgeLeft.{cut_devices}
-use Rattle.std.proofs.Common.{◌≡◌, ℕ, List, [], ◌∷◌, map, Option, Some, None, inl, inr, refl, sym, ◌∙◌, ap, subst}
+use Rattle.std.proofs.Common.{Err, ◌≡◌, ℕ, List, [], ◌∷◌, map, Option, Some, None, inl, inr, refl, sym, ◌∙◌, ap, subst}
 use Rattle.nfc_base.specs.declared.event.Event.{Event}
 use Rattle.air_core.specs.Conversation.{replay}
 use Rattle.tag_writer.specs.Law.{Stopped}
 use Rattle.bench_script.specs.declared.command.Command.{Command}
-use Rattle.bench_script.specs.declared.command.Command.TheVariants.{Find, Crowd, Read, Write, Link, Forge, Put, Get, Lookup, Unlink}
+use Rattle.bench_script.specs.declared.command.Command.TheVariants.{Find, Crowd, Poll3, Read, Read3, Write, Write3, Link, Forge, Put, Get, Lookup, Unlink}
 use Rattle.bench_script.specs.declared.command.DeviceId.{DeviceId}
 use Rattle.bench_script.specs.declared.message.Msg.{Msg}
 use Rattle.bench_script.specs.DeviceIds.{bytes_of}
 use Rattle.bench_script.specs.Messages.{message_of}
 use Rattle.bench_devices.specs.declared.device.Device.{Device}
 use Rattle.bench_devices.specs.Device.{BenchWorld, air, device_id, device_store, stable_of, kind_of}
-use Rattle.bench_devices.specs.Keeping.{AllKeepBut, held_by}
+use Rattle.bench_devices.specs.Keeping.{AllKeepBut, held_by, images_of}
 use Rattle.bench_devices.specs.Placed.{device_with, IfPlaced}
 use Rattle.bench_devices.proofs.ImagesJoin.{law_start}
 use Rattle.bench_devices.proofs.TagOrPeer.{if_read}
@@ -24,13 +24,19 @@ use Rattle.link_calls.specs.Asking.{LinkAsking, Does, Closes}
 use Rattle.bench_world.specs.Asked.{IsOnLink}
 use Rattle.bench_world.specs.Calls.{IfLinked}
 use Rattle.bench_world.specs.Links.{OpenLink}
-use Rattle.bench_world.specs.Legal.{State, Given, Joins, CutCall, CutFront, CutOff, CutShort, CutStores, FrontOf, LeavesStable, PeerHalts, StoresLaw, changed, world_after}
-use Rattle.bench_world.specs.Unfinished.{Unfinished, WriteUnfinished}
+use Rattle.bench_world.specs.Legal.{State, Given, Joins, CutCall, CutFront, CutOff, CutShort, CutStores, FrontOf, LeavesStable, PeerHalts, StoresLaw, Stores3Law, changed, world_after}
+use Rattle.bench_world.specs.Unfinished.{Write3Unfinished, Unfinished, WriteUnfinished}
 use Rattle.bench_world.specs.Writing.{KeepsStores}
 use Rattle.bench_world.proofs.Fronts.{field_after}
 use Rattle.bench_world.proofs.OnLink.{kept_stable}
 use Rattle.bench_world.proofs.Talks.{off}
 use Rattle.bench_world.proofs.WriteBehind.{last_image}
+use Rattle.std.specs.List.{AllByRecursion}
+use Rattle.t3t_access.specs.declared.fault.T3Fault.TheVariants as fault
+use Rattle.bench_devices.specs.Kinds.{DeviceKind, T2Kind, T3Kind, T4Kind, PeerKind, T5Kind}
+use Rattle.bench_devices.specs.Threes.{KeepsWrite3Law}
+use Rattle.bench_devices.proofs.ThreeLaw.{law_still}
+use Rattle.bench_world.specs.Threes.{IfThree, KeepsStores3}
 use Rattle.bench_world.proofs.WriteLegality.{found_named}
 
 -- a front of a command that was cut off, in whatever command
@@ -56,10 +62,35 @@ nothing_written s id m = record {
     by_found (Some d) found =
         let ds : List Device = s.world.field.listeners in
         let holds : held_by (device_with (device_id d) ds) ≡ device_store d = ap (λ i. held_by (device_with i ds)) (found_named (bytes_of id) ds d found) ∙ ap held_by found in
-        if_read (kind_of d) _ _ (law_start (message_of m) d s.world.field holds) tt
+        if_read (kind_of d) _ _ (law_start (message_of m) d s.world.field holds) (holds, tt)
+
+nothing_written_three : (s : State) (id : List ℕ) (m : Msg) → Write3Unfinished s id m [] s
+nothing_written_three s id m = record {
+  passes = by_found (device_with id s.world.field.listeners) refl;
+  holds = refl;
+  others = keep_all_but id s.world.field.listeners;
+}
+  where
+    by_found : (o : Option Device) → device_with id s.world.field.listeners ≡ o → IfPlaced (λ d. KeepsStores3 (message_of m) d (Err fault.Memory) s.world.field []) (Unit {0}) o
+    by_found None found = tt
+    by_found (Some d) found = by_kind (kind_of d)
+      where
+        ds : List Device
+        ds = s.world.field.listeners
+
+        holds : held_by (device_with (device_id d) s.world.field.listeners) ≡ device_store d
+        holds = ap (λ i. held_by (device_with i s.world.field.listeners)) (found_named id s.world.field.listeners d found) ∙ ap held_by found
+
+        by_kind : (k : DeviceKind) → IfThree k (KeepsWrite3Law (message_of m) d (Err fault.Memory) s.world.field []) (AllByRecursion (λ x. x ≡ device_store d) (images_of (device_id d) s.world.field []))
+        by_kind T2Kind = (holds, tt)
+        by_kind T3Kind = law_still (message_of m) (device_store d) (images_of (device_id d) s.world.field []) (holds, tt)
+        by_kind T4Kind = (holds, tt)
+        by_kind PeerKind = (holds, tt)
+        by_kind T5Kind = (holds, tt)
 
 nothing_left : (s : State) (c : Command) → Unfinished s c [] s
 nothing_left s (Write id m) = nothing_written s id m
+nothing_left s (Write3 id m) = nothing_written_three s id m
 nothing_left s c = refl
 
 -- There is a front of it.
@@ -73,6 +104,18 @@ front_written s t g id m cut front stores =
           ap (λ (w : WholeWorld). held_by (device_with (bytes_of id) w.field.listeners)) there
           ∙ ap (λ (w : BenchWorld). held_by (device_with (bytes_of id) w.listeners)) on_air ∙ sym (last_image (bytes_of id) s.world.field cut []);
       others = subst (λ (w : WholeWorld). AllKeepBut (bytes_of id) s.world.field.listeners w.field.listeners) (sym there) stores.others;
+    }
+
+front_written_three : (s t : State) (g : Given) (id : List ℕ) (m : Msg) (cut : List Event) → FrontOf s g (Write3 id m) cut None t → Stores3Law s g.joins id m (Err fault.Memory) cut → Write3Unfinished s id m cut t
+front_written_three s t g id m cut front stores =
+    let there : t.world ≡ world_after s g.joins (Write3 id m) cut = ap (λ (x : State). x.world) front.after in
+    let on_air : (world_after s g.joins (Write3 id m) cut).field ≡ replay air s.world.field cut = field_after s t g (Write3 id m) cut (λ h. h) front in
+    record {
+      passes = stores.law;
+      holds =
+          ap (λ (w : WholeWorld). held_by (device_with id w.field.listeners)) there
+          ∙ ap (λ (w : BenchWorld). held_by (device_with id w.listeners)) on_air ∙ sym (last_image id s.world.field cut []);
+      others = subst (λ (w : WholeWorld). AllKeepBut id s.world.field.listeners w.field.listeners) (sym there) stores.others;
     }
 
 abbrev DevicesStay : State → State → Type 0
@@ -89,8 +132,11 @@ call_stays s joins asked c cut (Some l) still call = call.devices
 front_left : (s t : State) (g : Given) (c : Command) (cut : List Event) → FrontOf s g c cut None t → CutStores s g.joins c cut → Unfinished s c cut t
 front_left s t g Find cut front stores = front_stays s t g Find cut front (ap (λ (z : Stable). z.devices) stores)
 front_left s t g Crowd cut front stores = front_stays s t g Crowd cut front (ap (λ (z : Stable). z.devices) stores)
+front_left s t g Poll3 cut front stores = front_stays s t g Poll3 cut front (ap (λ (z : Stable). z.devices) stores)
 front_left s t g (Read id) cut front stores = front_stays s t g (Read id) cut front (ap (λ (z : Stable). z.devices) stores)
 front_left s t g (Write id m) cut front stores = front_written s t g id m cut front stores
+front_left s t g (Read3 id) cut front stores = front_stays s t g (Read3 id) cut front (ap (λ (z : Stable). z.devices) stores)
+front_left s t g (Write3 id m) cut front stores = front_written_three s t g id m cut front stores
 front_left s t g (Link id miu window) cut front stores = front_stays s t g (Link id miu window) cut front (ap (λ (z : Stable). z.devices) stores)
 front_left s t g (Forge id payloads) cut front stores = front_stays s t g (Forge id payloads) cut front (cut_devices (opens_link id payloads cut) s g.joins id payloads cut stores)
 front_left s t g (Put m) cut front stores = front_stays s t g (Put m) cut front (call_stays s g.joins (Does (Puts (message_of m))) (Put m) cut s.link refl stores)
@@ -108,6 +154,7 @@ halt_left joins s t c cut h = by_command c h.on_link
 
     by_command : (x : Command) → IsOnLink x → Unfinished s x cut t
     by_command (Write id m) talks = off talks
+    by_command (Write3 id m) talks = off talks
     by_command x talks = stays
 
 forge_halt_left : (joins : Joins) (s t : State) (c : Command) (cut : List Event) → ForgeHalts joins s c cut t → Unfinished s c cut t

@@ -8,7 +8,7 @@ use Rattle.far_air.specs.FarEnds.{first_far, later_fars, by_link}
 use Rattle.far_air.specs.FarLaws.{shown}
 use Rattle.peer_air.specs.PeerFars.{peer_ends}
 use Rattle.bench_script.specs.declared.command.Command.{Command}
-use Rattle.bench_script.specs.declared.command.Command.TheVariants.{Remove, Find, Crowd, Read, Write, Link}
+use Rattle.bench_script.specs.declared.command.Command.TheVariants.{Remove, Find, Crowd, Poll3, Read, Read3, Write, Write3, Link}
 use Rattle.bench_script.specs.declared.command.DeviceId.{DeviceId}
 use Rattle.bench_script.specs.declared.command.DeviceId.TheVariants.{A}
 use Rattle.bench_script.specs.declared.message.Msg.{Msg}
@@ -71,7 +71,7 @@ places_ended m places = by_link m.link
     by_link (Some l) = record { ends = places.ends; numbers = places.numbers; served = places.served; apart = places.apart }
 
 pub settled_ended : (m : Machines) → IsSettled m → IsSettled (link_ended m)
-settled_ended m settled = record { idle = settled.idle; places = places_ended m settled.places; link = tt }
+settled_ended m settled = record { idle = settled.idle; stored = settled.stored; places = places_ended m settled.places; link = tt }
 
 -- What a command that begins with a reset does is the same, whether the link ends in it or before it.
 pub record IsReset (c : Command) : Type 0 where
@@ -96,6 +96,14 @@ crowd_resets = record {
   stores = λ s joins es stays. stays;
 }
 
+pub sense_resets : IsReset Poll3
+sense_resets = record {
+  front = λ s t g es told f. record { accepted = f.accepted; asks = f.asks; takes = f.takes; turns = f.turns; fates = f.fates; each = f.each; after = f.after };
+  next = λ s g ns. refl;
+  law = λ s g es answer l. record { tells = l.tells; stays = l.stays };
+  stores = λ s joins es stays. stays;
+}
+
 pub read_resets : (id : DeviceId) → IsReset (Read id)
 read_resets id = record {
   front = λ s t g es told f. record { accepted = f.accepted; asks = f.asks; takes = f.takes; turns = f.turns; fates = f.fates; each = f.each; after = f.after };
@@ -106,6 +114,22 @@ read_resets id = record {
 
 pub write_resets : (id : DeviceId) (m : Msg) → IsReset (Write id m)
 write_resets id m = record {
+  front = λ s t g es told f. record { accepted = f.accepted; asks = f.asks; takes = f.takes; turns = f.turns; fates = f.fates; each = f.each; after = f.after };
+  next = λ s g ns. refl;
+  law = λ s g es answer l. record { tells = l.tells; stores = record { law = l.stores.law; others = l.stores.others; ends = l.stores.ends } };
+  stores = λ s joins es l. record { law = l.law; others = l.others; ends = l.ends };
+}
+
+pub read_three_resets : (id : List ℕ) → IsReset (Read3 id)
+read_three_resets id = record {
+  front = λ s t g es told f. record { accepted = f.accepted; asks = f.asks; takes = f.takes; turns = f.turns; fates = f.fates; each = f.each; after = f.after };
+  next = λ s g ns. refl;
+  law = λ s g es answer l. record { tells = l.tells; stays = l.stays };
+  stores = λ s joins es stays. stays;
+}
+
+pub write_three_resets : (id : List ℕ) (m : Msg) → IsReset (Write3 id m)
+write_three_resets id m = record {
   front = λ s t g es told f. record { accepted = f.accepted; asks = f.asks; takes = f.takes; turns = f.turns; fates = f.fates; each = f.each; after = f.after };
   next = λ s g ns. refl;
   law = λ s g es answer l. record { tells = l.tells; stores = record { law = l.stores.law; others = l.stores.others; ends = l.stores.ends } };

@@ -26,8 +26,11 @@ use Rattle.bench_devices.specs.Keeping.{Kept, kept, IsSound, StoreOf, AllKeepBut
 use Rattle.bench_devices.specs.Phases.{WriteEnd, FailsWrite, Selects, SelectsAt, SelectionCut, Writes, WritesSome, IsIdle}
 use Rattle.bench_devices.specs.Writing.{AsksWriteOf, ShowsWrite, KeepsWriteLaw}
 use Rattle.bench_devices.proofs.EveryFrame.{IsSoundOne, leaves_more, leaves_behind}
-use Rattle.bench_devices.proofs.ImagesJoin.{held_kept, law_start, with_alone}
-use Rattle.bench_devices.proofs.SelectedLaw.{law_selected}
+use Rattle.std.specs.List.{AllByRecursion}
+use Rattle.bench_devices.specs.Keeping.{images_of}
+use Rattle.bench_devices.proofs.ImagesJoin.{held_kept, images_still, law_start, with_alone}
+use Rattle.bench_devices.proofs.SelectedLaw.{law_selected, selecting_harmless}
+use Rattle.bench_devices.proofs.SelectingKept.{IsHarmless, due_asked}
 use Rattle.bench_devices.proofs.WriteLists.{some_write}
 use Rattle.bench_world.specs.declared.entry.Answer.{Answer}
 use Rattle.bench_world.specs.declared.entry.Answer.TheVariants as answers
@@ -94,7 +97,9 @@ module _ (id : DeviceId) (message : List ℕ) (a b : Moment BenchWorld) (ns : Li
       let named : bytes_of id ≡ device_id d = sym (found_named (bytes_of id) a.world.listeners d found) in
       let holds : held_by (device_with (device_id d) b.world.listeners) ≡ device_store d =
       held_kept (device_id d) a.world.listeners b.world.listeners same ∙ ap (λ i. held_by (device_with i a.world.listeners)) (sym named) ∙ ap held_by found in
-      if_read (kind_of d) _ _ (subst (λ es. KeepsWriteLaw message d Stopped a.world es) (append-nil g.events) (law_selected id a b ns g message d Stopped [] holds (law_start message d b.world holds))) tt
+      if_read (kind_of d) _ _ (subst (λ es. KeepsWriteLaw message d Stopped a.world es) (append-nil g.events) (law_selected id a b ns g message d Stopped [] holds (law_start message d b.world holds)))
+      (subst (λ x. AllByRecursion (λ y. y ≡ x) (images_of (device_id d) a.world g.events)) (ap (λ i. held_by (device_with i a.world.listeners)) (sym named) ∙ ap held_by found)
+      (images_still (device_id d) a.world g.events (due_asked IsHarmless (λ ks. asks (selecting id ks)) (λ ks f due. selecting_harmless id ks f due) [] g.events g.each)))
 
   -- and no other one changed
   polled_stores : IsSoundOne (bytes_of id) a.world.listeners → FieldStores a.world (bytes_of id) message Stopped g.events
@@ -163,16 +168,16 @@ module _ (old mid : Air Device) (id : DeviceId) (m : Msg) (place : ℕ) (idle : 
 
   -- the stores, from before it was selected on
   stores_behind : (new : Air Device) (commands : List Signal) (ks : List Note) (h : Going air (tag_next (seen_of s.device) commands) (moment mid) (moment new) ks) (ending : Ending)
-      → Leaves (StoreOf (device_id s.device)) (moment mid).world h.events (moment new).world → KeepsWriteLaw (message_of m) s.device ending (moment mid).world h.events
+      → may_be_read s.device ≡ true → Leaves (StoreOf (device_id s.device)) (moment mid).world h.events (moment new).world → KeepsWriteLaw (message_of m) s.device ending (moment mid).world h.events
       → FieldStores (moment old).world (bytes_of id) (message_of m) ending (s.selects.asked.going.events ++ h.events)
-  stores_behind new commands ks h ending left law =
+  stores_behind new commands ks h ending tag left law =
       let es : List Event = s.selects.asked.going.events in
       let whole : KeepsWriteLaw (message_of m) s.device ending (moment old).world (es ++ h.events) =
       law_selected id (moment old) (moment mid) s.selects.asked.notes s.selects.asked.going (message_of m) s.device ending h.events holds_there law in
       let world : (moment new).world ≡ replay air (moment old).world (es ++ h.events) = ap (λ (x : Moment BenchWorld). x.world) (of_both new commands ks h).moment in
       record {
         law = subst (λ o. IfPlaced (λ d. KeepsStores (message_of m) d ending (moment old).world (es ++ h.events)) (Unit {0}) o) (sym with_id.found)
-            (if_read (kind_of with_id.device) _ _ (law_same s.device with_id.device (sym with_id.same) (message_of m) ending (moment old).world (es ++ h.events) whole) tt);
+            (as_read with_id.device (same_read with_id.device s.device (sym same_kind) ∙ tag) _ _ (law_same s.device with_id.device (sym with_id.same) (message_of m) ending (moment old).world (es ++ h.events) whole));
         others = subst (λ (w : BenchWorld). AllKeepBut (bytes_of id) old.listeners w.listeners) world (left_behind new h.events left).0;
       }
 
@@ -192,7 +197,7 @@ module _ (old mid : Air Device) (id : DeviceId) (m : Msg) (place : ℕ) (idle : 
       let asked = placed_write commands (as_read s.device tag _ _ w.told.asks) in
       let none : NoneHands devices (moment old).world g.events = none_in (Write id m) (λ h. h) os old new commands (s.selects.asked.notes ++ ks) g asked in
       let stores : StoresLaw (above os old) no_joins id m (ending_told answer) g.events =
-      stores_above os old id m (ending_told answer) g.events none (stores_behind new commands ks w.told.asked.going (ending_told answer) w.told.asked.same
+      stores_above os old id m (ending_told answer) g.events none (stores_behind new commands ks w.told.asked.going (ending_told answer) tag w.told.asked.same
       (subst (λ x. KeepsWriteLaw (message_of m) s.device x (moment mid).world w.told.asked.going.events) (same_ending r answer told) w.law)) in
       asks_obeyed (StoreOf (bytes_of id)) (Write id m) (λ h. h) os old new commands (s.selects.asked.notes ++ ks) answer idle places tt tt refl g
       (then_tag id (seen_of s.device) commands s.selects.asked.notes ks s.selects.told ∙ w.told.asked.over) asked
@@ -230,7 +235,7 @@ module _ (old mid : Air Device) (id : DeviceId) (m : Msg) (place : ℕ) (idle : 
         front_of None (Write id m) (λ h. h) os old new commands ns idle tt refl g asked,
         subst (λ es. StoresLaw (above os old) no_joins id m Stopped es) (sym (trace_is old new (tag_due id commands) ns g idle))
             (stores_above os old id m Stopped g.events (none_in (Write id m) (λ h. h) os old new commands ns g asked)
-            (stores_behind new commands w.told.asked.notes w.told.asked.going Stopped w.told.asked.same w.law)),
+            (stores_behind new commands w.told.asked.notes w.told.asked.going Stopped tag w.told.asked.same w.law)),
         cut_tag old mid id place idle s (StoreOf (device_id s.device)) (AsksWriteOf (message_of m) s.device) new w.told,
       )
 

@@ -1,7 +1,7 @@
 -- What a command answers that polls, and the cause of each answer.
 use Rattle.std.specs.Prelude.{◌≡◌, ◌↔◌, ◌<◌, ℕ, List, [], Option, Some, None, IsSome, ◌⊎◌, Result, Ok, Err}
 use Rattle.nfc_base.specs.Signal.{Signal}
-use Rattle.nfc_base.specs.Trace.{noise, breaks}
+use Rattle.nfc_base.specs.Trace.{noise, breaks, turns}
 use Rattle.nfc_base.specs.declared.event.Event.{Event}
 use Rattle.nfc_base.specs.declared.tag_link.AskFault.{AskFault}
 use Rattle.nfc_base.specs.declared.tag_link.AskFault.TheVariants as asking
@@ -14,7 +14,11 @@ use Rattle.tag_reader.specs.declared.found.Found.{Found}
 use Rattle.tag_writer.specs.declared.fault.WriteFault.TheVariants as writing
 use Rattle.bench_script.specs.declared.command.DeviceId.{DeviceId}
 use Rattle.bench_script.specs.DeviceIds.{bytes_of}
+use Rattle.t3t_access.specs.declared.polling.Fcrowd.{Fcrowd}
+use Rattle.t3t_access.specs.declared.polling.Fcrowd.TheVariants as threes
+use Rattle.t3t_access.specs.Polling.{TellsPolledF}
 use Rattle.bench_devices.specs.Crowding.{CrowdTells}
+use Rattle.bench_devices.specs.Sensing.{sensing, HasSensed}
 use Rattle.bench_devices.specs.declared.device.Device.{Device}
 use Rattle.bench_devices.specs.declared.polling.SeenKind.{SeenKind}
 use Rattle.bench_devices.specs.declared.sweeping.Everybody.{Everybody}
@@ -136,3 +140,24 @@ pub record TagsTell (ds : List Device) (events : List Event) (answer : Answer) :
   pub found : Result (List (List ℕ)) PollFault
   pub tells : CrowdTells ds events found
   pub answered : tags_answer found ≡ Some answer
+
+-- The answer that tells which Type 3 tags are there.
+abbrev pub three_told : Fcrowd → Answer
+three_told threes.Nobody = answers.T3None
+three_told (threes.One id) = answers.T3One id
+three_told threes.Crowd = answers.T3Crowd
+
+-- The answer that tells what a search for them came to, if one does: not all faults end one on the bench.
+abbrev pub sensed_answer : Result Fcrowd PollFault → Option Answer
+sensed_answer (Ok found) = Some (three_told found)
+sensed_answer (Err fault) = poll_answer fault
+
+-- What a search for Type 3 tags answers, by what was heard of its turns, and why, by the tags that are placed. The field is lost
+-- exactly where a Break was used.
+pub record ThreesTell (ds : List Device) (events : List Event) (answer : Answer) : Type 0 where
+  pub found : Result Fcrowd PollFault
+  pub told : sensing (receptions events) ≡ Told found []
+  pub heard : TellsPolledF (turns events) found
+  pub cause : HasSensed ds found events
+  pub lost : (found ≡ Err faults.FieldLost) ↔ (0 < breaks events)
+  pub answered : sensed_answer found ≡ Some answer

@@ -16,7 +16,8 @@ use Rattle.nfca_poll.specs.Crowd.{Each}
 use Rattle.nfcv_poll.specs.Finding.{IsAscending}
 use Rattle.nfcv_poll.specs.Passes.{passes, noise_in}
 use Rattle.nfcv_poll.specs.Tags.{IsOneOf}
-use Rattle.bench_script.specs.declared.command.Command.TheVariants.{Find, Crowd, Read, Write}
+use Rattle.bench_script.specs.declared.command.Command.TheVariants.{Find, Crowd, Poll3, Read, Read3, Write, Write3}
+use Rattle.t3t_access.specs.Polling.{sensf_req}
 use Rattle.bench_script.specs.declared.command.DeviceId.{DeviceId}
 use Rattle.bench_script.specs.declared.command.DeviceId.TheVariants.{A, V}
 use Rattle.bench_script.specs.DeviceIds.{bytes_of}
@@ -32,7 +33,9 @@ use Rattle.bench_devices.specs.Crowded.{v_if, crowd_of, others_of}
 use Rattle.bench_devices.specs.Noise.{noisy_tries, AreDisturbed}
 use Rattle.bench_devices.specs.Placed.{device_with}
 use Rattle.bench_devices.specs.Polling.{Told, selecting}
+use Rattle.bench_devices.specs.Sensing.{sensed_of}
 use Rattle.bench_devices.specs.Writing.{ShowsWrite}
+use Rattle.bench_world.specs.Answering.{three_told}
 use Rattle.bench_world.specs.declared.entry.Answer.{Answer}
 use Rattle.bench_world.specs.declared.entry.Answer.TheVariants as answers
 use Rattle.bench_world.specs.declared.entry.Entry.{Entry}
@@ -121,3 +124,10 @@ abbrev pub TagsComplete : Type 0
 TagsComplete =
     (s t : State) (g : Given) (e : Entry) → LegalStep s g e t → e.command ≡ Crowd → breaks e.events ≡ 0 → HasQuietPass e.events
     → TellsTags s.world.field.listeners e.answer
+
+-- A search for Type 3 tags that keeps the field, and of which one try met no noise, tells of all that are placed: none, the one, or
+-- that there are several.
+abbrev pub ThreesComplete : Type 0
+ThreesComplete =
+    (s t : State) (g : Given) (e : Entry) → LegalStep s g e t → e.command ≡ Poll3 → breaks e.events ≡ 0 → noisy_tries sensf_req e.events < tries
+    → e.answer ≡ three_told (sensed_of s.world.field.listeners)

@@ -1,6 +1,6 @@
 -- Which entries a bench may have: what it accepts, what each command changes, which request is due, and what it
 -- answers. A later command adds a case to each definition.
-use Rattle.std.specs.Prelude.{◌≡◌, ◌⊎◌, ℕ, ◌+◌, ◌*◌, ◌-◌, ◌^◌, ◌<◌, ◌≤◌, List, [], ◌∷◌, ◌++◌, length, replicate, Option, Some, None, IsSome, Bool, true, false, if◌then◌else◌}
+use Rattle.std.specs.Prelude.{◌≡◌, ◌⊎◌, Err, ℕ, ◌+◌, ◌*◌, ◌-◌, ◌^◌, ◌<◌, ◌≤◌, List, [], ◌∷◌, ◌++◌, length, replicate, Option, Some, None, IsSome, Bool, true, false, if◌then◌else◌}
 use Rattle.std.specs.List.{All}
 use Rattle.nfc_base.specs.declared.event.Event.{Event}
 use Rattle.nfc_base.specs.declared.event.Event.TheVariants.{Request}
@@ -9,23 +9,27 @@ use Rattle.nfc_base.specs.declared.event.Fate.TheVariants.{Pass}
 use Rattle.nfc_base.specs.Signal.{Signal}
 use Rattle.air_core.specs.Conversation.{Note, Next, Over, Asks, first_fate, later_fates, receptions, replay, queue_after, AreTurns, FatesFrom, EachDue}
 use Rattle.t2t_tag.specs.Store.{IsT2Store}
+use Rattle.t3t_tag.specs.Store as three
 use Rattle.t4t_tag.specs.Store.{IsT4Store, file_size}
 use Rattle.t5t_tag.specs.Store.{IsT5Store}
+use Rattle.t3t_access.specs.declared.fault.T3Fault.TheVariants as three_fault
 use Rattle.bench_script.specs.declared.command.Command.{Command}
-use Rattle.bench_script.specs.declared.command.Command.TheVariants.{Skip, Fates, PlaceT2, PlaceT4, PlaceT5, PlacePeer, Lock, Busy, Offer, Remove, Dump, Inbox, Find, Crowd, Read, Write, Link, Forge, Put, Get, Lookup, Unlink}
+use Rattle.bench_script.specs.declared.command.Command.TheVariants.{Skip, Fates, PlaceT2, PlaceT3, PlaceT4, PlaceT5, PlacePeer, Lock, Busy, Offer, Remove, Dump, Inbox, Find, Crowd, Poll3, Read, Read3, Write, Write3, Link, Forge, Put, Get, Lookup, Unlink}
 use Rattle.bench_script.specs.declared.command.DeviceId.{DeviceId}
 use Rattle.bench_devices.specs.Crowding.{crowding}
 use Rattle.bench_devices.specs.declared.device.Device.{Device}
 use Rattle.bench_world.specs.declared.entry.Answer.{Answer}
 use Rattle.bench_world.specs.declared.entry.Answer.TheVariants as answers
 use Rattle.bench_world.specs.declared.entry.Entry.{Entry}
-use Rattle.bench_devices.specs.Device.{most_devices, new_t2, new_t4, new_t5, new_peer, blocks_of, device_locked, may_be_busy, device_busy, is_tag, memory_in}
+use Rattle.bench_devices.specs.Device.{most_devices, new_t2, new_t3, new_t4, new_t5, new_peer, blocks_of, device_locked, may_be_busy, device_busy, is_tag, memory_in}
 use Rattle.isodep_link.specs.Card.{most_busy}
 use Rattle.isodep_link.specs.Reader.{longest_extension}
 use Rattle.bench_devices.specs.TagAsking.{tag_due}
+use Rattle.bench_devices.specs.ThreeAsking.{three_due}
 use Rattle.bench_script.specs.DeviceIds.{bytes_of}
 use Rattle.bench_script.specs.Messages.{message_of}
 use Rattle.bench_devices.specs.Polling.{asks, finding_all}
+use Rattle.bench_devices.specs.Sensing.{sensing}
 use Rattle.bench_devices.specs.Beside.{TalkLeaves}
 use Rattle.bench_devices.specs.Placed.{device_with, without, with_changed, OfPlaced, IfPlaced}
 use Rattle.bench_devices.specs.Keeping.{AllKeepBut}
@@ -49,8 +53,9 @@ use Rattle.bench_world.specs.Asked.{IsOnLink, asked_on_link}
 use Rattle.bench_world.specs.Calls.{IfLinked, IsTold, OfEnd, PeerAdds, PeerMayAdd, PeerTells, asked_behind, due_asked, due_if, told_asked, with_accepted}
 use Rattle.bench_world.specs.Arriving.{ArrivesAt, ArrivesCutAt, ArrivesCutWithin, ArrivesWithin, BeginsAt}
 use Rattle.bench_world.specs.Forging.{ForgeTells, forged_general, forging, opens_link}
-use Rattle.bench_world.specs.Answering.{TagTells, TellsFound, TagsTell, CutTag}
+use Rattle.bench_world.specs.Answering.{TagTells, TellsFound, TagsTell, ThreesTell, CutTag}
 use Rattle.bench_world.specs.Reading.{TellsOf, ReadAsks}
+use Rattle.bench_world.specs.Threes.{KeepsStores3, ReadAsks3, TellsRead3, TellsWrite3, ThreeTells, WriteAsks3, WriteEnd3, end_told}
 use Rattle.bench_world.specs.Writing.{TellsWrite, WriteAsks, KeepsStores, ending_told}
 use Rattle.bench_devices.specs.Answering.{FindTells}
 
@@ -95,6 +100,12 @@ pub record MayPlaceT2 (s : State) (id : List ℕ) (blocks : ℕ) (head : List �
   pub free : IsFree s id
   pub fits : length head ≤ 4 * blocks
   pub store : IsT2Store (memory_of (4 * blocks) head)
+
+-- A Type 3 tag may be placed: likewise.
+pub record MayPlaceT3 (s : State) (id : List ℕ) (blocks : ℕ) (head : List ℕ) : Type 0 where
+  pub free : IsFree s id
+  pub fits : length head ≤ 16 * blocks
+  pub store : three.IsT3Store (memory_of (16 * blocks) head)
 
 -- A Type 4 tag may be placed: the given bytes fit into the NDEF file, which is as long as the container says, and its
 -- store is one of a tag.
@@ -172,6 +183,7 @@ abbrev pub Accepts : State → Command → Type 0
 Accepts s Skip = Unit {0}
 Accepts s (Fates fates) = Unit {0}
 Accepts s (PlaceT2 id blocks head) = MayPlaceT2 s id blocks head
+Accepts s (PlaceT3 id blocks head) = MayPlaceT3 s id blocks head
 Accepts s (PlaceT4 id code container head) = MayPlaceT4 s id code container head
 Accepts s (PlaceT5 id blocks size head) = MayPlaceT5 s id blocks size head
 Accepts s (PlacePeer id lr miu rw limit) = MayPlacePeer s id lr miu rw limit
@@ -183,8 +195,11 @@ Accepts s (Dump id) = IsTagPlaced s id
 Accepts s (Inbox id) = IsPeerPlaced s id
 Accepts s Find = Unit {0}
 Accepts s Crowd = Unit {0}
+Accepts s Poll3 = Unit {0}
 Accepts s (Read id) = Unit {0}
+Accepts s (Read3 id) = Unit {0}
 Accepts s (Write id message) = Unit {0}
+Accepts s (Write3 id message) = Unit {0}
 Accepts s (Link id miu window) = MayLink miu window
 Accepts s (Forge id payloads) = MayForge payloads
 Accepts s (Put message) = length (message_of message) ≤ longest_message
@@ -262,6 +277,7 @@ with_offer s id key value = record {
 abbrev pub changed : State → Command → State
 changed s (Fates fates) = record { world = s.world; queue = s.queue ++ fates; peers = s.peers; link = s.link }
 changed s (PlaceT2 id blocks head) = with_device s (new_t2 id (memory_of (4 * blocks) head))
+changed s (PlaceT3 id blocks head) = with_device s (new_t3 id (memory_of (16 * blocks) head))
 changed s (PlaceT4 id code container head) = with_device s (new_t4 id code container (memory_of (file_size container) head))
 changed s (PlaceT5 id blocks size head) = with_device s (new_t5 id size (memory_of (size * blocks) head))
 changed s (PlacePeer id lr miu rw limit) = with_peer_under s (new_peer id lr miu) (new_end miu rw limit)
@@ -271,8 +287,11 @@ changed s (Offer id key value) = with_offer s id key value
 changed s (Remove id) = without_device (unlinked_from s id) id
 changed s Find = unlinked s
 changed s Crowd = unlinked s
+changed s Poll3 = unlinked s
 changed s (Read id) = unlinked s
+changed s (Read3 id) = unlinked s
 changed s (Write id message) = unlinked s
+changed s (Write3 id message) = unlinked s
 changed s (Link id miu window) = unlinked s
 changed s (Forge id payloads) = unlinked s
 changed s c = s
@@ -283,6 +302,9 @@ abbrev pub IsAskedBy : State → Command → List Signal → Type 0
 IsAskedBy s (Read id) asked = IfPlaced (λ d. ReadAsks d asked) (asked ≡ []) (device_with (bytes_of id) s.world.field.listeners)
 IsAskedBy s (Write id message) asked =
     IfPlaced (λ d. WriteAsks (message_of message) d asked) (asked ≡ []) (device_with (bytes_of id) s.world.field.listeners)
+IsAskedBy s (Read3 id) asked = IfPlaced (λ d. ReadAsks3 id d asked) (asked ≡ []) (device_with id s.world.field.listeners)
+IsAskedBy s (Write3 id message) asked =
+    IfPlaced (λ d. WriteAsks3 id (message_of message) d asked) (asked ≡ []) (device_with id s.world.field.listeners)
 IsAskedBy s c asked = asked ≡ []
 
 -- What is due in a command that asks nothing on the open link, by what the reader knows. Nothing is sent but in a read,
@@ -290,7 +312,10 @@ IsAskedBy s c asked = asked ≡ []
 abbrev pub due_alone : Given → Command → List Note → Next
 due_alone g Find ns = asks (finding_all ns)
 due_alone g Crowd ns = crowding ns
+due_alone g Poll3 ns = asks (sensing ns)
 due_alone g (Read id) ns = tag_due id g.asked ns
+due_alone g (Read3 id) ns = three_due id g.asked ns
+due_alone g (Write3 id message) ns = three_due id g.asked ns
 due_alone g (Write id message) ns = tag_due id g.asked ns
 due_alone g (Link id miu window) ns = linking (DeviceId.A id) (own_general miu) ns
 due_alone g (Forge id payloads) ns = forging id payloads ns
@@ -372,6 +397,10 @@ pub record CrowdLaw (s : State) (joins : Joins) (events : List Event) (answer : 
   pub tells : TagsTell s.world.field.listeners events answer
   pub stays : LeavesStable s joins Crowd events
 
+pub record SenseLaw (s : State) (joins : Joins) (events : List Event) (answer : Answer) : Type 0 where
+  pub tells : ThreesTell s.world.field.listeners events answer
+  pub stays : LeavesStable s joins Poll3 events
+
 -- A write changes the store of its tag alone, which passes such stores as the law of a write says: the one before the
 -- command and the one after each event, resets and polling too. No other store, no locked block and nothing that stays
 -- of a far end changes. The images of the tag's store are told by the field alone, since no far end has a part in what
@@ -384,6 +413,21 @@ pub record StoresLaw (s : State) (joins : Joins) (id : DeviceId) (message : Msg)
 pub record WritingLaw (s : State) (joins : Joins) (id : DeviceId) (message : Msg) (asked : List Signal) (events : List Event) (answer : Answer) : Type 0 where
   pub tells : TagTells (TellsWrite (message_of message)) id s.world.field.listeners asked events answer
   pub stores : StoresLaw s joins id message (ending_told answer) events
+
+-- Likewise of Type 3 tags. A write of one passes other stores: the one before the command, then such that say that a write is under
+-- way, then such that hold the message.
+pub record Read3Law (s : State) (joins : Joins) (id : List ℕ) (asked : List Signal) (events : List Event) (answer : Answer) : Type 0 where
+  pub tells : ThreeTells TellsRead3 id s.world.field.listeners asked events answer
+  pub stays : LeavesStable s joins (Read3 id) events
+
+pub record Stores3Law (s : State) (joins : Joins) (id : List ℕ) (message : Msg) (end : WriteEnd3) (events : List Event) : Type 0 where
+  pub law : IfPlaced (λ d. KeepsStores3 (message_of message) d end s.world.field events) (Unit {0}) (device_with id s.world.field.listeners)
+  pub others : AllKeepBut id s.world.field.listeners (world_after s joins (Write3 id message) events).field.listeners
+  pub ends : (stable (world_after s joins (Write3 id message) events)).ends ≡ (stable s.world).ends
+
+pub record Writing3Law (s : State) (joins : Joins) (id : List ℕ) (message : Msg) (asked : List Signal) (events : List Event) (answer : Answer) : Type 0 where
+  pub tells : ThreeTells (TellsWrite3 (message_of message)) id s.world.field.listeners asked events answer
+  pub stores : Stores3Law s joins id message (end_told answer) events
 
 -- A dump tells what the device with this identifier holds.
 abbrev pub DumpLaw : State → DeviceId → Answer → Type 0
@@ -445,6 +489,7 @@ pub record ForgeLaw (s : State) (joins : Joins) (id : List ℕ) (payloads : List
 abbrev pub AnswerAlone : State → Given → Command → List Event → Answer → Type 0
 AnswerAlone s g (Fates fates) events answer = answer ≡ answers.Done
 AnswerAlone s g (PlaceT2 id blocks head) events answer = answer ≡ answers.Done
+AnswerAlone s g (PlaceT3 id blocks head) events answer = answer ≡ answers.Done
 AnswerAlone s g (PlaceT4 id code container head) events answer = answer ≡ answers.Done
 AnswerAlone s g (PlaceT5 id blocks size head) events answer = answer ≡ answers.Done
 AnswerAlone s g (PlacePeer id lr miu rw limit) events answer = answer ≡ answers.Done
@@ -456,7 +501,10 @@ AnswerAlone s g (Dump id) events answer = DumpLaw s id answer
 AnswerAlone s g (Inbox id) events answer = answer ≡ answers.Inbox (inbox_now s id)
 AnswerAlone s g Find events answer = FindLaw s g.joins events answer
 AnswerAlone s g Crowd events answer = CrowdLaw s g.joins events answer
+AnswerAlone s g Poll3 events answer = SenseLaw s g.joins events answer
 AnswerAlone s g (Read id) events answer = ReadLaw s g.joins id g.asked events answer
+AnswerAlone s g (Read3 id) events answer = Read3Law s g.joins id g.asked events answer
+AnswerAlone s g (Write3 id message) events answer = Writing3Law s g.joins id message g.asked events answer
 AnswerAlone s g (Write id message) events answer = WritingLaw s g.joins id message g.asked events answer
 AnswerAlone s g (Link id miu window) events answer = LinkingLaw s g.joins id miu window events answer
 AnswerAlone s g (Forge id payloads) events answer = ForgeLaw s g.joins id payloads events answer
@@ -534,7 +582,10 @@ ForgeCutLeaves false s joins id payloads cut = LeavesStable s joins (Forge id pa
 abbrev pub CutAlone : State → Joins → Command → List Event → Type 0
 CutAlone s joins Find cut = LeavesStable s joins Find cut
 CutAlone s joins Crowd cut = LeavesStable s joins Crowd cut
+CutAlone s joins Poll3 cut = LeavesStable s joins Poll3 cut
 CutAlone s joins (Read id) cut = LeavesStable s joins (Read id) cut
+CutAlone s joins (Read3 id) cut = LeavesStable s joins (Read3 id) cut
+CutAlone s joins (Write3 id message) cut = Stores3Law s joins id message (Err three_fault.Memory) cut
 CutAlone s joins (Write id message) cut = StoresLaw s joins id message Stopped cut
 CutAlone s joins (Link id miu window) cut = LeavesStable s joins (Link id miu window) cut
 CutAlone s joins (Forge id payloads) cut = ForgeCutLeaves (opens_link id payloads cut) s joins id payloads cut

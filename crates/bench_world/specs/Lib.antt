@@ -2,6 +2,7 @@ pub mod Reading
 pub mod Crowded
 pub mod Answering
 pub mod Writing
+pub mod Threes
 pub mod World
 pub mod Peers
 pub mod Links

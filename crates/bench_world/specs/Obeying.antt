@@ -24,6 +24,7 @@ use Rattle.bench_world.specs.Calls.{IfLinked}
 use Rattle.bench_world.specs.Links.{OpenLink, ended}
 use Rattle.bench_world.specs.Opened.{IsOpen, AreServed, AreNumbered}
 use Rattle.bench_world.specs.Peers.{Peers, next_number, with_gone}
+use Rattle.bench_world.specs.Threes.{AreWellStored}
 use Rattle.bench_world.specs.Unfinished.{Unfinished}
 
 abbrev pub obey_fault_number : ObeyFault → ℕ
@@ -73,9 +74,11 @@ pub record HasPlaces (m : Machines) : Type 0 where
 abbrev pub KeepsLink : Machines → Type 0
 KeepsLink m = IfLinked m.link (λ l. IsOpen m.air m.ends m.peers l) (Unit {0})
 
--- Between two commands the field is idle, each device has its place, and the open link stands.
+-- Between two commands the field is idle, each device has its place, and the open link stands. Each Type 3 tag has a store that a new
+-- tag may have.
 pub record IsSettled (m : Machines) : Type 0 where
   pub idle : IsIdle m.air
+  pub stored : AreWellStored m.air.listeners
   pub places : HasPlaces m
   pub link : KeepsLink m
 

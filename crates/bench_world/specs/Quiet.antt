@@ -4,7 +4,7 @@ use Rattle.std.specs.List.{AllByRecursion}
 use Rattle.nfc_base.specs.Trace.{noise}
 use Rattle.nfc_base.specs.declared.event.Fate.{Fate}
 use Rattle.nfc_base.specs.declared.event.Fate.TheVariants.{Pass}
-use Rattle.bench_script.specs.declared.command.Command.TheVariants.{Find, Crowd, Read, Write}
+use Rattle.bench_script.specs.declared.command.Command.TheVariants.{Find, Crowd, Poll3, Read, Read3, Write, Write3}
 use Rattle.bench_script.specs.declared.command.DeviceId.{DeviceId}
 use Rattle.bench_script.specs.DeviceIds.{bytes_of}
 use Rattle.bench_script.specs.Messages.{message_of}
@@ -14,6 +14,8 @@ use Rattle.bench_devices.specs.Answering.{IsNamed}
 use Rattle.bench_devices.specs.Placed.{device_with}
 use Rattle.bench_world.specs.declared.entry.Answer.TheVariants as answers
 use Rattle.bench_world.specs.declared.entry.Entry.{Entry}
+use Rattle.bench_devices.specs.Sensing.{sensed_of}
+use Rattle.bench_world.specs.Answering.{three_told}
 use Rattle.bench_world.specs.Completing.{MayBeWritten, TellsTags, whole_field}
 use Rattle.bench_world.specs.Journal.{LeadsTo}
 use Rattle.bench_world.specs.Legal.{State, Given, Joins, LegalStep, changed}
@@ -57,3 +59,8 @@ QuietFinds =
 abbrev pub QuietTags : Type 0
 QuietTags =
     (s t : State) (g : Given) (e : Entry) → LegalStep s g e t → e.command ≡ Crowd → AllPass s.queue → TellsTags s.world.field.listeners e.answer
+
+-- One for Type 3 tags tells of all that are placed.
+abbrev pub QuietThrees : Type 0
+QuietThrees =
+    (s t : State) (g : Given) (e : Entry) → LegalStep s g e t → e.command ≡ Poll3 → AllPass s.queue → e.answer ≡ three_told (sensed_of s.world.field.listeners)

@@ -6,7 +6,7 @@ use Rattle.nfc_base.specs.Trace.{noise}
 use Rattle.nfc_base.specs.declared.event.Fate.{Fate}
 use Rattle.air_core.specs.Conversation.{Note, receptions}
 use Rattle.bench_script.specs.declared.command.Command.{Command}
-use Rattle.bench_script.specs.declared.command.Command.TheVariants.{Fates, Find, Crowd, Read, Write, Link, Forge}
+use Rattle.bench_script.specs.declared.command.Command.TheVariants.{Fates, Find, Crowd, Poll3, Read, Read3, Write, Write3, Link, Forge}
 use Rattle.bench_script.specs.declared.command.DeviceId.{DeviceId}
 use Rattle.bench_script.specs.declared.command.DeviceId.TheVariants.{A}
 use Rattle.bench_script.specs.DeviceIds.{bytes_of}
@@ -22,6 +22,8 @@ use Rattle.bench_devices.specs.Polling.{Told, selecting}
 use Rattle.bench_world.specs.declared.entry.Answer.TheVariants as answers
 use Rattle.bench_world.specs.declared.entry.Entry.{Entry}
 use Rattle.bench_world.specs.Asked.{IsOnLink}
+use Rattle.bench_devices.specs.Sensing.{sensed_of}
+use Rattle.bench_world.specs.Answering.{three_told}
 use Rattle.bench_world.specs.Completing.{MayBeWritten, TellsTags, whole_field}
 use Rattle.bench_world.specs.Journal.{LeadsTo}
 use Rattle.bench_world.specs.Legal.{State, Joins, changed, state_after, first_state}
@@ -87,7 +89,7 @@ pub record WritesPlaced (s : State) (e : Entry) (id : DeviceId) (m : Msg) (d : D
 
 -- An entry of a script without noise: everything passed; a read of a placed tag tells what its store holds, a write
 -- what it comes to, which is success where the tag takes the message and none of its blocks is locked, a search lists
--- the whole field, and one for Type 5 tags all of these; a placed peer is linked, and replies to each payload that is sent to it by hand, and each command on
+-- the whole field, and one for Type 5 or Type 3 tags all of these; a placed peer is linked, and replies to each payload that is sent to it by hand, and each command on
 -- the open link is answered as the peer answers it.
 pub record IsQuietEntry (s : State) (e : Entry) (t : State) : Type 0 where
   pub quiet : noise e.events ≡ 0
@@ -97,6 +99,7 @@ pub record IsQuietEntry (s : State) (e : Entry) (t : State) : Type 0 where
   pub written : (id : DeviceId) (m : Msg) (d : Device) → WritesPlaced s e id m d → MayBeWritten (message_of m) d → e.answer ≡ answers.Written
   pub finds : e.command ≡ Find → e.answer ≡ whole_field s.world.field.listeners
   pub tags : e.command ≡ Crowd → TellsTags s.world.field.listeners e.answer
+  pub threes : e.command ≡ Poll3 → e.answer ≡ three_told (sensed_of s.world.field.listeners)
   pub links : LinksQuietly s e
   pub forges : ForgesQuietly s e
   pub talks : TalksQuietly s e t

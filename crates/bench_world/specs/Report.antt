@@ -10,7 +10,7 @@ use Rattle.nfc_base.specs.declared.event.Event.TheVariants.{Reset, Request, Answ
 use Rattle.nfc_base.specs.declared.event.Fate.{Fate}
 use Rattle.nfc_base.specs.declared.event.Fate.TheVariants.{Pass, Damage, Lose, Break}
 use Rattle.bench_world.specs.declared.entry.Answer.{Answer as Said}
-use Rattle.bench_world.specs.declared.entry.Answer.TheVariants.{Done, Store, Found, Crowd, Message, NotNdef, Version, NoRead, Sectors, BadSize, NoMessageTlv, BadTlv, Disturbed, FieldLost, NotFound, SixBad, Written, Refused, ReadOnly, TooLong, ShortMlc, WrongKind, Inbox, Linked, Success, Reject, Value, NoValue, Excess, NotImplemented, Sap, LinkEnded, Replies, Unlinked, NoLink}
+use Rattle.bench_world.specs.declared.entry.Answer.TheVariants.{Done, Store, Found, Crowd, T3None, T3One, T3Crowd, Message, NotNdef, Version, NoRead, Sectors, BadSize, NoMessageTlv, BadTlv, Unfinished, Disturbed, FieldLost, NotFound, SixBad, Written, Refused, ReadOnly, TooLong, ShortMlc, WrongKind, Inbox, Linked, Success, Reject, Value, NoValue, Excess, NotImplemented, Sap, LinkEnded, Replies, Unlinked, NoLink}
 use Rattle.bench_world.specs.declared.entry.Entry.{Entry}
 use Rattle.bench_world.specs.declared.entry.Loss.{Loss}
 use Rattle.bench_world.specs.declared.entry.Loss.TheVariants as losses
@@ -116,6 +116,7 @@ answer_text Sectors = codes "sectors"
 answer_text BadSize = codes "bad size"
 answer_text NoMessageTlv = codes "no message tlv"
 answer_text BadTlv = codes "bad tlv"
+answer_text Unfinished = codes "unfinished"
 answer_text Disturbed = codes "disturbed"
 answer_text FieldLost = codes "field lost"
 answer_text NotFound = codes "not found"
@@ -130,6 +131,9 @@ answer_text (Store bytes) = codes "store " ++ hex_text bytes
 answer_text (Inbox messages) = inbox_text messages
 answer_text (Found devices crowd) = found_text devices crowd
 answer_text (Crowd ids) = tags_text ids
+answer_text T3None = codes "t3 none"
+answer_text (T3One id) = codes "t3 " ++ hex_text id
+answer_text T3Crowd = codes "t3 crowd"
 answer_text (Message message writable) = codes "message " ++ hex_text message ++ codes " " ++ access_text writable
 answer_text (Linked link) = codes "linked " ++ decimal link
 answer_text Success = codes "success"

@@ -4,7 +4,9 @@ ghost use Rattle.std.specs.Prelude.{◌≡◌, ◌⊎◌, Some, Err, IfOk, OnErr
 ghost use Rattle.nfca_poll.specs.declared.fault.PollFault.TheVariants as faults;
 ghost use Rattle.tag_reader.specs.declared.fault.ReadFault.TheVariants as reading;
 ghost use Rattle.tag_writer.specs.declared.fault.WriteFault.TheVariants as writing;
-ghost use Rattle.bench_world.specs.Answering.{poll_answer, told_by, MayEnd, written_by, MayEndWrite};
+ghost use Rattle.bench_world.specs.Answering.{poll_answer, three_told, told_by, MayEnd, written_by, MayEndWrite};
+ghost use Rattle.t3t_access.specs.declared.fault.T3Fault.TheVariants as three;
+ghost use Rattle.bench_world.specs.Threes.{told_three, MayEnd3, written_three, MayEndWrite3};
 ghost use Rattle.bench_world.specs.Crowded.{seen_card, seen_all, is_crowd};
 
 use crate::entry::{Answer, Seen};
@@ -13,6 +15,7 @@ use bench_script::DeviceId;
 use nfc_base::Items;
 use nfca_poll::{Kind, Picked, PollFault, Vcrowd};
 use std::alloc::{AllocError, Global};
+use t3t_access::{Fcrowd, Found3, T3Fault};
 use tag_reader::{Found, ReadFault};
 use tag_writer::WriteFault;
 
@@ -27,6 +30,17 @@ pub fn missed(fault: PollFault) -> Result<Answer, AllocError>
         PollFault::NotFound => Ok(Answer::NotFound),
         PollFault::Memory => Err(AllocError),
         PollFault::Nobody | PollFault::BadAnswer => unreachable!(),
+    }
+}
+
+/// The answer that tells which Type 3 tags are there.
+pub fn sensed(found: Fcrowd) -> Answer
+    ensures { result ≡ three_told found }
+{
+    match found {
+        Fcrowd::Nobody => Answer::T3None,
+        Fcrowd::One(id) => Answer::T3One(id),
+        Fcrowd::Crowd => Answer::T3Crowd,
     }
 }
 
@@ -109,6 +123,81 @@ fn unwritten(fault: WriteFault) -> Result<Answer, AllocError>
         WriteFault::ShortMlc => Ok(Answer::ShortMlc),
         WriteFault::Memory => Err(AllocError),
         WriteFault::Protocol => unreachable!(),
+    }
+}
+
+/// The answer that tells what a read of a Type 3 tag came to. A tag of the bench refuses no Check that is asked.
+pub fn told_three(read: Result<Found3, T3Fault>) -> Result<Answer, AllocError>
+    requires { MayEnd3 read }
+    ensures ok { IfOk result (λ answer. told_three read ≡ Some answer) }
+    ensures starved { OnErr result (read ≡ Err three.Memory) }
+{
+    match read {
+        Ok(found) => Ok(message_three(found)),
+        Err(fault) => unread_three(fault),
+    }
+}
+
+/// The answer that tells of its message.
+fn message_three(found: Found3) -> Answer
+    ensures { result ≡ Answer.Message found.message.items found.writable }
+{
+    let Found3 { message, writable } = found;
+    Answer::Message {
+        message: Items::new(message),
+        writable,
+    }
+}
+
+/// The answer that tells why there is none.
+fn unread_three(fault: T3Fault) -> Result<Answer, AllocError>
+    requires { MayEnd3 (Err fault) }
+    ensures ok { IfOk result (λ answer. told_three (Err fault) ≡ Some answer) }
+    ensures starved { OnErr result (fault ≡ three.Memory) }
+{
+    match fault {
+        T3Fault::NotNdef => Ok(Answer::NotNdef),
+        T3Fault::Version => Ok(Answer::Version),
+        T3Fault::BadSize => Ok(Answer::BadSize),
+        T3Fault::Unfinished => Ok(Answer::Unfinished),
+        T3Fault::FieldLost => Ok(Answer::FieldLost),
+        T3Fault::SixBad => Ok(Answer::SixBad),
+        T3Fault::Memory => Err(AllocError),
+        T3Fault::Refused(_) | T3Fault::ReadOnly | T3Fault::TooLong(_) | T3Fault::Protocol => {
+            unreachable!()
+        }
+    }
+}
+
+/// The answer that tells what a write of a Type 3 tag came to.
+pub fn written_three(write: Result<(), T3Fault>) -> Result<Answer, AllocError>
+    requires { MayEndWrite3 write }
+    ensures ok { IfOk result (λ answer. written_three write ≡ Some answer) }
+    ensures starved { OnErr result (write ≡ Err three.Memory) }
+{
+    match write {
+        Ok(()) => Ok(Answer::Written),
+        Err(fault) => unwritten_three(fault),
+    }
+}
+
+/// The answer that tells why it doesn't hold the message.
+fn unwritten_three(fault: T3Fault) -> Result<Answer, AllocError>
+    requires { MayEndWrite3 (Err fault) }
+    ensures ok { IfOk result (λ answer. written_three (Err fault) ≡ Some answer) }
+    ensures starved { OnErr result (fault ≡ three.Memory) }
+{
+    match fault {
+        T3Fault::NotNdef => Ok(Answer::NotNdef),
+        T3Fault::Version => Ok(Answer::Version),
+        T3Fault::BadSize => Ok(Answer::BadSize),
+        T3Fault::Refused(status) => Ok(Answer::Refused(status)),
+        T3Fault::FieldLost => Ok(Answer::FieldLost),
+        T3Fault::SixBad => Ok(Answer::SixBad),
+        T3Fault::ReadOnly => Ok(Answer::ReadOnly),
+        T3Fault::TooLong(most) => Ok(Answer::TooLong(most)),
+        T3Fault::Memory => Err(AllocError),
+        T3Fault::Protocol | T3Fault::Unfinished => unreachable!(),
     }
 }
 

@@ -17,6 +17,7 @@ use crate::joins::Joins;
 use crate::linking::link;
 use crate::machines::Machines;
 use crate::peers::{inbox, offer_value, place_peer};
+use crate::threes::{find_threes, read_tag_three, write_tag_three};
 use air_core::Field;
 use bench_devices::{Device, PoweredTag, T2Upper, T4Upper, is_named, place_of};
 use bench_script::{Command, DeviceId};
@@ -30,6 +31,7 @@ use std::alloc::{AllocError, Global};
 use std::marker::Model;
 use std::mem;
 use t2t_tag::T2Tag;
+use t3t_tag::T3Tag;
 use t4t_tag::{T4Tag, named_size};
 use t5t_tag::T5Tag;
 use thiserror::Error;
@@ -109,6 +111,35 @@ fn place_t2(
         return Err(ObeyFault::Refused);
     };
     match machines.put_in(Device::T2(Front::new(id.copy(), T2Upper::new(tag)))) {
+        Ok(_) => Ok(Answer::Done),
+        Err(_) => Err(ObeyFault::Memory),
+    }
+}
+
+/// Puts a Type 3 tag into the field.
+fn place_t3(
+    alloc: Global,
+    machines: &mut Machines,
+    id: [u8; 8],
+    blocks: u16,
+    head: &[u8],
+) -> Result<Answer, ObeyFault>
+    requires { IsSettled machines.old }
+    ensures ok { IfOk result (λ a. Obeyed machines.old machines.new (Command.PlaceT3 id blocks head.now) a) }
+    ensures err { OnErr result (machines.new ≡ machines.old) }
+    ensures cause { RefusedOnly result machines.old (Command.PlaceT3 id blocks head.now) }
+{
+    let size = 16 * blocks as usize;
+    if !is_free(machines.devices(), &id) || head.len() > size {
+        return Err(ObeyFault::Refused);
+    }
+    let Ok(store) = memory(alloc, size, head) else {
+        return Err(ObeyFault::Memory);
+    };
+    let Ok(tag) = T3Tag::new(id, store) else {
+        return Err(ObeyFault::Refused);
+    };
+    match machines.put_in(Device::T3(PoweredTag::new(tag))) {
         Ok(_) => Ok(Answer::Done),
         Err(_) => Err(ObeyFault::Memory),
     }
@@ -299,6 +330,9 @@ fn run_command(
         Command::PlaceT2 { id, blocks, head } => {
             place_t2(alloc, machines, id, *blocks, head.as_slice())
         }
+        Command::PlaceT3 { id, blocks, head } => {
+            place_t3(alloc, machines, *id, *blocks, head.as_slice())
+        }
         Command::PlaceT4 {
             id,
             code,
@@ -335,7 +369,10 @@ fn run_command(
         Command::Dump { id } => dump_store(alloc, &machines.field, id),
         Command::Find => find(alloc, machines),
         Command::Crowd => find_tags(alloc, machines),
+        Command::Poll3 => find_threes(machines),
         Command::Read { id } => read_tag(alloc, machines, id),
+        Command::Read3 { id } => read_tag_three(alloc, machines, *id),
+        Command::Write3 { id, message } => write_tag_three(alloc, machines, *id, message),
         Command::Write { id, message } => write_message(alloc, machines, id, message),
         Command::Link { id, miu, rw } => link(alloc, machines, id, *miu, *rw),
         Command::Forge { id, payloads } => {

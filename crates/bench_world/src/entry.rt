@@ -41,6 +41,10 @@ pub enum Answer {
     Found { devices: Items<Seen>, crowd: bool },
     /// The identifiers of the Type 5 tags that were found, ascending.
     Crowd(Items<[u8; 8]>),
+    /// No Type 3 tag was found, the one with this identifier, or several.
+    T3None,
+    T3One([u8; 8]),
+    T3Crowd,
     /// The message that a tag holds, and whether it may be written.
     Message { message: Items<u8>, writable: bool },
     /// The tag's container isn't that of an NDEF tag, has another version, forbids reading, names more than one sector
@@ -53,6 +57,8 @@ pub enum Answer {
     /// Its area holds no NDEF TLV, or a TLV before one isn't whole.
     NoMessageTlv,
     BadTlv,
+    /// A Type 3 tag says that a write of it wasn't finished.
+    Unfinished,
     /// Noise ended each round of polling, or each of its tries.
     Disturbed,
     /// The field went dark.

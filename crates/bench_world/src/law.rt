@@ -2,11 +2,11 @@
 //! for these laws.
 
 ghost use Rattle.bench_world.specs.Behind.{WrittenIsRead, OneOfThreeIsRead, BrokenIsRead, FirstBrokenIsRead};
-ghost use Rattle.bench_world.specs.Completing.{ReadsComplete, WritesComplete, ShownIsWritten, ValidIsWritten, FindsComplete, TagsComplete};
+ghost use Rattle.bench_world.specs.Completing.{ReadsComplete, WritesComplete, ShownIsWritten, ValidIsWritten, FindsComplete, TagsComplete, ThreesComplete};
 ghost use Rattle.bench_world.specs.CompletingLinks.{AskedComplete, PutsComplete, GetsComplete, LookupsComplete, UnlinksComplete, ValidIsOk, LinkingsComplete, KindsTold};
 ghost use Rattle.bench_world.specs.CompletingForging.{ForgedKindsTold, ForgingsComplete, QuietForgings};
 ghost use Rattle.bench_world.specs.LinkLaw.{CutArrivalLaw, CutLinkLaw, LinkLaw};
-ghost use Rattle.bench_world.specs.Quiet.{QuietStays, QuietReads, QuietWrites, QuietIsWritten, QuietFinds, QuietTags};
+ghost use Rattle.bench_world.specs.Quiet.{QuietStays, QuietReads, QuietWrites, QuietIsWritten, QuietFinds, QuietTags, QuietThrees};
 ghost use Rattle.bench_world.specs.QuietHearing.{QuietHears, QuietScript};
 ghost use Rattle.bench_world.specs.QuietLinks.{QuietTalks, QuietLinkings};
 ghost use Rattle.bench_world.specs.ReadBack.{LinesTellEvents, AnswersApart};
@@ -27,10 +27,12 @@ pub fn writes_complete()
 {}
 
 /// A legal search, without a Break and with a round and a try without noise, lists the whole field; one for Type 5 tags,
-/// without a Break and with a pass without noise, lists all of them.
+/// without a Break and with a pass without noise, lists all of them; and one for Type 3 tags, without a Break and with a
+/// try without noise, tells of all of them.
 pub fn finds_complete()
     ensures finds { FindsComplete }
     ensures tags { TagsComplete }
+    ensures threes { ThreesComplete }
 {}
 
 /// A legal command on the open link is answered as its peer answers it, and the link is closed, exactly where no Break
@@ -85,6 +87,7 @@ pub fn quiet_air()
     ensures written { QuietIsWritten }
     ensures finds { QuietFinds }
     ensures tags { QuietTags }
+    ensures threes { QuietThrees }
     ensures talks { QuietTalks }
     ensures linkings { QuietLinkings }
     ensures forgings { QuietForgings }

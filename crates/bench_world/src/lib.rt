@@ -1,6 +1,6 @@
 //! A bench: devices in a field, and the journal of the commands that it obeyed.
 //!
-//! `bench` obeys commands, those that ask the devices something by `asking`, those of peers by `peers`; `machines` are
+//! `bench` obeys commands, those that ask the devices something by `asking`, Type 3 tags by `threes`, those of peers by `peers`; `machines` are
 //! the field with its devices and the far ends above them, `joins` how many PDUs stand in payloads, and `inbox` tells
 //! what such an end accepted, by its links. `entry` is what the journal keeps of a command, `answering` makes its
 //! answer of what selecting, reading, writing and searching came to. `event_lines` and `pieces` turn an entry to text
@@ -27,6 +27,7 @@ mod machines;
 mod peers;
 mod pieces;
 mod report;
+mod threes;
 
 pub use bench::{Bench, ObeyFault, Run};
 pub use bench_devices::{Device, SeenKind};

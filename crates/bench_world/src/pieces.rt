@@ -61,6 +61,7 @@ pub fn answer_pieces(entry: &Entry) -> AnswerPieces<'_>
         Answer::BadSize => in_words(line, b"bad size"),
         Answer::NoMessageTlv => in_words(line, b"no message tlv"),
         Answer::BadTlv => in_words(line, b"bad tlv"),
+        Answer::Unfinished => in_words(line, b"unfinished"),
         Answer::Disturbed => in_words(line, b"disturbed"),
         Answer::FieldLost => in_words(line, b"field lost"),
         Answer::NotFound => in_words(line, b"not found"),
@@ -75,6 +76,9 @@ pub fn answer_pieces(entry: &Entry) -> AnswerPieces<'_>
         Answer::Inbox(messages) => inbox(line, messages.as_slice()),
         Answer::Found { devices, crowd } => found(line, devices.as_slice(), *crowd),
         Answer::Crowd(tags) => crowd(line, tags.as_slice()),
+        Answer::T3None => in_words(line, b"t3 none"),
+        Answer::T3One(id) => with_bytes(line, b"t3 ", id.as_slice(), b""),
+        Answer::T3Crowd => in_words(line, b"t3 crowd"),
         Answer::Message { message, writable } => {
             with_bytes(line, b"message ", message.as_slice(), access(*writable))
         }

@@ -380,8 +380,9 @@ module _ (id : List ℕ) (locked : List Bool) (a : LinkView) (tag : IsTag3 id lo
           (three_at b n due all (after_puts n) (inl refl) (ap (λ (s : TagStep). s.after.store) (step_at n all) ∙ ap (λ (s : TagState). s.store) (refuses n e).state) h.answered.calls)
           (record {
             status' = ap status_of same;
-            block = place n;
-            within = put_low a.state.store message tag.store takes n;
+            takes = takes;
+            number = n;
+            some = due;
             locked' = e;
             left = subst (λ s. (s ≡ a.state.store) ⊎ IsBegun message a.state.store s) (sym left) (old_or_begun n due);
           })

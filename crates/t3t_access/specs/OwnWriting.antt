@@ -41,12 +41,14 @@ pub record IsTooSmall (store message : List ℕ) (most : ℕ) : Type 0 where
   pub most' : most ≡ 16 * message_blocks (attributes store)
   pub long : most < length message
 
--- The tag refused an Update: a block of the write is locked, and the store is the old one or says that a write is under way.
+-- The tag takes the message, and refused an Update: its block is locked, and the store is the old one or says that a write is under
+-- way.
 pub record IsRefused (locked : List Bool) (message old s : List ℕ) (status : ℕ) : Type 0 where
   pub status' : status ≡ block_locked
-  pub block : ℕ
-  pub within : block ≤ blocks_of message
-  pub locked' : get_or locked block false ≡ true
+  pub takes : Takes (attributes old) message
+  pub number : ℕ
+  pub some : number < all_puts message
+  pub locked' : get_or locked (put_at (attributes old) message number).block false ≡ true
   pub left : (s ≡ old) ⊎ IsBegun message old s
 
 -- Why a write ends without the message: by the form of the store, by the message, by a locked block, or by the link. A write

@@ -54,6 +54,32 @@ const PLACES_T2: Lines = &[
     ("place t2 01020304 16 - -", 1),
 ];
 
+const PLACES_T3: Lines = &[
+    ("place t3 0102030405060708 1 -", 0),
+    ("place t3 0a0b0c0d0e0f1011 256 D00000", 0),
+    ("place t3 0102030405060708 0 -", 1),
+    ("place t3 0102030405060708 257 -", 1),
+    ("place t3 0102030405060708 01 -", 1),
+    ("place t3 01020304 1 -", 1),
+    ("place t3 01020304050607 1 -", 1),
+    ("place t3 00010203040506070809 1 -", 1),
+    ("place t3 0102030405060708 1", 1),
+    ("place t3 0102030405060708 1 0", 1),
+    ("place t3 0102030405060708 1 - -", 1),
+];
+
+const TYPE_3: Lines = &[
+    ("poll3", 0),
+    ("poll3 ", 1),
+    ("poll3 x", 1),
+    ("Poll3", 1),
+    ("read3 0102030405060708", 0),
+    ("read3", 1),
+    ("read3 01020304", 1),
+    ("read3 010203040506070809", 1),
+    ("read3 0102030405060708 1", 1),
+];
+
 const PLACES_T5: Lines = &[
     ("place t5 E004010203040506 1 4 -", 0),
     ("place t5 e004010203040506 256 32 00", 0),
@@ -82,7 +108,7 @@ const PLACES_T4: Lines = &[
     ("place t4 01020304 8 -", 1),
     ("place t4 01020304 8 - - -", 1),
     ("place t4 01020304 16 -", 1),
-    ("place t3 01020304 8 - -", 1),
+    ("place t6 01020304 8 - -", 1),
 ];
 
 const FATES: Lines = &[
@@ -167,8 +193,8 @@ const FINDS: Lines = &[
 #[test]
 fn lines(rt: HostRuntime) {
     let tables = [
-        SKIPPED, READS, PLACES_T2, PLACES_T5, PLACES_T4, FATES, REMOVALS, LOCKS, BUSY, DUMPS,
-        FINDS, CROWDS,
+        SKIPPED, READS, PLACES_T2, PLACES_T3, PLACES_T5, PLACES_T4, FATES, REMOVALS, LOCKS, BUSY,
+        DUMPS, FINDS, CROWDS, TYPE_3,
     ];
     for rows in tables {
         faults(&rt, rt.alloc(), rows);
@@ -184,6 +210,12 @@ fn lines_with_a_message(rt: HostRuntime) {
         ("write 01020304 gen:65536:255", 0),
         ("write 01020304 gen:65537:0", 1),
         ("write 01020304 gen:1:256", 1),
+        ("write3 0102030405060708 -", 0),
+        ("write3 0102030405060708 gen:208:7", 0),
+        ("write3 0102030405060708", 1),
+        ("write3 01020304 D0", 1),
+        ("write3 0102030405060708 D", 1),
+        ("write3 0102030405060708 D0 D0", 1),
         ("write 01020304 gen:01:0", 1),
         ("write 01020304 gen:1:00", 1),
         ("write 01020304 gen:1", 1),

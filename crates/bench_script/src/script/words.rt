@@ -46,7 +46,9 @@ pub enum CommandName {
     Dump,
     Inbox,
     Read,
+    Read3,
     Write,
+    Write3,
     Link,
     Forge,
     Put,
@@ -68,7 +70,9 @@ pub fn name_of(word: &[u8]) -> Option<CommandName>
         b"dump" => Some(CommandName::Dump),
         b"inbox" => Some(CommandName::Inbox),
         b"read" => Some(CommandName::Read),
+        b"read3" => Some(CommandName::Read3),
         b"write" => Some(CommandName::Write),
+        b"write3" => Some(CommandName::Write3),
         b"link" => Some(CommandName::Link),
         b"forge" => Some(CommandName::Forge),
         b"put" => Some(CommandName::Put),
@@ -161,7 +165,7 @@ pub fn ident_word(alloc: Global, word: &[u8]) -> Result<Ident, LineFault>
     }
 }
 
-/// The identifier of a Type 5 tag that a word spells.
+/// The identifier of a Type 3 or Type 5 tag that a word spells.
 pub fn ident_word_v(alloc: Global, word: &[u8]) -> Result<[u8; 8], LineFault>
     ensures ok { IfOk result (SpellsIdV word.now) }
     ensures refused { IsErrOf result LineFault.Refused → NoneOf (SpellsIdV word.now) }

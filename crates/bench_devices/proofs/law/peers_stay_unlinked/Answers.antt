@@ -1,4 +1,5 @@
 use Rattle.bench_devices.proofs.CalmDues as laws
+use Rattle.bench_devices.proofs.CalmThrees as threes
 use Rattle.bench_devices.proofs.PeerLinks as links
 use Rattle.bench_devices.proofs.law.peers_stay_unlinked.Goals as goal
 
@@ -22,3 +23,15 @@ returns-clause-write c = laws.calm_writing
 
 pub returns-clause-none : goal.returns-clause-none
 returns-clause-none c = laws.calm_unasked
+
+pub returns-clause-sense : goal.returns-clause-sense
+returns-clause-sense c = threes.calm_sensing
+
+pub returns-clause-read_three : goal.returns-clause-read_three
+returns-clause-read_three c = threes.calm_reading_three
+
+pub returns-clause-write_three : goal.returns-clause-write_three
+returns-clause-write_three c = threes.calm_writing_three
+
+pub returns-clause-no_three : goal.returns-clause-no_three
+returns-clause-no_three c = threes.calm_unasked_three

@@ -53,6 +53,10 @@ pub returns-in-Crowd-clause-cut : goal.returns-in-Crowd-clause-cut
 returns-in-Crowd-clause-cut c = λ e.
     subst (λ x. IsCutOffBy (joins_for x c.args.joins) c.args.machines.now c.find_tags.new.machines x) (sym c.in-Crowd.is) (of_err c.find_tags.result e c.find_tags.ensures.cut)
 
+pub returns-in-Poll3-clause-cut : goal.returns-in-Poll3-clause-cut
+returns-in-Poll3-clause-cut c = λ e.
+    subst (λ x. IsCutOffBy (joins_for x c.args.joins) c.args.machines.now c.find_threes.new.machines x) (sym c.in-Poll3.is) (of_err c.find_threes.result e c.find_threes.ensures.cut)
+
 pub returns-in-Read-clause-cut : goal.returns-in-Read-clause-cut
 returns-in-Read-clause-cut c = λ e.
     subst (λ x. IsCutOffBy (joins_for x c.args.joins) c.args.machines.now c.read_tag.new.machines x) (sym c.in-Read.is) (of_err c.read_tag.result e c.read_tag.ensures.cut)
@@ -60,3 +64,11 @@ returns-in-Read-clause-cut c = λ e.
 pub returns-in-Write-clause-cut : goal.returns-in-Write-clause-cut
 returns-in-Write-clause-cut c = λ e.
     subst (λ x. IsCutOffBy (joins_for x c.args.joins) c.args.machines.now c.write_message.new.machines x) (sym c.in-Write.is) (of_err c.write_message.result e c.write_message.ensures.cut)
+
+pub returns-in-Read3-clause-cut : goal.returns-in-Read3-clause-cut
+returns-in-Read3-clause-cut c = λ e.
+    subst (λ x. IsCutOffBy (joins_for x c.args.joins) c.args.machines.now c.read_tag_three.new.machines x) (sym c.in-Read3.is) (of_err c.read_tag_three.result e c.read_tag_three.ensures.cut)
+
+pub returns-in-Write3-clause-cut : goal.returns-in-Write3-clause-cut
+returns-in-Write3-clause-cut c = λ e.
+    subst (λ x. IsCutOffBy (joins_for x c.args.joins) c.args.machines.now c.write_tag_three.new.machines x) (sym c.in-Write3.is) (of_err c.write_tag_three.result e c.write_tag_three.ensures.cut)

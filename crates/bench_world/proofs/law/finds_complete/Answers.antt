@@ -1,5 +1,6 @@
 use Rattle.bench_world.proofs.Complete.{finds_complete}
 use Rattle.bench_world.proofs.CompleteTags.{tags_complete}
+use Rattle.bench_world.proofs.CompleteThrees.{threes_complete}
 use Rattle.bench_world.proofs.law.finds_complete.Goals as goal
 
 pub returns-clause-finds : goal.returns-clause-finds
@@ -7,3 +8,6 @@ returns-clause-finds c = finds_complete
 
 pub returns-clause-tags : goal.returns-clause-tags
 returns-clause-tags c = tags_complete
+
+pub returns-clause-threes : goal.returns-clause-threes
+returns-clause-threes c = threes_complete

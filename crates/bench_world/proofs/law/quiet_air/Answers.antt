@@ -38,3 +38,6 @@ returns-clause-linkings c = quiet_linkings
 
 pub returns-clause-forgings : goal.returns-clause-forgings
 returns-clause-forgings c = quiet_forgings
+
+pub returns-clause-threes : goal.returns-clause-threes
+returns-clause-threes c = quiet.quiet_threes

@@ -68,4 +68,4 @@ returns c =
 pub invariant_of-self-in-Ok-run_command : goal.invariant_of-self-in-Ok-run_command
 invariant_of-self-in-Ok-run_command c = λ sound.
     subst IsSettled (sym c.take_trace.ensures.left)
-    (settled_untraced (joins_for c.args.command.now c.most-joins.result) c.self.inside.machines c.run_command.new.machines c.args.command.now c.in-Ok-run_command.answer c.in-Ok-run_command.ensures.ok)
+    (settled_untraced (joins_for c.args.command.now c.most-joins.result) c.self.inside.machines c.run_command.new.machines c.args.command.now c.in-Ok-run_command.answer (c.self.invariant c.if-self.false) c.in-Ok-run_command.ensures.ok)

@@ -1,0 +1,22 @@
+use Rattle.std.proofs.Common.{◌≡◌, ℕ, ◌*◌, List, rules, false, ◌∙◌, ap}
+use Rattle.t3t_tag.specs.Store.{T3State, unlocked}
+use Rattle.bench_devices.specs.declared.device.Device.TheVariants.{T3}
+use Rattle.bench_devices.specs.Device.{device_darkened}
+use Rattle.bench_world.specs.Legal.{MayPlaceT3, memory_of}
+use Rattle.bench_world.specs.Obeying.{Machines, state_at}
+use Rattle.bench_world.proofs.Placed.{one_more, t3_placed}
+use Rattle.bench_world.proofs.bench.place_t3.Goals as goal
+
+pub returns-in-Ok-put_in-clause-ok : goal.returns-in-Ok-put_in-clause-ok
+returns-in-Ok-put_in-clause-ok c =
+    let old : Machines = c.args.machines.now in
+    let store : List ℕ = memory_of (16 * c.args.blocks) c.args.head.now in
+    let held : c.in-Ok-new.tag ≡ unlocked c.args.id store = c.in-Ok-new.ensures.ok ∙ ap (unlocked c.args.id) c.in-Ok.ensures in
+    let powered : c.new-2.result ≡ record { tag = unlocked c.args.id store; lit = false } = c.new-2.ensures ∙ ap (λ (t : T3State). record { tag = t; lit = false }) held in
+    let may : MayPlaceT3 (state_at old) c.args.id c.args.blocks c.args.head.now = record {
+      free = record { room = search rules; fresh = search rules };
+      fits = search rules;
+      store = search rules;
+    } in
+    t3_placed old c.put_in.new.self c.args.id c.args.blocks c.args.head.now c.requires (search rules) (search rules) may
+    (c.in-Ok-put_in.ensures.ok ∙ ap (λ p. one_more old (device_darkened (T3 p))) powered)

@@ -1,0 +1,35 @@
+use Rattle.std.proofs.Common.{◌≡◌, sym, ◌∙◌, map}
+use Rattle.bench_script.specs.declared.command.Command.TheVariants.{Write3}
+use Rattle.bench_script.specs.Messages.{message_of}
+use Rattle.far_air.specs.FarEnds.{rests}
+use Rattle.peer_air.specs.PeerFars.{peer_ends}
+use Rattle.bench_world.specs.Obeying.{Machines, link_ended}
+use Rattle.bench_world.proofs.Unlinking.{write_three_resets, reset_obeyed, reset_cut}
+use Rattle.bench_world.proofs.threes.write_tag_three.Goals as goal
+
+pub returns-in-Ok-select_and_write-clause-ok : goal.returns-in-Ok-select_and_write-clause-ok
+returns-in-Ok-select_and_write-clause-ok c =
+    let old : Machines = c.args.machines.now in
+    let m : Machines = record {
+      air = c.machines.inside.field;
+      ends = c.machines.inside.ends.items;
+      peers = record { numbers = c.machines.inside.numbers.items; gone = map (rests peer_ends) c.machines.inside.gone.items; links = c.machines.inside.links.items };
+      link = c.machines.inside.link;
+    } in
+    let is : m ≡ link_ended old = c.machines.view_is ∙ c.end_link.ensures in
+    let bytes : message_of c.args.message.now ≡ c.deref.result.now = sym (c.deref.ensures.value ∙ c.in-Ok.ensures) in
+    reset_obeyed (Write3 c.args.id c.args.message.now) (write_three_resets c.args.id c.args.message.now) old c.requires c.select_and_write.new.field m c.in-Ok-select_and_write.answer is
+    (c.in-Ok-select_and_write.ensures.ok c.args.message.now bytes)
+
+pub returns-clause-cut : goal.returns-clause-cut
+returns-clause-cut c =
+    let old : Machines = c.args.machines.now in
+    let m : Machines = record {
+      air = c.machines.inside.field;
+      ends = c.machines.inside.ends.items;
+      peers = record { numbers = c.machines.inside.numbers.items; gone = map (rests peer_ends) c.machines.inside.gone.items; links = c.machines.inside.links.items };
+      link = c.machines.inside.link;
+    } in
+    let is : m ≡ link_ended old = c.machines.view_is ∙ c.end_link.ensures in
+    let bytes : message_of c.args.message.now ≡ c.deref.result.now = sym (c.deref.ensures.value ∙ c.in-Ok.ensures) in
+    reset_cut (Write3 c.args.id c.args.message.now) (write_three_resets c.args.id c.args.message.now) old c.requires c.select_and_write.new.field m is (c.in-Err.ensures.cut c.args.message.now bytes)
