@@ -10,7 +10,7 @@ use Rattle.dep_link.specs.Releasing.{rls_frame}
 use Rattle.snep_core.specs.declared.fault.SnepFault.{SnepFault}
 use Rattle.snep_core.specs.declared.fault.SnepFault.TheVariants.{LinkEnded, Memory}
 use Rattle.snep_core.specs.Accord.{Accords, AsideFails, IsClosed}
-use Rattle.snep_core.specs.Talk.{EndState, Leaves, Step, begins, client_sap}
+use Rattle.snep_core.specs.Talk.{EndState, Step, closes}
 use Rattle.link_calls.specs.Closing.{ClosingFails, IsReleased}
 use Rattle.bench_script.specs.declared.command.Command.TheVariants.{Unlink}
 use Rattle.bench_devices.specs.declared.device.Device.{Device}
@@ -59,15 +59,15 @@ module _ (old mid : Machines) (settled : IsSettled old) (q : ℕ) (l : OpenLink)
   Quiet = (d : Device) → devices.handed d rls_frame ≡ Untouched
 
   abbrev Closed : Step → Choosing FarEnd → Air Device → Type 0
-  Closed to f a = IsReleased ghosts device_end joins.own (begins l.client Leaves) a l.initiator f b after to
+  Closed to f a = IsReleased ghosts device_end joins.own (closes l.client) a l.initiator f b after to
 
   abbrev Fails : SnepFault → Choosing FarEnd → Air Device → Type 0
-  Fails e f a = ClosingFails ghosts device_end joins.own (begins l.client Leaves) a l.initiator f b after client j e
+  Fails e f a = ClosingFails ghosts device_end joins.own (closes l.client) a l.initiator f b after client j e
 
-  pub told_closed : (new : Machines) → new ≡ Down → (to : Step) → Closed to far mid.air → (Accords l.client far.end → Quiet → IsClosed client_sap far.end client after.end) → ObeyedBy joins old new Unlink answers.Unlinked
+  pub told_closed : (new : Machines) → new ≡ Down → (to : Step) → Closed to far mid.air → (Accords l.client far.end → Quiet → IsClosed far.end client after.end) → ObeyedBy joins old new Unlink answers.Unlinked
   told_closed new down to r closed =
       gone_so old mid settled q l far.end t joins b j after client Unlink new answers.Unlinked down
-      (released old.air old.ends old.peers l (so old mid settled q l far.end t) joins b after none_at_rls j client to (of_own (Closed to) r) (of_own (λ f a. IsClosed client_sap f.end client after.end) (closed accord none_at_rls)))
+      (released old.air old.ends old.peers l (so old mid settled q l far.end t) joins b after none_at_rls j client to (of_own (Closed to) r) (of_own (λ f a. IsClosed f.end client after.end) (closed accord none_at_rls)))
 
   pub told_lost : (new : Machines) → new ≡ Down → (x : SnepFault) (c : EndCause) → x ≡ LinkEnded c → Fails x far mid.air → (Accords l.client far.end → Quiet → AsideFails far.end x after.end)
       → (answer : Answer) → told_loss c ≡ Some answer → ObeyedBy joins old new Unlink answer

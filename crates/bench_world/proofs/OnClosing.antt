@@ -17,7 +17,7 @@ use Rattle.dep_link.specs.Releasing.{rls_frame}
 use Rattle.snep_core.specs.Accord.{IsClosed}
 use Rattle.llcp_link.specs.Counting.{StopsCounted}
 use Rattle.snep_core.specs.Server.{Received, ServerState, serving}
-use Rattle.snep_core.specs.Talk.{EndState, Step, Leaves, begins, client_sap}
+use Rattle.snep_core.specs.Talk.{EndState, Step, closes}
 use Rattle.link_calls.specs.Arriving.{Arrives, ArrivesCut}
 use Rattle.link_calls.specs.CallDue.{BrokenBy, call_due}
 use Rattle.link_calls.specs.ClosingDue.{ClosingStanding, Calls, Released, closing_due, closing_due_at, closing_stand}
@@ -51,7 +51,7 @@ use Rattle.bench_world.proofs.OnCall.{cut_off, devices_then, end, ends_then, fro
 
 module _ (air : Air Device) (ends : FarEnds) (peers : Peers) (l : OpenLink) (settled : IsSettled (under ends peers (Some l) air)) (joins : Joins) (b : Air Device) (after : Choosing FarEnd) where
   abbrev pub from : Step
-  from = begins l.client Leaves
+  from = closes l.client
 
   abbrev pub spot : ℕ
   spot = place air ends peers l settled
@@ -144,7 +144,7 @@ module _ (air : Air Device) (ends : FarEnds) (peers : Peers) (l : OpenLink) (set
     sent_calm {heard} s =
         calm_then air s.mid b (made_calm joins.own from s.to air s.mid l.initiator s.rest counted s.half s.made) (release_calm quiet s.mid b spot s.rest (in_step_then s) s.half after heard s.turn)
 
-    pub released : (to : Step) → IsReleased ghosts device_end joins.own from air l.initiator counted b after to → IsClosed client_sap far client after.end → ObeyedBy joins (under ends peers (Some l) air) gone Unlink answers.Unlinked
+    pub released : (to : Step) → IsReleased ghosts device_end joins.own from air l.initiator counted b after to → IsClosed far client after.end → ObeyedBy joins (under ends peers (Some l) air) gone Unlink answers.Unlinked
     released to r c =
         let t = r.turns device_linked devices_link spot (stands air ends peers l settled) ends in
         closed (Released to) t (sent_set r.sent) (ap (λ (s : ServerState). s.accepted) c.aside.service) (r.sent.arrives quiet) answers.Unlinked refl refl

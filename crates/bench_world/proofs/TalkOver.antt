@@ -13,7 +13,7 @@ use Rattle.snep_core.specs.declared.job.Ending.{Ending}
 use Rattle.snep_core.specs.declared.job.Ending.TheVariants.{Done, Value, Sap, Refused}
 use Rattle.snep_core.specs.declared.job.Job.TheVariants.{Over as Ended}
 use Rattle.snep_core.specs.Accord.{Accords}
-use Rattle.snep_core.specs.Talk.{EndState, Ends, Task, Puts, Gets, Finds, Leaves, alone, begins}
+use Rattle.snep_core.specs.Talk.{EndState, Ends, Task, Puts, Gets, Finds, Leaves, all_closed, alone, begins, closes}
 use Rattle.link_calls.specs.Asking.{LinkAsking, Does, Closes, is_closing}
 use Rattle.link_calls.specs.Called.{Called, ClosingCalled, OpenAir, Served, TaskCalled}
 use Rattle.link_calls.specs.Calls.{CallFails, IsCutOff, IsMade}
@@ -204,7 +204,7 @@ module _ (old mid : Machines) (settled : IsSettled old) (q : ℕ) (l : OpenLink)
       closed : (ending : Ending) (new : Machines) → new ≡ Down → Closed (Ok ending) → ObeyedBy joins old new c answers.Unlinked
       closed Done new down k =
           subst (λ x. ObeyedBy joins old new x answers.Unlinked) (closes_is c asks)
-          (closing.told_closed old mid settled q l far t joins counts b j after client new down (Ends (alone (Ended Done)) client) k.goes k.serves)
+          (closing.told_closed old mid settled q l far t joins counts b j after client new down (Ends all_closed client) k.goes k.serves)
       closed (Value v) new down k = absurd k.goes
       closed (Sap n) new down k = absurd k.goes
       closed (Refused why) new down k = absurd k.goes

@@ -17,7 +17,7 @@ use Rattle.snep_core.specs.declared.job.Job.{Job}
 use Rattle.snep_core.specs.declared.job.Job.TheVariants.{Over as Ended}
 use Rattle.snep_core.specs.Server.{Received}
 use Rattle.snep_core.specs.Session.{value_of}
-use Rattle.snep_core.specs.Talk.{Step, Ends, Task, Puts, Gets, Finds, Leaves, begins}
+use Rattle.snep_core.specs.Talk.{Step, Ends, Task, Puts, Gets, Finds, begins, closes}
 use Rattle.link_calls.specs.Asking.{LinkAsking, Does, Closes}
 use Rattle.link_calls.specs.CallDue.{CallStanding, Comes, BrokenBy, call_stand, call_due}
 use Rattle.link_calls.specs.ClosingDue.{ClosingStanding, Calls, Released, closing_stand, closing_due}
@@ -36,10 +36,10 @@ stands_on l joins task events = call_stand joins (begins l.client task) l.initia
 
 -- likewise where a link is closed
 abbrev pub due_closing : OpenLink → List ℕ → List Note → Next
-due_closing l joins ns = closing_due joins (begins l.client Leaves) l.initiator ns
+due_closing l joins ns = closing_due joins (closes l.client) l.initiator ns
 
 abbrev pub stands_closing : OpenLink → List ℕ → List Event → ClosingStanding
-stands_closing l joins events = closing_stand joins (begins l.client Leaves) l.initiator (receptions events)
+stands_closing l joins events = closing_stand joins (closes l.client) l.initiator (receptions events)
 
 -- nothing is due where no link is open
 abbrev pub due_if : Option OpenLink → (OpenLink → Next) → Next

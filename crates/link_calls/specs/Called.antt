@@ -16,7 +16,7 @@ use Rattle.snep_core.specs.declared.job.Job.TheVariants.{Over}
 use Rattle.snep_core.specs.declared.job.Refusal.TheVariants as refusals
 use Rattle.snep_core.specs.Accord.{Accords, AsideFails, GetFails, IsClosed, IsFound, IsGot, IsTaken, PeerState, PutFails}
 use Rattle.snep_core.specs.Calling.{refused_by}
-use Rattle.snep_core.specs.Talk.{EndState, Ends, Task, Puts, Gets, Finds, Leaves, alone, begins, client_sap}
+use Rattle.snep_core.specs.Talk.{EndState, Ends, Task, Puts, Gets, Finds, Leaves, all_closed, alone, begins, client_sap, closes}
 use Rattle.link_calls.specs.Asking.{LinkAsking, Does, Closes}
 use Rattle.link_calls.specs.Calls.{CallFails, IsMade}
 use Rattle.link_calls.specs.Closing.{ClosingFails, IsReleased}
@@ -49,7 +49,7 @@ Served (Gets most key) old (Err fault) client new = GetFails client_sap most key
 Served (Finds name) old (Ok (Sap n)) client new = IsFound name old n client new
 Served (Finds name) old (Ok ending) client new = ⊥
 Served (Finds name) old (Err fault) client new = AsideFails old fault new
-Served Leaves old (Ok Done) client new = IsClosed client_sap old client new
+Served Leaves old (Ok Done) client new = IsClosed old client new
 Served Leaves old (Ok ending) client new = ⊥
 Served Leaves old (Err fault) client new = AsideFails old fault new
 
@@ -68,10 +68,10 @@ module _ {L : Type 0} (k : Ghosts L) (target : L → TargetState) (numbers : Lis
   -- A closing came to its end, or it failed.
   abbrev pub GoesDown : EndState → OpenAir L → Result Ending SnepFault → EndState → OpenAir L → Type 0
   GoesDown client old (Ok Done) left new =
-      IsReleased k target numbers (begins client Leaves) old.air old.initiator old.far new.air new.far (Ends (alone (Over Done)) left)
+      IsReleased k target numbers (closes client) old.air old.initiator old.far new.air new.far (Ends all_closed left)
   GoesDown client old (Ok ending) left new = ⊥
   GoesDown client old (Err fault) left new =
-      ClosingFails k target numbers (begins client Leaves) old.air old.initiator old.far new.air new.far left new.initiator fault
+      ClosingFails k target numbers (closes client) old.air old.initiator old.far new.air new.far left new.initiator fault
 
   -- What it did is said where no listener hands anything over at RLS_REQ.
   pub record ClosingCalled (client : EndState) (old : OpenAir L) (result : Result Ending SnepFault) (left : EndState) (new : OpenAir L) : Type 0 where

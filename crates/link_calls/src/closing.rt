@@ -5,9 +5,7 @@ ghost use Rattle.nfc_base.specs.Far.{Untouched};
 ghost use Rattle.dep_link.specs.Releasing.{rls_frame};
 ghost use Rattle.snep_core.specs.Accord.{Accords, AsideFails, IsClosed};
 ghost use Rattle.snep_core.specs.Calling.{fault_of};
-ghost use Rattle.snep_core.specs.declared.job.Ending.TheVariants.{Done};
-ghost use Rattle.snep_core.specs.declared.job.Job.TheVariants.{Over};
-ghost use Rattle.snep_core.specs.Talk.{Ends, Leaves, alone, begins, client_sap};
+ghost use Rattle.snep_core.specs.Talk.{Ends, all_closed, closes};
 ghost use Rattle.link_calls.specs.Calls.{IsOpen};
 ghost use Rattle.link_calls.specs.Closing.{ClosingFails, IsReleased};
 
@@ -27,7 +25,7 @@ fn fault_at(cause: EndCause) -> SnepFault
     }
 }
 
-/// Ends the client's connection, where one is open, and releases the link: RLS_REQ is sent once, and whatever is heard
+/// Ends the client's connections that are open, and releases the link: RLS_REQ is sent once, and whatever is heard
 /// of it is passed over. The link is over then.
 pub fn close_and_release<L: PeerListener>(
     field: &mut Field<L>,
@@ -38,14 +36,14 @@ pub fn close_and_release<L: PeerListener>(
 ) -> Result<(), SnepFault>
     requires open_ { IsOpen L.Listener L.target field.old initiator.old }
     requires going { client.old.spent ≡ false }
-    ensures ok { OnOk result (IsReleased L.Listener L.target counts (begins client.old.llc Leaves)
-        field.old initiator.old far.old field.new far.new (Ends (alone (Over Done)) client.new.llc)) }
-    ensures err { IfErr result (λ e. ClosingFails L.Listener L.target counts (begins client.old.llc Leaves)
+    ensures ok { OnOk result (IsReleased L.Listener L.target counts (closes client.old.llc)
+        field.old initiator.old far.old field.new far.new (Ends all_closed client.new.llc)) }
+    ensures err { IfErr result (λ e. ClosingFails L.Listener L.target counts (closes client.old.llc)
         field.old initiator.old far.old field.new far.new client.new.llc initiator.new e) }
     ensures going { OnOk result (client.new.spent ≡ false) }
     // Where no listener hands anything over at RLS_REQ:
     ensures closed { Accords client.old.llc far.old.end → ((l : L) → L.machine.handed l rls_frame ≡ Untouched)
-        → OnOk result (IsClosed client_sap far.old.end client.new.llc far.new.end) }
+        → OnOk result (IsClosed far.old.end client.new.llc far.new.end) }
     ensures fails { Accords client.old.llc far.old.end → ((l : L) → L.machine.handed l rls_frame ≡ Untouched)
         → IfErr result (λ e. AsideFails far.old.end e far.new.end) }
     ensures slots { client.new.slots ≡ client.old.slots }

@@ -15,7 +15,7 @@ use Rattle.snep_core.proofs.Ends.{over_free, sizes_of}
 use Rattle.snep_core.proofs.Idling.{Idles}
 use Rattle.snep_core.proofs.Meets.{AreUnlike, is_in}
 use Rattle.snep_core.proofs.OnConnection.{conn_at}
-use Rattle.snep_core.proofs.Places.{StandsBy}
+use Rattle.snep_core.proofs.Places.{StandsBy, starts_settled}
 use Rattle.snep_core.proofs.Requests.{first_by, firsts, keeps, mine, plan, plan_by, rests}
 use Rattle.snep_core.proofs.Served.{Serves}
 use Rattle.snep_core.proofs.Sides.{Sizes}
@@ -57,6 +57,7 @@ module _ (client : EndState) (peer : PeerState) (a : Accords client peer) (ours 
     served = h.served;
     job_is = refl;
     serves = serves_at s h.range fresh_session h.session;
+    settled = λ k. h.settled;
   })
 
   -- there is a connection, or there is none
@@ -87,6 +88,7 @@ module _ (client : EndState) (peer : PeerState) (a : Accords client peer) (ours 
         job_is = sym t.job_is;
         serves = subst (λ w. Serves s x_.limit x_.table x_ w (c.accepted_at t.at)) (sym t.session_is)
             (subst (λ w. Serves s x_.limit x_.table x_ fresh_session w) (sym t.accepted_is) (serves_at s h.range fresh_session h.session));
+        settled = starts_settled (most s) (bytes s) t n;
       })
 
   -- the client with connections asked for

@@ -1,8 +1,8 @@
 -- Any jobs of a call: what was accepted from the SAPs of none, how client and peer accord again once all jobs are over, and the course of
 -- the call.
-use Rattle.std.proofs.Common.{◌≡◌, ◌⊎◌, ℕ, Bool, true, false, List, [], ◌∷◌, length, map, Some, refl, sym, ◌∙◌, ap, subst, inl, inr}
+use Rattle.std.proofs.Common.{◌≡◌, ◌⊎◌, ◌||◌, ℕ, Bool, true, false, List, [], ◌∷◌, length, map, Some, refl, sym, ◌∙◌, ap, subst, inl, inr}
 use Rattle.llcp_link.specs.State.{Bound, conn_from, own_from}
-use Rattle.snep_core.specs.Accord.{Accords, IsApart, IsClientSap, IsJoined, IsPaired, PeerState}
+use Rattle.snep_core.specs.Accord.{Accords, IsApart, IsClientSap, IsJoined, IsPaired, PeerState, is_some_of}
 use Rattle.snep_core.specs.Jobs.{Job}
 use Rattle.snep_core.specs.Payloads.{accepted_from}
 use Rattle.snep_core.specs.Server.{Received, serving}
@@ -23,7 +23,7 @@ module _ (limit : ℕ) (table : List Offer) (names : List Bound) (old : List Rec
     → (((plan s).conv miu size).queue_at ph ≡ []) × (((plan s).conv miu size).session_at ph ≡ fresh_session))
     (ours : List ℕ) (unlike : AreUnlike ours) (ranges : (s : ℕ) → is_in s ours ≡ true → IsClientSap s) (mine : (s : ℕ) → (plan s).is_job ≡ is_in s ours)
     (idles : (s miu size : ℕ) → (plan s).is_job ≡ false → (ph : ((plan s).conv miu size).Phase)
-    → (((plan s).conv miu size).units_at ph ≡ []) × (((plan s).conv miu size).accepted_at ph ≡ old)) where
+    → (((plan s).conv miu size).units_at ph ≡ []) × (((plan s).conv miu size).accepted_at ph ≡ old) × (is_over (((plan s).conv miu size).job_at ph) ≡ true)) where
   abbrev M_ : (ℕ → Job) → EndState → PeerState → Type 0
   M_ job l p = Meets limit table names old z plan job l p
 
@@ -67,6 +67,11 @@ module _ (limit : ℕ) (table : List Offer) (names : List Bound) (old : List Rec
       all_done s false m = λ t.
           let r = rests s t.n.server_miu t.n.client_miu m t.phase t.holds in (r.0, (idles s t.n.server_miu t.n.client_miu m t.phase).0, r.1)
 
+      over_at : (s : ℕ) (b : Bool) → (plan s).is_job ≡ b → (t : Talking limit table old z s (plan s) (job s) (own_from s l.own) (conn_from s p.served) p.service)
+          → is_over (((plan s).conv t.n.server_miu t.n.client_miu).job_at t.phase) ≡ true
+      over_at s true m t = ap is_over (sym t.job_is) ∙ overs s m
+      over_at s false m t = (idles s t.n.server_miu t.n.client_miu m t.phase).2
+
       stands_again : (s : ℕ) → IsApart s l p ⊎ IsJoined s l p
       stands_again s =
           go (subst (λ w. Stood s false (is_in s w)) (no_awaited h.awaited refl) (subst (λ w. Stood s (is_in s w) (is_in s h.awaited)) (no_asked h.asked refl) (h.sides.at s)))
@@ -81,6 +86,7 @@ module _ (limit : ℕ) (table : List Offer) (names : List Bound) (old : List Rec
                 paired = subst (λ w. IsPaired t.n (length w)) d.0 t.paired;
                 own = t.own ∙ ap (λ w. Some (conn_at s t.n w (c.units_at t.phase))) d.0 ∙ ap (λ w. Some (conn_at s t.n [] w)) d.1;
                 served = t.served;
+                settled = t.settled (ap (λ us. is_some_of us || is_over (c.job_at t.phase)) d.1 ∙ over_at s (plan s).is_job refl t);
                 session = t.serves.session ∙ d.2;
               })
 

@@ -82,6 +82,7 @@ module _ (limit : ℕ) (ask : Asked) (answer : Answer) (end : Ending) (now : Lis
         comes = λ ph u queue e k s h. absurd (no_unit u queue e);
         tells = later_tells fits;
         hears = later_hears;
+        done = λ ph k o. refl;
         plain = later_plain;
         readies = λ ph k n is r. later_readies fits ph k (let z = range.0 in omega arith) n is r;
       }

@@ -170,7 +170,7 @@ module _ (limit : ℕ) (table : List Offer) (names : List Bound) (old : List Rec
         first_here x m =
             let was : own_from s mid.own ≡ Some before = sym (x.same s m) ∙ t.own in
             let some_ : 0 < length t.n.asked = subst (λ w. 0 < length w) (sym e) (omega arith) in
-            let few = few_asked limit table old z s (plan s) (job s) t.range t.n p.service (laws_of limit table names old z plan job keeps l p h s t) t.phase t.paired t.holds t.job_is t.serves in
+            let few = few_asked limit table old z s (plan s) (job s) t.range t.n p.service (laws_of limit table names old z plan job keeps l p h s t) t.phase t.paired t.holds t.job_is t.serves t.settled in
             record {
               sap = s;
               is_mine = m;

@@ -1,6 +1,6 @@
 -- A client and a peer between two calls, as PDUs go from one to the other that are of no request: acknowledgements, beside what waits in the
 -- queues of both.
-use Rattle.std.proofs.Common.{◌≡◌, ◌<◌, ◌≤◌, ◌⊎◌, ℕ, ◌+◌, ◌==◌, Bool, true, false, List, [], ◌∷◌, length, Option, Some, None, IfSome, is_some, refl, sym, ◌∙◌, ap, subst, inl, inr, arith, append-nil}
+use Rattle.std.proofs.Common.{◌≡◌, ◌<◌, ◌≤◌, ◌⊎◌, ℕ, ◌+◌, Bool, false, List, [], ◌∷◌, length, Option, Some, None, IfSome, is_some, refl, sym, ◌∙◌, ap, subst, inl, inr, arith, append-nil}
 use Rattle.llcp_conn.specs.Conn.{ConnState, IsSap, first}
 use Rattle.llcp_link.specs.State.{Bound, Lookup, OwnState, Queued, conn_from, own_from, with_conn, with_own}
 use Rattle.llcp_link.specs.Asking.{is_there, unit_of}
@@ -38,6 +38,7 @@ pub record Quiet (s : ServerState) (sap : ℕ) (o : Option OwnState) (c : Option
   pub range : IsClientSap sap
   pub n : Numbers
   pub paired : IsPaired n 0
+  pub settled : n.asked ≡ []
   pub own : o ≡ Some (conn_at sap n [] [])
   pub served : c ≡ Some (server_conn sap n)
   pub session : session_of s sap ≡ fresh_session
@@ -50,14 +51,6 @@ Rested s sap o c = (IsOver o × (c ≡ None)) ⊎ Quiet s sap o c
 abbrev pub AllRested : ServerState → Place
 AllRested s sap o c x = Rested s sap o c
 
--- at the client's first SAP this, and at all others so
-abbrev pub ButBy : ServerState → (Option OwnState → Option ConnState → Type 0) → Bool → ℕ → Option OwnState → Option ConnState → Type 0
-ButBy s special true sap o c = special o c
-ButBy s special false sap o c = Rested s sap o c
-
-abbrev pub But : ServerState → (Option OwnState → Option ConnState → Type 0) → Place
-But s special sap o c x = ButBy s special (client_sap == sap) sap o c
-
 -- What stands at a SAP gives nothing and has no connection at the peer, or is quiet, and stays so as it is acknowledged.
 abbrev pub Splits : ServerState → Place → Type 0
 Splits s At = (sap : ℕ) (o : Option OwnState) (c : Option ConnState) → At sap o c s
@@ -66,16 +59,6 @@ Splits s At = (sap : ℕ) (o : Option OwnState) (c : Option ConnState) → At sa
 pub rested_splits : (s : ServerState) → Splits s (AllRested s)
 rested_splits s sap o c (inl h) = inl (over_still o h.0, h.1)
 rested_splits s sap o c (inr h) = inr (h, λ p d q. inr q)
-
-pub but_splits : (s : ServerState) (special : Option OwnState → Option ConnState → Type 0) → ((o : Option OwnState) (c : Option ConnState) → special o c → IsStill o × (c ≡ None))
-    → Splits s (But s special)
-but_splits s special still sap o c h = go (client_sap == sap) refl h
-  where
-    go : (b : Bool) → (client_sap == sap) ≡ b → ButBy s special b sap o c
-        → (IsStill o × (c ≡ None)) ⊎ (Quiet s sap o c × ((p : Option OwnState) (d : Option ConnState) → Quiet s sap p d → ButBy s special (client_sap == sap) sap p d))
-    go true e y = inl (still o c y)
-    go false e (inl y) = inl (over_still o y.0, y.1)
-    go false e (inr y) = inr (y, λ p d q. subst (λ b. ButBy s special b sap p d) (sym e) (inr q))
 
 module _ (Found : List Lookup → Type 0) (there : ℕ → Bool) (names : List Bound) (s : ServerState) (z : Sizes) (At : Place) (splits : Splits s At) where
   -- Nothing but these waits at the client and at the peer, which has a connection from these SAPs.
@@ -97,13 +80,13 @@ module _ (Found : List Lookup → Type 0) (there : ℕ → Bool) (names : List B
 
     -- one that is quiet was acknowledged
     on_ : (sap : ℕ) (q : Quiet s sap (own_from sap l.own) (conn_from sap p.served)) → ((o : Option OwnState) (d : Option ConnState) → Quiet s sap o d → At sap o d s)
-        → (n : Numbers) → IsPaired n 0 → (client_last peer_last : Option ℕ) → IfSome client_last IsSap → IfSome peer_last IsSap
+        → (n : Numbers) → IsPaired n 0 → n.asked ≡ [] → (client_last peer_last : Option ℕ) → IfSome client_last IsSap → IfSome peer_last IsSap
         → Calm client_waits peer_waits (record l { own = with_own (conn_at sap n [] []) l.own; last = client_last }) (record p { served = with_conn (server_conn sap n) p.served; last = peer_last })
-    on_ sap q back n k client_last peer_last client_mark peer_mark = record {
+    on_ sap q back n k e client_last peer_last client_mark peer_mark = record {
       sides = sides_on s.limit s.table names s.accepted z At At client_waits peer_waits l p h.sides sap (conn_at sap n [] []) _ (server_conn sap n) _ p.service q.own q.served refl refl
           (leaves_same sap p.service) (λ t m o d a. a)
           (subst (λ x. At sap (Some (conn_at sap n [] [])) (Some (server_conn sap n)) x) (sym h.service_is)
-          (back (Some (conn_at sap n [] [])) (Some (server_conn sap n)) (record { range = q.range; n = n; paired = k; own = refl; served = refl; session = q.session })))
+          (back (Some (conn_at sap n [] [])) (Some (server_conn sap n)) (record { range = q.range; n = n; paired = k; settled = e; own = refl; served = refl; session = q.session })))
           client_last peer_last client_mark peer_mark;
       service_is = h.service_is;
       found = h.found;
@@ -138,7 +121,7 @@ module _ (Found : List Lookup → Type 0) (there : ℕ → Bool) (names : List B
               (((omega arith), low sap q.range, below (q.n.told_sa + length q.n.told)), omega arith),
               subst (λ w. Calm client_waits peer_waits (client_gave l (conn_at sap (client_acks q.n) [] [])) w)
                   (sym (server_hears serving p sap q.n q.served q.paired.told_sa (few_told q.n q.paired)))
-                  (on_ sap q back (client_acks q.n) (paired_client_acks q.n 0 q.paired) (Some sap) p.last (low sap q.range) h.sides.peer_fair.last),
+                  (on_ sap q back (client_acks q.n) (paired_client_acks q.n 0 q.paired) q.settled (Some sap) p.last (low sap q.range) h.sides.peer_fair.last),
             )
 
         go : ((IsStill (own_from sap l.own) × (conn_from sap p.served ≡ None)) ⊎ (Quiet s sap (own_from sap l.own) (conn_from sap p.served) × ((o : Option OwnState) (d : Option ConnState) → Quiet s sap o d → At sap o d s)))
@@ -174,7 +157,7 @@ module _ (Found : List Lookup → Type 0) (there : ℕ → Bool) (names : List B
               ((low sap q.range, (omega arith), below (q.n.asked_sa + length q.n.asked)), omega arith),
               subst (λ w. Calm client_waits peer_waits w (server_gave p (server_conn sap (server_acks q.n)) p.service))
                   (sym (client_hears l none_ sap q.n [] [] q.own q.paired.asked_sa (few_asked q.n q.paired)))
-                  (on_ sap q back (server_acks q.n) (paired_server_acks q.n 0 q.paired) l.last (Some sap) h.sides.client_fair.last (low sap q.range)),
+                  (on_ sap q back (server_acks q.n) (paired_server_acks q.n 0 q.paired) refl l.last (Some sap) h.sides.client_fair.last (low sap q.range)),
             )
 
         go : ((IsStill (own_from sap l.own) × (conn_from sap p.served ≡ None)) ⊎ (Quiet s sap (own_from sap l.own) (conn_from sap p.served) × ((o : Option OwnState) (d : Option ConnState) → Quiet s sap o d → At sap o d s)))
@@ -219,7 +202,7 @@ module _ (s : ServerState) (l : EndState) (c : Option ConnState) (h : Rested s c
 module _ (client : EndState) (peer : PeerState) (a : Accords client peer) where
   stands_rested : (sap : ℕ) → (IsApart sap client peer ⊎ IsJoined sap client peer) → Rested peer.service sap (own_from sap client.own) (conn_from sap peer.served)
   stands_rested sap (inl h) = inl (h.own, h.served)
-  stands_rested sap (inr h) = inr (record { range = h.range; n = h.numbers; paired = h.paired; own = h.own; served = h.served; session = h.session })
+  stands_rested sap (inr h) = inr (record { range = h.range; n = h.numbers; paired = h.paired; settled = h.settled; own = h.own; served = h.served; session = h.session })
 
   pub sides_at : Sides peer.service.limit peer.service.table peer.bound peer.service.accepted (sizes_of client peer) (AllRested peer.service) [] [] client peer
   sides_at = record {
@@ -249,6 +232,7 @@ module _ (names : List Bound) (s : ServerState) (z : Sizes) (l : EndState) (p : 
     range = q.range;
     numbers = q.n;
     paired = q.paired;
+    settled = q.settled;
     own = q.own;
     served = q.served;
     session = ap (λ w. session_of w sap) is ∙ q.session;

@@ -1,39 +1,32 @@
--- What the end of a connection comes to at a peer that its client accords with.
-use Rattle.std.proofs.Common.{◌≡◌, ◌⊎◌, nat_le, ℕ, ◌==◌, Bool, true, false, List, [], ◌∷◌, ◌++◌, Option, Some, None, is_some, refl, sym, ◌∙◌, ap, subst, inl, inr, arith, if◌then◌else◌}
+-- What the end of all connections comes to at a peer that its client accords with.
+use Rattle.std.proofs.Common.{◌≡◌, ◌≤◌, ℕ, zero, suc, ◌+◌, ◌-◌, ◌==◌, ◌||◌, ◌&&◌, not, Bool, true, false, List, [], ◌∷◌, ◌++◌, append-nil, append_assoc, length, map, Option, Some, None, refl, sym, ◌∙◌, ap, subst, inl, inr, arith, if◌then◌else◌}
 use Rattle.std.proofs.lemmas.Bool.{eqb-true}
+use Rattle.std.proofs.lemmas.List.{map-append}
 use Rattle.nfc_base.specs.Links.{CarrierView, FarStep}
-use Rattle.llcp_pdu.specs.declared.part.Part.TheVariants.{Disc, Dm}
-use Rattle.llcp_conn.specs.Conn.{ConnState}
-use Rattle.llcp_link.specs.Asking.{disconnected_by, is_open, is_open_by, is_there, request, standing_of, standing_on}
-use Rattle.llcp_link.specs.Giving.{acknowledges_own, gave, gave_from, informs_own}
-use Rattle.llcp_link.specs.State.{Bound, Lookup, OwnState, Queued, answer, conn_from, most_answers, own_from, own_holder, served_holder, with_own, without_conn}
+use Rattle.nfc_base.specs.declared.carrier.EndCause.{EndCause}
+use Rattle.nfc_base.specs.declared.carrier.EndCause.TheVariants as cause
+use Rattle.llcp_conn.specs.Conn.{ConnState, first}
+use Rattle.llcp_link.specs.Asking.{acked_of, disconnected_by, has_waiting_of, is_open, is_open_by, is_there, standing_of, standing_on, unit_of}
+use Rattle.llcp_link.specs.Giving.{after_giving, gave, given}
+use Rattle.llcp_link.specs.State.{Bound, OwnState, conn_from, own_from, with_own}
 use Rattle.llcp_link.specs.declared.own.OwnIs.{OwnIs}
 use Rattle.llcp_link.specs.declared.own.OwnIs.TheVariants.{Asking, Closed, Leaving, Open, Refused}
-use Rattle.llcp_link.specs.Taking.{answers_in, awaited, disconnected, heard_dm, leaves, steps_part}
-use Rattle.llcp_link.proofs.Clients.{conn_without_other}
+use Rattle.llcp_link.specs.Taking.{taken_from}
 use Rattle.snep_core.specs.declared.fault.SnepFault.{SnepFault}
-use Rattle.snep_core.specs.Accord.{Accords, AsideFails, IsApart, IsClosed, IsJoined, IsOver, IsPeer, Numbers, PeerState, server_conn}
-use Rattle.snep_core.specs.Calling.{FailsBy, Talks}
-use Rattle.snep_core.specs.Jobs.{Closes, Done, Over, told_in}
-use Rattle.snep_core.specs.Server.{ServerState, serving}
-use Rattle.snep_core.specs.Talk.{EndState, Ends, Leaves, Step, all_opening, alone, beginning, begins, client_sap, emptied, finished, heard, heard_so, is_waiting, leaving as leaves_by, own_of, server_sap, with_job, silent}
-use Rattle.snep_core.proofs.Asides.{AllRested, But, ButBy, Calm, IsStill, Rested, accord_at, but_splits, client_hop, client_queues, over_still, peer_hop, peer_queues, rested_emptied, rested_units, sides_at, sides_by}
-use Rattle.snep_core.proofs.Carrying.{FirstSo}
-use Rattle.snep_core.proofs.Courses.{came}
+use Rattle.snep_core.specs.Accord.{Accords, AsideFails, IsClientSap, IsClosed, IsOver, IsPeer, PeerState, PeerSteps, is_in}
+use Rattle.snep_core.specs.Calling.{FailsBy, Talks, fault_of, gives_up}
+use Rattle.snep_core.specs.Jobs.{Closes, Done, Job, Over, has_byte, told_in}
+use Rattle.snep_core.specs.Server.{Received, ServerState, serving}
+use Rattle.snep_core.specs.Talk.{AllReady, CameTo, EndState, Ends, GivesUp, Goes, OnSap, Step, Working, all_closed, all_emptied, all_heard, all_opening, all_over, all_readied, all_well, as_they_came, begun, client_saps, closes, emptied, gave_any, gave_something, goes_on, heard, heard_so, heard_with, idle_after, is_over, is_waiting, leave_from, leaving, own_of, payload, readied, ready, ready_so, replied, replied_ready, settled, silent, told_by, took, units_of, with_job}
+use Rattle.snep_core.proofs.Asides.{AllRested, Quiet, Rested, accord_at, client_queues, sides_at, sides_by}
+use Rattle.snep_core.proofs.Carrying.{AtFronts, FirstSo, HopSo, at_front, handed, handed_first}
+use Rattle.snep_core.proofs.Courses.{Course, IsSafe, breaks_off, came}
 use Rattle.snep_core.proofs.Ends.{sizes_of}
-use Rattle.snep_core.proofs.OneExchange.{OneExchange, Same, course, fails_so}
-use Rattle.snep_core.proofs.Removed.{none_left, still_counted, without_none}
-use Rattle.snep_core.proofs.Sides.{Sides, Sizes, at_changed, sides_own}
-
--- the client's connection once it was given up, and once it is closed
-abbrev pub given_up : OwnIs → OwnState
-given_up is = record { here = client_sap; there = server_sap; is = is; units = [] }
-
-abbrev pub disc : Queued
-disc = request (Disc server_sap client_sap)
-
-abbrev pub dm : Queued
-dm = answer (Dm client_sap server_sap disconnected)
+use Rattle.snep_core.proofs.Meets.{AreUnlike}
+use Rattle.snep_core.proofs.Opening.{amid, in_both, in_last, in_last_other, in_other, in_self, neither, or_true}
+use Rattle.snep_core.proofs.Owned.{emptied_none}
+use Rattle.snep_core.proofs.Partings.{ByQueues, Giving, Gone, Parting, Stands, client_first, client_gives, disc, given_up, peer_first, peer_gives}
+use Rattle.snep_core.proofs.Sides.{Place, Sides, Sizes, sides_own}
 
 -- one that is over isn't open, and nothing is awaited on it
 shut : (is : OwnIs) → is_there is ≡ false → (is_open is ≡ false) × (is_waiting (standing_on is) ≡ false)
@@ -47,146 +40,431 @@ over_shut : (o : Option OwnState) → IsOver o → (is_open_by o ≡ false) × (
 over_shut None h = (refl, refl)
 over_shut (Some o) h = shut o.is h.0
 
--- what stands at the client's first SAP: the client gave it up, and the peer has it still; or not any more; or there is none
-abbrev pub Giving : Option OwnState → Option ConnState → Type 0
-Giving o c = (o ≡ Some (given_up Leaving)) × ((n : Numbers) × (c ≡ Some (server_conn client_sap n)))
+over_none : (o : Option OwnState) → IsOver o → unit_of o ≡ None
+over_none None h = refl
+over_none (Some o) h = ap first h.1
 
-abbrev pub Given : Option OwnState → Option ConnState → Type 0
-Given o c = (o ≡ Some (given_up Leaving)) × (c ≡ None)
+-- The jobs from these SAPs, where the connections from those are still to end.
+abbrev closer : Bool → Job
+closer true = Closes
+closer false = Over Done
 
-abbrev pub Gone : Option OwnState → Option ConnState → Type 0
-Gone o c = IsOver o × (c ≡ None)
+abbrev closers : List ℕ → List ℕ → List OnSap
+closers q [] = []
+closers q (s ∷ ss) = record { sap = s; job = closer (is_in s q) } ∷ closers q ss
 
-pub given_still : (o : Option OwnState) (c : Option ConnState) → Given o c → IsStill o × (c ≡ None)
-given_still o c h = ((λ l. subst (λ q. (informs_own l q ≡ None) × (acknowledges_own l q ≡ None)) (sym h.0) (refl, refl)), h.1)
+closer_ready : (b : Bool) (l : EndState) (s : ℕ) → readied l s (closer b) ≡ ready_so l (closer b)
+closer_ready true l s = refl
+closer_ready false l s = refl
 
-pub gone_still : (o : Option OwnState) (c : Option ConnState) → Gone o c → IsStill o × (c ≡ None)
-gone_still o c h = (over_still o h.0, h.1)
+closers_ready : (q ss : List ℕ) (l : EndState) → all_readied (closers q ss) l ≡ record { llc = l; jobs = closers q ss }
+closers_ready q [] l = refl
+closers_ready q (s ∷ ss) l =
+    ap (λ r. with_job s r (all_readied (closers q ss))) (closer_ready (is_in s q) l s)
+    ∙ ap (λ (x : AllReady). with_job s (ready_so l (closer (is_in s q))) (λ e. x)) (closers_ready q ss l)
 
--- at the others what stood stands
-else_so : (s : ServerState) (A B : Option OwnState → Option ConnState → Type 0) (t : ℕ) (o : Option OwnState) (c : Option ConnState) → (client_sap == t) ≡ false
-    → ButBy s A (client_sap == t) t o c → ButBy s B (client_sap == t) t o c
-else_so s A B t o c n h = subst (λ b. ButBy s B b t o c) (sym n) (subst (λ b. ButBy s A b t o c) n h)
+-- how such an end stands at a SAP
+record Quiet_ (l : EndState) (s : ℕ) (w : Bool) : Type 0 where
+  pub units : units_of (own_from s l.own) ≡ []
+  pub empty : emptied l s ≡ l
+  pub waits : is_waiting (standing_of (own_from s l.own)) ≡ w
 
-gone_rested : (s : ServerState) (t : ℕ) (o : Option OwnState) (c : Option ConnState) → ButBy s Gone (client_sap == t) t o c → Rested s t o c
-gone_rested s t o c h = go (client_sap == t) h
+closer_heard : (waiting : Bool) (l : EndState) (s : ℕ) (b w : Bool) → Quiet_ l s w → (w ≡ true → b ≡ true) → heard waiting l s (closer b) ≡ Some (closer w)
+closer_heard waiting l s b w h to =
+    ap (λ us. heard_so (emptied l s) s (told_in waiting (closer b) us)) h.units ∙ ap (λ (e : EndState). heard_so e s (Some (closer b))) h.empty ∙ go b w h.waits to
   where
-    go : (b : Bool) → ButBy s Gone b t o c → Rested s t o c
-    go true y = inl y
-    go false y = y
+    go : (c v : Bool) → is_waiting (standing_of (own_from s l.own)) ≡ v → (v ≡ true → c ≡ true) → heard_so l s (Some (closer c)) ≡ Some (closer v)
+    go true true e k = ap (λ x. Some (if x then Closes else Over Done)) e
+    go true false e k = ap (λ x. Some (if x then Closes else Over Done)) e
+    go false true e k = absurd (let z : false ≡ true = k refl in cc)
+    go false false e k = refl
 
-abbrev pub Any : List Lookup → Type 0
-Any k = Unit {0}
+module _ (old l : EndState) (q now : List ℕ) (quiet : (s : ℕ) → Quiet_ l s (is_in s now)) (fewer : (s : ℕ) → is_in s now ≡ true → is_in s q ≡ true) where
+  closers_heard : (ss : List ℕ) → all_heard old l (closers q ss) ≡ as_they_came (closers now ss)
+  closers_heard [] = refl
+  closers_heard (s ∷ ss) =
+      ap (λ o. record { sap = s; job = o } ∷ all_heard old l (closers q ss)) (closer_heard (has_waiting_of (own_from s old.own)) l s (is_in s q) (is_in s now) (quiet s) (fewer s))
+      ∙ ap (λ (xs : List CameTo). record { sap = s; job = Some (closer (is_in s now)) } ∷ xs) (closers_heard ss)
 
-module _ (there : ℕ → Bool) (names : List Bound) (s : ServerState) (z : Sizes) where
-  -- The DISC waits at the client; the DM waits at the peer; there is no connection.
-  pub record DiscWaits (l : EndState) (p : PeerState) : Type 0 where
-    pub sides : Sides s.limit s.table names s.accepted z (But s Giving) (disc ∷ []) [] l p
-    pub service_is : p.service ≡ s
-    pub stays : (t : ℕ) → is_some (conn_from t (without_conn client_sap p.served)) ≡ there t
+  closers_emptied : (ss : List ℕ) → all_emptied (closers q ss) l ≡ l
+  closers_emptied [] = refl
+  closers_emptied (s ∷ ss) = ap (all_emptied (closers q ss)) (quiet s).empty ∙ closers_emptied ss
 
-  abbrev DmWaits : EndState → PeerState → Type 0
-  DmWaits l p = Calm Any there names s z (But s Given) (but_splits s Given given_still) [] (dm ∷ []) l p
+all_came : (xs : List OnSap) → all_well (as_they_came xs) ≡ Some xs
+all_came [] = refl
+all_came (x ∷ xs) = ap (heard_with x.sap (Some x.job)) (all_came xs)
 
-  abbrev Parted : EndState → PeerState → Type 0
-  Parted l p = Calm Any there names s z (But s Gone) (but_splits s Gone gone_still) [] [] l p
+closers_gave : (old l : EndState) (q : List ℕ) (g : ℕ) → gave_something (own_from g old.own) (own_from g l.own) ≡ true → (ss : List ℕ) → is_in g ss ≡ true
+    → gave_any old l (closers q ss) ≡ true
+closers_gave old l q g h [] i = absurd cc
+closers_gave old l q g h (s ∷ ss) i = go (s == g) refl i (closers_gave old l q g h ss)
+  where
+    go : (b : Bool) → (s == g) ≡ b → (b || is_in g ss) ≡ true → (is_in g ss ≡ true → gave_any old l (closers q ss) ≡ true) → gave_any old l (closers q (s ∷ ss)) ≡ true
+    go true e k more =
+        ap (λ b. (b || has_byte (units_of (own_from s l.own))) || gave_any old l (closers q ss))
+        (subst (λ t. gave_something (own_from t old.own) (own_from t l.own) ≡ true) (sym (eqb-true s g e)) h)
+    go false e k more =
+        ap (λ b. (gave_something (own_from s old.own) (own_from s l.own) || has_byte (units_of (own_from s l.own))) || b) (more k)
+        ∙ or_true (gave_something (own_from s old.own) (own_from s l.own) || has_byte (units_of (own_from s l.own)))
 
-  -- the client gives its DISC
-  module _ (l : EndState) (p : PeerState) (h : DiscWaits l p) where
-    here_ : Giving (own_from client_sap l.own) (conn_from client_sap p.served)
-    here_ = h.sides.at client_sap
+closers_on : (q : List ℕ) (g : ℕ) → is_in g q ≡ true → (ss : List ℕ) → is_in g ss ≡ true → all_over (closers q ss) ≡ false
+closers_on q g h [] i = absurd cc
+closers_on q g h (s ∷ ss) i = go (s == g) refl i (closers_on q g h ss)
+  where
+    and_false : (b : Bool) → (b && false) ≡ false
+    and_false true = refl
+    and_false false = refl
 
-    abbrev left_ : PeerState
-    left_ = record p { served = without_conn client_sap p.served; queue = dm ∷ [] }
+    go : (b : Bool) → (s == g) ≡ b → (b || is_in g ss) ≡ true → (is_in g ss ≡ true → all_over (closers q ss) ≡ false) → all_over (closers q (s ∷ ss)) ≡ false
+    go true e k more = ap (λ b. is_over (closer b) && all_over (closers q ss)) (subst (λ t. is_in t q ≡ true) (sym (eqb-true s g e)) h)
+    go false e k more = ap (λ b. is_over (closer (is_in s q)) && b) (more k) ∙ and_false (is_over (closer (is_in s q)))
 
-    disc_taken : steps_part serving p (Disc server_sap client_sap) ≡ left_
-    disc_taken =
-        ap (λ q. leaves p server_sap client_sap (served_holder server_sap q (own_holder client_sap (own_from server_sap p.own)))) here_.1.1
-        ∙ ap (λ q. if nat_le most_answers (answers_in q) then record p { served = without_conn client_sap p.served }
-        else record p { served = without_conn client_sap p.served; queue = q ++ dm ∷ [] }) h.sides.peer_queue
+-- a DM that was awaited came
+gave_then : (a b : Option OwnState) → is_waiting (standing_of a) ≡ true → is_waiting (standing_of b) ≡ false → gave_something a b ≡ true
+gave_then a b e f =
+    let rest = if is_open_by a && is_open_by b then not (acked_of b == acked_of a) else false in
+    ap (λ x. if x && not (is_waiting (standing_of b)) then true else rest) e ∙ ap (λ y. if not y then true else rest) f
 
-    dm_waits : DmWaits (record l { queue = [] }) left_
-    dm_waits = record {
-      sides = record {
-        client_fair = record { miu = h.sides.client_fair.miu; window = h.sides.client_fair.window; last = h.sides.client_fair.last };
-        peer_fair = record { miu = h.sides.peer_fair.miu; window = h.sides.peer_fair.window; last = h.sides.peer_fair.last };
-        client_readable = h.sides.client_readable;
-        peer_readable = h.sides.peer_readable;
-        client_queue = refl;
-        peer_queue = refl;
-        client_served = h.sides.client_served;
-        peer_own = h.sides.peer_own;
-        reached = h.sides.reached;
-        client_miu = h.sides.client_miu;
-        client_window = h.sides.client_window;
-        server_miu = h.sides.server_miu;
-        server_window = h.sides.server_window;
-        no_other = still_counted client_sap p.served (server_conn client_sap here_.1.0) here_.1.1 h.sides.no_other (omega arith) (omega arith);
-        kept = h.sides.kept;
-        at = at_changed l.own l.own p.served (without_conn client_sap p.served) p.service p.service (But s Giving) (But s Given) client_sap (λ t n. refl)
-            (λ t n. conn_without_other t client_sap p.served n) (λ t n q k a. else_so s Giving Given t q k n a) h.sides.at
-            (here_.0, none_left client_sap p.served (server_conn client_sap here_.1.0) here_.1.1 h.sides.no_other);
-      };
-      service_is = h.service_is;
-      found = tt;
-      stays = h.stays;
+-- SAPs of clients
+saps_by : (k : ℕ) → k ≤ 7 → is_in (32 + k) client_saps ≡ true
+saps_by zero h = refl
+saps_by (suc zero) h = refl
+saps_by (suc (suc zero)) h = refl
+saps_by (suc (suc (suc zero))) h = refl
+saps_by (suc (suc (suc (suc zero)))) h = refl
+saps_by (suc (suc (suc (suc (suc zero))))) h = refl
+saps_by (suc (suc (suc (suc (suc (suc zero)))))) h = refl
+saps_by (suc (suc (suc (suc (suc (suc (suc zero))))))) h = refl
+saps_by (suc (suc (suc (suc (suc (suc (suc (suc k)))))))) h = absurd (omega (arith, h))
+
+in_saps : (s : ℕ) → IsClientSap s → is_in s client_saps ≡ true
+in_saps s r =
+    let low = r.0 in let high = r.1 in
+    let k : ℕ = s - 32 in
+    let e : 32 + k ≡ s = omega (arith, low) in
+    subst (λ t. is_in t client_saps ≡ true) e (saps_by k (omega (arith, high)))
+
+module _ (names : List Bound) (s : ServerState) (z : Sizes) where
+  abbrev Stand_ : List ℕ → List ℕ → EndState → PeerState → Type 0
+  Stand_ told waits l p = Stands names s z told waits l p
+
+  -- These SAPs' connections are still to end.
+  abbrev Before : List ℕ → EndState → PeerState → Type 0
+  Before q l p = (told : List ℕ) × (waits : List ℕ) × (q ≡ told ++ waits) × Stand_ told waits l p
+
+  abbrev Between : List ℕ → EndState → PeerState → Type 0
+  Between q l p = (t : ℕ) × (told : List ℕ) × (waits : List ℕ) × (q ≡ (t ∷ told) ++ waits) × Stand_ (t ∷ told) waits l p
+
+  -- at least one of them ended
+  abbrev After : List ℕ → EndState → PeerState → Type 0
+  After q l p = (g : ℕ) × (gone : List ℕ) × (told : List ℕ) × (waits : List ℕ) × (q ≡ g ∷ (gone ++ (told ++ waits))) × Stand_ told waits l p
+
+  more_told : (q told waits : List ℕ) (sap : ℕ) (rest : List ℕ) → waits ≡ sap ∷ rest → q ≡ told ++ waits → q ≡ (told ++ sap ∷ []) ++ rest
+  more_told q told waits sap rest e i = i ∙ ap (λ w. told ++ w) e ∙ sym (append_assoc told (sap ∷ []) rest)
+
+  told_now : (q told waits : List ℕ) (sap : ℕ) (rest : List ℕ) (l : EndState) (p : PeerState) → waits ≡ sap ∷ rest → q ≡ told ++ waits → Stand_ (told ++ sap ∷ []) rest l p → Between q l p
+  told_now q [] waits sap rest l p e i h = (sap, [], rest, more_told q [] waits sap rest e i, h)
+  told_now q (t ∷ told) waits sap rest l p e i h = (t, told ++ sap ∷ [], rest, more_told q (t ∷ told) waits sap rest e i, h)
+
+  first_out : (q : List ℕ) (l : EndState) (p : PeerState) → Before q l p → (q ≡ [] → ⊥) → FirstSo silent serving (Between q) l p (gave silent l)
+  first_out q l p (told, waits, i, h) some =
+      client_first names s z (Between q) l p told waits h (λ sap rest e new r k. told_now q told waits sap rest new r e i k) (λ e. go told e i h)
+    where
+      go : (ts : List ℕ) → waits ≡ [] → q ≡ ts ++ waits → Stand_ ts waits l p → Between q l p
+      go [] e j k = absurd (some (j ∙ e))
+      go (t ∷ ts) e j k = (t, ts, waits, j, k)
+
+  on_out : (q : List ℕ) (l : EndState) (p : PeerState) → Between q l p → HopSo silent serving (Between q) p (gave silent l)
+  on_out q l p (t, told, waits, i, h) =
+      client_gives names s z (Between q) l p (t ∷ told) waits h (λ sap rest e new r k. told_now q (t ∷ told) waits sap rest new r e i k)
+
+  any_out : (q : List ℕ) (l : EndState) (p : PeerState) → Before q l p → HopSo silent serving (Before q) p (gave silent l)
+  any_out q l p (told, waits, i, h) =
+      client_gives names s z (Before q) l p told waits h (λ sap rest e new r k. (told ++ sap ∷ [], rest, more_told q told waits sap rest e i, k))
+
+  first_back : (q : List ℕ) (p : PeerState) (l : EndState) → Between q l p → FirstSo serving silent (λ p l. After q l p) p l (gave serving p)
+  first_back q p l (t, told, waits, i, h) = peer_first names s z (λ p l. After q l p) l p t told waits h (λ new r k. (t, [], told, waits, i, k))
+
+  on_back : (q : List ℕ) (p : PeerState) (l : EndState) → After q l p → HopSo serving silent (λ p l. After q l p) l (gave serving p)
+  on_back q p l (g, gone, told, waits, i, h) =
+      peer_gives names s z (λ p l. After q l p) l p told waits h (λ sap rest e new r k.
+      (g, gone ++ sap ∷ [], rest, waits, i ∙ ap (λ ts. g ∷ (gone ++ (ts ++ waits))) e ∙ ap (λ xs. g ∷ xs) (sym (append_assoc gone (sap ∷ []) (rest ++ waits))), k))
+
+  -- what such an end is at each SAP
+  module _ (told waits : List ℕ) (l : EndState) (p : PeerState) (h : Stand_ told waits l p) where
+    quiet_at : (t : ℕ) → Quiet_ l t (is_in t (told ++ waits))
+    quiet_at t = subst (Quiet_ l t) (sym (in_both t told waits)) (go (is_in t told) (is_in t waits) (h.sides.at t))
+      where
+        left : own_from t l.own ≡ Some (given_up t Leaving) → Quiet_ l t true
+        left e =
+            let n = emptied_none t l (ap unit_of e) in record { units = n.0; empty = n.1; waits = ap (λ o. is_waiting (standing_of o)) e }
+
+        go : (a b : Bool) → ByQueues a b t (own_from t l.own) (conn_from t p.served) p.service → Quiet_ l t (a || b)
+        go true true y = left y.own
+        go true false y = left y.own
+        go false true y = left y.own
+        go false false y =
+            let n = emptied_none t l (over_none (own_from t l.own) y.own) in record { units = n.0; empty = n.1; waits = (over_shut (own_from t l.own) y.own).1 }
+
+  -- These are SAPs of the client.
+  abbrev AreOurs : List ℕ → Type 0
+  AreOurs q = (t : ℕ) → is_in t q ≡ true → is_in t client_saps ≡ true
+
+  abbrev pub Same : List Received → Type 0
+  Same now = now ≡ s.accepted
+
+  -- where a call is
+  abbrev pub StepSo : Step → PeerState → Type 0
+  StepSo (Goes w) p =
+      (l : EndState) × (q : List ℕ) × (w ≡ record { llc = l; jobs = closers q client_saps; idle = 0 }) × (q ≡ [] → ⊥) × AreOurs q × Before q l p
+  StepSo (Ends jobs l) p = (jobs ≡ all_closed) × Stand_ [] [] l p
+  StepSo (GivesUp g) p = ⊥
+
+  module _ (l : EndState) (q : List ℕ) (p : PeerState) (some : q ≡ [] → ⊥) (ours : AreOurs q) (h : Before q l p) where
+    sides_of_ : (told waits : List ℕ) (e : EndState) (r : PeerState) → Stand_ told waits e r → (e.readable ≡ true) × (r.readable ≡ true)
+    sides_of_ told waits e r k = (k.sides.client_readable, k.sides.peer_readable)
+
+    asked : (k : ℕ) → Between q (after_giving silent k l) (taken_from serving p (given silent k l))
+    asked k = (let r = sides_of_ h.0 h.1 l p h.3 in handed_first silent serving (Between q) (on_out q) k l p r.0 r.1 (first_out q l p h some))
+
+    answered : (k count : ℕ) → After q (taken_from silent (after_giving silent k l) (given serving count (taken_from serving p (given silent k l))))
+        (after_giving serving count (taken_from serving p (given silent k l)))
+    answered k count =
+        let mid = after_giving silent k l in
+        let there = taken_from serving p (given silent k l) in
+        let b = asked k in
+        let r = sides_of_ (b.0 ∷ b.1) b.2 mid there b.4 in
+        handed_first serving silent (λ p l. After q l p) (on_back q) count there mid r.1 r.0 (first_back q there mid b)
+
+    before_safe : IsSafe Same l p
+    before_safe = record {
+      here = ap (λ (x : ServerState). x.accepted) h.3.service_is;
+      stepped = λ k count. (let a = answered k count in ap (λ (x : ServerState). x.accepted) a.5.service_is);
+      fronts = λ k front behind split.
+          (let r = sides_of_ h.0 h.1 l p h.3 in
+          let f = handed silent serving (Before q) (any_out q) k l p r.0 r.1 h in
+          let t = at_front silent serving (Before q) front behind p (subst (λ is. AtFronts silent serving (Before q) p is) split f.fronts) in
+          ap (λ (x : ServerState). x.accepted) t.1.3.service_is);
     }
 
-    pub disc_out : FirstSo silent serving DmWaits l p (gave silent l)
-    disc_out =
-        subst (λ q. FirstSo silent serving DmWaits l p (gave_from silent l q)) (sym h.sides.client_queue)
-        ((((omega arith), omega arith), omega arith), subst (λ q. DmWaits (record l { queue = [] }) q) (sym disc_taken) dm_waits)
+    -- the jobs behind a reply
+    settles : (k : ℕ) (mid new : EndState) (r there : PeerState) → Between q mid there → After q new r → StepSo (took mid new (closers q client_saps) 0) r
+    settles k mid new r there b (g, gone, told, waits, i, a) = subst (λ w. StepSo w r) (sym took_is) (go now refl)
+      where
+        now : List ℕ
+        now = told ++ waits
 
-  -- the peer gives its DM
-  module _ (p : PeerState) (l : EndState) (h : DmWaits l p) where
-    given_ : Given (own_from client_sap l.own) (conn_from client_sap p.served)
-    given_ = h.sides.at client_sap
+        fewer : (t : ℕ) → is_in t now ≡ true → is_in t q ≡ true
+        fewer t e =
+            ap (is_in t) i ∙ ap (λ x. (g == t) || x) (in_both t gone now ∙ ap (λ x. is_in t gone || x) e ∙ or_true (is_in t gone)) ∙ or_true (g == t)
 
-    dm_taken : steps_part silent l (Dm client_sap server_sap disconnected) ≡ record l { own = with_own (given_up Closed) l.own }
-    dm_taken = ap (awaited l server_sap (λ o. heard_dm l o o.is)) given_.0
+        mine : is_in g q ≡ true
+        mine = ap (is_in g) i ∙ in_self g (gone ++ now)
 
-    parted : Parted (record l { own = with_own (given_up Closed) l.own }) (record p { queue = [] })
-    parted = record {
-      sides = sides_own s.limit s.table names s.accepted z (But s Given) (But s Gone) [] [] l (record p { queue = [] })
-          (peer_queues s.limit s.table names s.accepted z (But s Given) [] (dm ∷ []) l p h.sides []) client_sap (given_up Closed) (given_up Leaving) given_.0 refl
-          (λ t n q k a. else_so s Given Gone t q k n a) ((refl, refl), given_.1);
-      service_is = h.service_is;
-      found = tt;
-      stays = h.stays;
+        left : is_in g now ≡ false
+        left =
+            let u = subst AreUnlike (sym b.3 ∙ i) b.4.unlike in
+            (neither (is_in g gone) (is_in g now) (sym (in_both g gone now) ∙ u.0)).1
+
+        was : Quiet_ mid g true
+        was = subst (Quiet_ mid g) (ap (is_in g) (sym b.3) ∙ mine) (quiet_at (b.0 ∷ b.1) b.2 mid there b.4 g)
+
+        is : Quiet_ new g false
+        is = subst (Quiet_ new g) left (quiet_at told waits new r a g)
+
+        gave_ : gave_something (own_from g mid.own) (own_from g new.own) ≡ true
+        gave_ = gave_then (own_from g mid.own) (own_from g new.own) was.waits is.waits
+
+        jobs : List OnSap
+        jobs = closers q client_saps
+
+        took_is : took mid new jobs 0 ≡ settled new (closers now client_saps) 0
+        took_is =
+            ap (λ o. told_by new jobs (all_heard mid new jobs) (idle_after (gave_any mid new jobs) 0) o)
+            (ap all_well (closers_heard mid new q now (quiet_at told waits new r a) fewer client_saps) ∙ all_came (closers now client_saps))
+            ∙ ap (λ b. settled (all_emptied jobs new) (closers now client_saps) (idle_after b 0)) (closers_gave mid new q g gave_ client_saps (ours g mine))
+            ∙ ap (λ (e : EndState). settled e (closers now client_saps) 0) (closers_emptied mid new q now (quiet_at told waits new r a) fewer client_saps)
+
+        go : (xs : List ℕ) → now ≡ xs → StepSo (settled new (closers now client_saps) 0) r
+        go [] e =
+            subst (λ xs. StepSo (settled new (closers xs client_saps) 0) r) (sym e)
+            (refl, (let n = nothing told waits e in subst (λ xs. Stand_ xs [] new r) n.0 (subst (λ xs. Stand_ told xs new r) n.1 a)))
+          where
+            nothing : (xs ys : List ℕ) → xs ++ ys ≡ [] → (xs ≡ []) × (ys ≡ [])
+            nothing [] ys e = (refl, e)
+            nothing (x ∷ xs) ys e = absurd cc
+        go (t ∷ ts) e =
+            let i_ : is_in t now ≡ true = ap (is_in t) e ∙ in_self t ts in
+            subst (λ b. StepSo (if b then Ends (closers now client_saps) new else goes_on new (closers now client_saps) 0) r)
+            (sym (closers_on now t i_ client_saps (ours t (fewer t i_))))
+            (new, now, refl, (λ n. (let z : t ∷ ts ≡ [] = sym e ∙ n in cc)), (λ u m. ours u (fewer u m)), (told, waits, refl, a))
+
+    ready_is : ready (record { llc = l; jobs = closers q client_saps; idle = 0 }) ≡ record { llc = l; jobs = closers q client_saps; idle = 0 }
+    ready_is = ap (λ (x : AllReady). let w : Working = record { llc = x.llc; jobs = x.jobs; idle = 0 } in w) (closers_ready q client_saps l)
+
+    turned : (k : ℕ) (reply : List ℕ) (r : PeerState) → PeerSteps p (given silent k l) reply r → StepSo (replied_ready k (record { llc = l; jobs = closers q client_saps; idle = 0 }) reply) r
+    turned k reply r x =
+        let mid = after_giving silent k l in
+        let there = taken_from serving p (given silent k l) in
+        let now : After q (taken_from silent mid reply) r =
+        subst (λ b. After q (taken_from silent mid b) r) (sym x.reply_is)
+        (subst (λ b. After q (taken_from silent mid (given serving x.count there)) b) (sym x.left) (answered k x.count)) in
+        settles k mid (taken_from silent mid reply) r there (asked k) now
+
+  pub turns_so : (w : Working) (p : PeerState) → StepSo (Goes w) p → (k : ℕ) (reply : List ℕ) (r : PeerState) → PeerSteps p (payload k w) reply r → StepSo (replied k w reply) r
+  turns_so w p (l, q, e, some, ours, h) k reply r x =
+      let same : ready w ≡ record { llc = l; jobs = closers q client_saps; idle = 0 } = ap ready e ∙ ready_is l q p some ours h in
+      subst (λ v. StepSo (replied_ready k v reply) r) (sym same)
+      (turned l q p some ours h k reply r (subst (λ (v : Working). PeerSteps p (given silent k v.llc) reply r) same x))
+
+  pub safe_so : (w : Working) (p : PeerState) → StepSo (Goes w) p → IsSafe Same (ready w).llc p
+  safe_so w p (l, q, e, some, ours, h) =
+      subst (λ (v : Working). IsSafe Same v.llc p) (sym (ap ready e ∙ ready_is l q p some ours h)) (before_safe l q p some ours h)
+
+  abbrev pub course : Course Same
+  course = record { At = StepSo; turns = turns_so; safe = safe_so }
+
+unlike_without : (xs : List ℕ) (s : ℕ) (ys : List ℕ) → AreUnlike (xs ++ s ∷ ys) → AreUnlike (xs ++ ys)
+unlike_without [] s ys u = u.1
+unlike_without (x ∷ xs) s ys u =
+    let e = neither (is_in x xs) (is_in x (s ∷ ys)) (sym (in_both x xs (s ∷ ys)) ∙ u.0) in
+    let n = neither (s == x) (is_in x ys) e.1 in
+    (in_both x xs ys ∙ ap (λ b. b || is_in x ys) e.0 ∙ n.1, unlike_without xs s ys u.1)
+
+saps_unlike : AreUnlike client_saps
+saps_unlike = (refl, (refl, (refl, (refl, (refl, (refl, (refl, (refl, tt))))))))
+
+-- While connections are given up one after the other: the DISC of a SAP waits; it is still to come to; or there is none.
+abbrev ByTurn : Bool → Bool → Place
+ByTurn true b t o c x = Giving t o c x
+ByTurn false true t o c x = Rested x t o c
+ByTurn false false t o c x = Gone o c
+
+abbrev Turning : List ℕ → List ℕ → Place
+Turning waits ss t o c x = ByTurn (is_in t waits) (is_in t ss) t o c x
+
+module _ (names : List Bound) (s : ServerState) (z : Sizes) (p : PeerState) where
+  abbrev Side_ : List ℕ → List ℕ → EndState → Type 0
+  Side_ waits ss l = Sides s.limit s.table names s.accepted z (Turning waits ss) (map disc waits) [] l p
+
+  record Opened (waits ss : List ℕ) (r : AllReady) : Type 0 where
+    pub more : List ℕ
+    pub within : (t : ℕ) → is_in t more ≡ true → is_in t ss ≡ true
+    pub unlike : AreUnlike (waits ++ more)
+    pub few : length more ≤ length ss
+    pub jobs : r.jobs ≡ closers (waits ++ more) ss
+    pub sides : Side_ (waits ++ more) [] r.llc
+
+  in_more : (t a : ℕ) (xs : List ℕ) → is_in t xs ≡ true → is_in t (a ∷ xs) ≡ true
+  in_more t a xs e = ap (λ b. (a == t) || b) e ∙ or_true (a == t)
+
+  -- there is none at the next SAP
+  module _ (waits : List ℕ) (t : ℕ) (ss : List ℕ) (l : EndState) (u : AreUnlike (waits ++ t ∷ ss)) (h : Side_ waits (t ∷ ss) l) where
+    around : (is_in t waits ≡ false) × (is_in t ss ≡ false)
+    around = amid t waits ss u
+
+    rested : Rested p.service t (own_from t l.own) (conn_from t p.served)
+    rested =
+        subst (λ b. ByTurn b true t (own_from t l.own) (conn_from t p.served) p.service) around.0
+        (subst (λ b. ByTurn (is_in t waits) b t (own_from t l.own) (conn_from t p.served) p.service) (in_self t ss) (h.at t))
+
+    abbrev By_ : Bool → Type 0
+    By_ b = Opened waits (t ∷ ss) (with_job t (leaving l t b) (all_opening (leave_from ss)))
+
+    passed : (y : IsOver (own_from t l.own) × (conn_from t p.served ≡ None)) → Side_ waits ss l
+    passed y = sides_by s.limit s.table names s.accepted z (Turning waits (t ∷ ss)) (map disc waits) [] l p h (Turning waits ss) (λ r k. go r (t == r) refl k)
+      where
+        go : (r : ℕ) (b : Bool) → (t == r) ≡ b → Turning waits (t ∷ ss) r (own_from r l.own) (conn_from r p.served) p.service → Turning waits ss r (own_from r l.own) (conn_from r p.served) p.service
+        go r false e k = subst (λ b. ByTurn (is_in r waits) b r (own_from r l.own) (conn_from r p.served) p.service) (in_other t r ss e) k
+        go r true e k =
+            subst (λ v. Turning waits ss v (own_from v l.own) (conn_from v p.served) p.service) (eqb-true t r e)
+            (subst (λ b. ByTurn b (is_in t ss) t (own_from t l.own) (conn_from t p.served) p.service) (sym around.0)
+            (subst (λ b. ByTurn false b t (own_from t l.own) (conn_from t p.served) p.service) (sym around.1) (record { own = y.0; served = y.1 })))
+
+    none_there : Opened waits ss (all_opening (leave_from ss) l) → By_ false
+    none_there o = record {
+      more = o.more;
+      within = λ r e. in_more r t ss (o.within r e);
+      unlike = o.unlike;
+      few = (let f = o.few in omega (arith, f));
+      jobs = ap (λ js. record { sap = t; job = Over Done } ∷ js) o.jobs ∙ ap (λ b. record { sap = t; job = closer b } ∷ closers (waits ++ o.more) ss) (sym not_there);
+      sides = o.sides;
     }
+      where
+        not_more : (b : Bool) → is_in t o.more ≡ b → is_in t o.more ≡ false
+        not_more false e = e
+        not_more true e = absurd (let k : true ≡ false = sym (o.within t e) ∙ around.1 in cc)
 
-    pub dm_back : FirstSo serving silent (λ q e. Parted e q) p l (gave serving p)
-    dm_back =
-        subst (λ q. FirstSo serving silent (λ q e. Parted e q) p l (gave_from serving p q)) (sym h.sides.peer_queue)
-        ((((omega arith), omega arith), omega arith), subst (λ e. Parted e (record p { queue = [] })) (sym dm_taken) parted)
+        not_there : is_in t (waits ++ o.more) ≡ false
+        not_there = in_both t waits o.more ∙ ap (λ b. b || is_in t o.more) around.0 ∙ not_more (is_in t o.more) refl
 
-  abbrev over_at : (l : EndState) (p : PeerState) → Parted l p → Gone (own_from client_sap l.own) (conn_from client_sap p.served)
-  over_at l p h = h.sides.at client_sap
+    -- one is open there
+    module _ (q : Quiet p.service t (own_from t l.own) (conn_from t p.served)) where
+      abbrev gave_up : EndState
+      gave_up = record l { own = with_own (given_up t Leaving) l.own }
 
-  pub was_closed : (waiting : Bool) (l : EndState) (p : PeerState) → Parted l p → heard waiting l client_sap Closes ≡ Some (Over Done)
-  was_closed waiting l p h =
-      ap (λ us. heard_so (emptied l client_sap) client_sap (told_in waiting Closes us)) (rested_units s l (conn_from client_sap p.served) (inl (over_at l p h)))
-      ∙ ap (λ (e : EndState). Some (finished e client_sap Closes)) (rested_emptied s l (conn_from client_sap p.served) (inl (over_at l p h)))
-      ∙ ap (λ b. Some (if b then Closes else Over Done)) (over_shut (own_from client_sap l.own) (over_at l p h).0).1
+      abbrev left_ : EndState
+      left_ = record gave_up { queue = l.queue ++ disc t ∷ [] }
 
-  abbrev pub closes : OneExchange s Closes Done
-  closes = record {
-    Before = DiscWaits;
-    Between = DmWaits;
-    After = Parted;
-    first = disc_out;
-    on = client_hop Any there names s z (But s Given) (but_splits s Given given_still) (dm ∷ []);
-    back = dm_back;
-    back_on = peer_hop Any there names s z (But s Gone) (but_splits s Gone gone_still);
-    before_readable = λ l p h. (h.sides.client_readable, h.sides.peer_readable);
-    between_readable = λ l p h. (h.sides.client_readable, h.sides.peer_readable);
-    before_kept = λ l p h. h.service_is;
-    between_kept = λ l p h. h.service_is;
-    after_kept = λ l p h. h.service_is;
-    plain = λ l. refl;
-    over = was_closed;
-    emptied_is = λ l p h. rested_emptied s l (conn_from client_sap p.served) (inl (over_at l p h));
+      others : (r : ℕ) → (t == r) ≡ false → (o : Option OwnState) (k : Option ConnState) → Turning waits (t ∷ ss) r o k p.service → Turning (waits ++ t ∷ []) ss r o k p.service
+      others r n o k a =
+          subst (λ b. ByTurn b (is_in r ss) r o k p.service) (sym (in_last_other t r waits n)) (subst (λ b. ByTurn (is_in r waits) b r o k p.service) (in_other t r ss n) a)
+
+      here : Turning (waits ++ t ∷ []) ss t (Some (given_up t Leaving)) (conn_from t p.served) p.service
+      here =
+          subst (λ b. ByTurn b (is_in t ss) t (Some (given_up t Leaving)) (conn_from t p.served) p.service) (sym (in_last t waits))
+          (record { range = q.range; own = refl; n = q.n; settled = q.settled; served = q.served; session = q.session })
+
+      left_sides : Side_ (waits ++ t ∷ []) ss left_
+      left_sides =
+          subst (λ w. Sides s.limit s.table names s.accepted z (Turning (waits ++ t ∷ []) ss) w [] left_ p) (ap (λ w. w ++ disc t ∷ []) h.client_queue ∙ sym (map-append disc waits (t ∷ [])))
+          (client_queues s.limit s.table names s.accepted z (Turning (waits ++ t ∷ []) ss) (map disc waits) [] gave_up p
+          (sides_own s.limit s.table names s.accepted z (Turning waits (t ∷ ss)) (Turning (waits ++ t ∷ []) ss) (map disc waits) [] l p h t (given_up t Leaving) _ q.own refl others here)
+          (l.queue ++ disc t ∷ []) l.lookups l.asked)
+
+      left_is : disconnected_by l (own_of t l) ≡ left_
+      left_is = ap (disconnected_by l) q.own
+
+      one_there : Opened (waits ++ t ∷ []) ss (all_opening (leave_from ss) left_) → By_ true
+      one_there o = subst (λ e. Opened waits (t ∷ ss) (with_job t (ready_so e Closes) (all_opening (leave_from ss)))) (sym left_is) (record {
+        more = t ∷ o.more;
+        within = λ r e. within_ r (t == r) e;
+        unlike = subst AreUnlike same o.unlike;
+        few = (let f = o.few in omega (arith, f));
+        jobs = ap (λ js. record { sap = t; job = Closes } ∷ js) (o.jobs ∙ ap (λ ws. closers ws ss) same)
+            ∙ ap (λ b. record { sap = t; job = closer b } ∷ closers (waits ++ t ∷ o.more) ss) (sym there);
+        sides = subst (λ ws. Side_ ws [] (all_opening (leave_from ss) left_).llc) same o.sides;
+      })
+        where
+          same : (waits ++ t ∷ []) ++ o.more ≡ waits ++ t ∷ o.more
+          same = append_assoc waits (t ∷ []) o.more
+
+          there : is_in t (waits ++ t ∷ o.more) ≡ true
+          there = in_both t waits (t ∷ o.more) ∙ ap (λ b. is_in t waits || b) (in_self t o.more) ∙ or_true (is_in t waits)
+
+          within_ : (r : ℕ) (b : Bool) → (b || is_in r o.more) ≡ true → (b || is_in r ss) ≡ true
+          within_ r true e = refl
+          within_ r false e = o.within r e
+
+  opens : (ss waits : List ℕ) (l : EndState) → AreUnlike (waits ++ ss) → Side_ waits ss l → Opened waits ss (all_opening (leave_from ss) l)
+  opens [] waits l u h = record {
+    more = [];
+    within = λ t e. e;
+    unlike = u;
+    few = omega arith;
+    jobs = refl;
+    sides = subst (λ ws. Side_ ws [] l) (sym (append-nil waits)) h;
   }
+  opens (t ∷ ss) waits l u h = go (rested waits t ss l u h) (λ e k v. opens ss waits e k v) (λ e k v. opens ss (waits ++ t ∷ []) e k v)
+    where
+      go : Rested p.service t (own_from t l.own) (conn_from t p.served) → ((e : EndState) → AreUnlike (waits ++ ss) → Side_ waits ss e → Opened waits ss (all_opening (leave_from ss) e))
+          → ((e : EndState) → AreUnlike ((waits ++ t ∷ []) ++ ss) → Side_ (waits ++ t ∷ []) ss e → Opened (waits ++ t ∷ []) ss (all_opening (leave_from ss) e))
+          → Opened waits (t ∷ ss) (all_opening (leave_from (t ∷ ss)) l)
+      go (inl y) none some =
+          subst (By_ waits t ss l u h) (sym (over_shut (own_of t l) y.0).0) (none_there waits t ss l u h (none l (unlike_without waits t ss u) (passed waits t ss l u h y)))
+      go (inr q) none some =
+          subst (By_ waits t ss l u h) (sym (ap is_open_by q.own))
+          (one_there waits t ss l u h q (some (left_ waits t ss l u h q) (subst AreUnlike (sym (append_assoc waits (t ∷ []) ss)) u) (left_sides waits t ss l u h q)))
 
 module _ {C A : Type 0} (seen : C → CarrierView) (swaps : C → List ℕ → List FarStep → C → Type 0) (steps : A → List ℕ → List ℕ → A → Type 0) (stops : A → List ℕ → A → Type 0)
     (view : A → PeerState) (peer : IsPeer steps stops view) (client : EndState) (link : C) (far : A) (a : Accords client (view far)) (numbers : List ℕ) where
@@ -196,88 +474,76 @@ module _ {C A : Type 0} (seen : C → CarrierView) (swaps : C → List ℕ → L
   abbrev z_ : Sizes
   z_ = sizes_of client p
 
-  -- the peer's connections but that of the client's first SAP
-  abbrev gone : ℕ → Bool
-  gone s = is_some (conn_from s (without_conn client_sap p.served))
-
-  abbrev closing : OneExchange p.service Closes Done
-  closing = closes gone p.bound p.service z_
-
   abbrev AtStep : Step → PeerState → Type 0
-  AtStep = (course p.service Closes Done closing).At
+  AtStep = (course p.bound p.service z_).At
 
-  abbrev begin_by : Bool → Step
-  begin_by b = beginning (with_job client_sap (leaves_by client client_sap b) (all_opening []))
-
-  -- its connection is open
-  module _ (h : IsJoined client_sap client p) where
-    abbrev gave_up : EndState
-    gave_up = record client { own = with_own (given_up Leaving) client.own }
-
-    given_sides : Sides p.service.limit p.service.table p.bound p.service.accepted z_ (But p.service Giving) [] [] gave_up p
-    given_sides =
-        sides_own p.service.limit p.service.table p.bound p.service.accepted z_ (AllRested p.service) (But p.service Giving) [] [] client p (sides_at client p a) client_sap
-        (given_up Leaving) _ h.own refl (λ t n q k y. subst (λ b. ButBy p.service Giving b t q k) (sym n) y) (refl, (h.numbers, h.served))
-
-    joined_begins : DiscWaits gone p.bound p.service z_ (disconnected_by client (own_of client_sap client)) p
-    joined_begins =
-        subst (λ o. DiscWaits gone p.bound p.service z_ (disconnected_by client o) p) (sym h.own) (record {
-          sides = subst (λ q. Sides p.service.limit p.service.table p.bound p.service.accepted z_ (But p.service Giving) q [] (record gave_up { queue = client.queue ++ disc ∷ [] }) p)
-              (ap (λ q. q ++ disc ∷ []) a.calm.client_queue)
-              (client_queues p.service.limit p.service.table p.bound p.service.accepted z_ (But p.service Giving) [] [] gave_up p given_sides (client.queue ++ disc ∷ []) client.lookups client.asked);
-          service_is = refl;
-          stays = λ t. refl;
-        })
-
-    joined_step : AtStep (begins client Leaves) p
-    joined_step =
-        subst (λ b. AtStep (begin_by b) p) (sym (ap is_open_by h.own)) (disconnected_by client (own_of client_sap client), 0, refl, joined_begins)
-
-  -- there is none
-  module _ (h : IsApart client_sap client p) where
-    gone_at : (t : ℕ) (b : Bool) → (client_sap == t) ≡ b → Rested p.service t (own_from t client.own) (conn_from t p.served) → ButBy p.service Gone b t (own_from t client.own) (conn_from t p.served)
-    gone_at t true e y = subst (λ r. Gone (own_from r client.own) (conn_from r p.served)) (eqb-true client_sap t e) (h.own, h.served)
-    gone_at t false e y = y
-
-    apart_step : AtStep (begins client Leaves) p
-    apart_step =
-        subst (λ b. AtStep (begin_by b) p) (sym (over_shut (own_of client_sap client) h.own).0) (
-          refl,
-          record {
-            sides = sides_by p.service.limit p.service.table p.bound p.service.accepted z_ (AllRested p.service) [] [] client p (sides_at client p a) (But p.service Gone) (λ t y. gone_at t (client_sap == t) refl y);
-            service_is = refl;
-            found = tt;
-            stays = λ t. ap (λ ks. is_some (conn_from t ks)) (sym (without_none client_sap p.served h.served));
-          },
-        )
-
-  begins_so : AtStep (begins client Leaves) p
-  begins_so = go (a.stands client_sap)
+  first_sides : Sides p.service.limit p.service.table p.bound p.service.accepted z_ (Turning [] client_saps) [] [] client p
+  first_sides = sides_by p.service.limit p.service.table p.bound p.service.accepted z_ (AllRested p.service) [] [] client p (sides_at client p a) (Turning [] client_saps)
+      (λ t y. go t (is_in t client_saps) refl y)
     where
-      go : (IsApart client_sap client p ⊎ IsJoined client_sap client p) → AtStep (begins client Leaves) p
-      go (inl h) = apart_step h
-      go (inr h) = joined_step h
+      go : (t : ℕ) (b : Bool) → is_in t client_saps ≡ b → Rested p.service t (own_from t client.own) (conn_from t p.served) → ByTurn false b t (own_from t client.own) (conn_from t p.served) p.service
+      go t true e y = y
+      go t false e (inl y) = record { own = y.0; served = y.1 }
+      go t false e (inr q) = absurd (let k : true ≡ false = sym (in_saps t q.range) ∙ e in cc)
 
-  -- it was ended
-  pub close_ends : (new : EndState) (now : C) (after : A) → Talks seen swaps steps stops numbers (begins client Leaves) link far (Ends (alone (Over Done)) new) now after
-      → IsClosed client_sap p new (view after)
+  abbrev r_ : AllReady
+  r_ = all_opening (leave_from client_saps) client
+
+  opened : Opened p.bound p.service z_ p [] client_saps r_
+  opened = opens p.bound p.service z_ p client_saps [] client saps_unlike first_sides
+
+  abbrev q_ : List ℕ
+  q_ = opened.more
+
+  begun_stands : Stands p.bound p.service z_ [] q_ r_.llc p
+  begun_stands = record {
+    sides = sides_by p.service.limit p.service.table p.bound p.service.accepted z_ (Turning q_ []) (map disc q_) [] r_.llc p opened.sides (Parting [] q_) (λ t y. go t (is_in t q_) y);
+    service_is = refl;
+    unlike = opened.unlike;
+    few = (let f = opened.few in omega (arith, f));
+  }
+    where
+      go : (t : ℕ) (b : Bool) → ByTurn b false t (own_from t r_.llc.own) (conn_from t p.served) p.service → ByQueues false b t (own_from t r_.llc.own) (conn_from t p.served) p.service
+      go t true y = y
+      go t false y = y
+
+  begins_so : AtStep (closes client) p
+  begins_so = subst (λ js. AtStep (if all_over js then Ends js r_.llc else begun r_.llc js) p) (sym opened.jobs) (go q_ refl)
+    where
+      go : (xs : List ℕ) → q_ ≡ xs → AtStep (if all_over (closers q_ client_saps) then Ends (closers q_ client_saps) r_.llc else begun r_.llc (closers q_ client_saps)) p
+      go [] e =
+          subst (λ xs. AtStep (if all_over (closers xs client_saps) then Ends (closers xs client_saps) r_.llc else begun r_.llc (closers xs client_saps)) p) (sym e)
+          (refl, subst (λ xs. Stands p.bound p.service z_ [] xs r_.llc p) e begun_stands)
+      go (t ∷ ts) e =
+          let i : is_in t q_ ≡ true = ap (is_in t) e ∙ in_self t ts in
+          subst (λ b. AtStep (if b then Ends (closers q_ client_saps) r_.llc else begun r_.llc (closers q_ client_saps)) p)
+          (sym (closers_on q_ t i client_saps (opened.within t i)))
+          (r_.llc, q_, refl, (λ n. (let k : t ∷ ts ≡ [] = sym e ∙ n in cc)), opened.within, ([], q_, refl, begun_stands))
+
+  -- all ended
+  pub close_ends : (new : EndState) (now : C) (after : A) → Talks seen swaps steps stops numbers (closes client) link far (Ends all_closed new) now after → IsClosed p new (view after)
   close_ends new now after t =
-      let y = came (Same p.service Closes Done closing) (course p.service Closes Done closing) seen swaps steps stops view peer
-      numbers (begins client Leaves) (Ends (alone (Over Done)) new) link now far after begins_so t in
-      let h = y.1 in
-      let left = over_at gone p.bound p.service z_ new (view after) h in record {
-        apart = record { own = left.0; served = left.1 };
-        others = λ s n. h.stays s ∙ ap (λ o. is_some o) (conn_without_other s client_sap p.served n);
+      let y = came (Same p.bound p.service z_) (course p.bound p.service z_) seen swaps steps stops view peer numbers (closes client) (Ends all_closed new) link now far after begins_so t in
+      let h = y.1 in record {
+        apart = λ s. (let g = h.sides.at s in record { own = g.own; served = g.served });
         aside = record {
           service = h.service_is;
           bound = h.sides.reached.0;
           accords = accord_at p.bound p.service z_ new (view after)
-              (sides_by p.service.limit p.service.table p.bound p.service.accepted z_ (But p.service Gone) [] [] new (view after) h.sides (AllRested p.service)
-              (λ t k. gone_rested p.service t (own_from t new.own) (conn_from t (view after).served) k)) h.service_is;
+              (sides_by p.service.limit p.service.table p.bound p.service.accepted z_ (Parting [] []) [] [] new (view after) h.sides (AllRested p.service) (λ t k. inl (k.own, k.served))) h.service_is;
         };
       }
 
+  aside_by : (q : PeerState) → q.service.accepted ≡ p.service.accepted → (c : EndCause) → AsideFails p (fault_of c) q
+  aside_by q h cause.FieldLost = h
+  aside_by q h cause.SixBad = h
+  aside_by q h cause.Protocol = h
+  aside_by q h cause.Memory = h
+
   -- it failed
-  pub close_fails : (e : SnepFault) (new : EndState) (now : C) (after : A) → FailsBy seen swaps steps stops numbers (begins client Leaves) link far e new now after → AsideFails p e (view after)
-  close_fails e new now after h =
-      fails_so p.service Closes Done closing seen swaps steps stops view peer link far refl numbers (begins client Leaves) e new now after begins_so h
+  pub close_fails : (e : SnepFault) (new : EndState) (now : C) (after : A) → FailsBy seen swaps steps stops numbers (closes client) link far e new now after → AsideFails p e (view after)
+  close_fails e new now after (inl (f, k, t)) =
+      absurd (came (Same p.bound p.service z_) (course p.bound p.service z_) seen swaps steps stops view peer numbers (closes client) (gives_up k new) link now far after begins_so t)
+  close_fails e new now after (inr b) =
+      let k = breaks_off (Same p.bound p.service z_) (course p.bound p.service z_) seen swaps steps stops view peer numbers (closes client) link far e new now after begins_so b in
+      subst (λ f. AsideFails p f (view after)) (sym k.fault) (aside_by (view after) k.added k.why)

@@ -1,7 +1,7 @@
 -- One request on the connection from a SAP, unit by unit: where the two ends stand, and how they come from one phase to another.
-use Rattle.std.proofs.Common.{◌≡◌, ◌<◌, ◌≤◌, ◌⊎◌, Bool, true, false, ℕ, List, [], ◌∷◌, ◌++◌, length, Option, Some, None, is_some, refl, sym, ap}
+use Rattle.std.proofs.Common.{◌≡◌, ◌<◌, ◌≤◌, ◌⊎◌, ◌||◌, Bool, true, false, ℕ, List, [], ◌∷◌, ◌++◌, length, Option, Some, None, is_some, refl, sym, ap}
 use Rattle.llcp_conn.specs.Conn.{first}
-use Rattle.snep_core.specs.Accord.{IsPaired, Numbers}
+use Rattle.snep_core.specs.Accord.{IsPaired, Numbers, is_some_of}
 use Rattle.snep_core.specs.Jobs.{Job, told_all, told_in}
 use Rattle.snep_core.specs.Server.{Received, ServerState, serving}
 use Rattle.snep_core.specs.Session.{Offer, Session, fresh_session}
@@ -19,6 +19,10 @@ pub record Conversation : Type 1 where
   pub session_at : Phase → Session
   pub accepted_at : Phase → List Received
   pub Holds : Phase → Type 0
+
+-- Where an answer waits at the client, or its job is over, the server owes no acknowledgement.
+abbrev pub Settled : (c : Conversation) → c.Phase → Numbers → Type 0
+Settled c ph n = (is_some_of (c.units_at ph) || is_over (c.job_at ph)) ≡ true → n.asked ≡ []
 
 abbrev pub AllWithin : ℕ → List (List ℕ) → Type 0
 AllWithin miu [] = Unit {0}
@@ -74,6 +78,8 @@ module _ (sap limit : ℕ) (table : List Offer) (c : Conversation) where
         ≡ on_so (conn_at sap n (c.queue_at to) (c.units_at to)) (c.job_at to)
     pub session_is : c.session_at to ≡ c.session_at from
     pub accepted_is : c.accepted_at to ≡ c.accepted_at from
+    pub same_units : c.units_at to ≡ c.units_at from
+    pub same_over : is_over (c.job_at to) ≡ is_over (c.job_at from)
     pub busy : c.units_at from ≡ [] → is_over (c.job_at from) ≡ false → c.queue_at to ≡ [] → n.asked ≡ [] → (s : ServerState) → StandsAt to s → Tells size to s
 
   -- What is true of a conversation over ends with these MIUs.
@@ -83,6 +89,7 @@ module _ (sap limit : ℕ) (table : List Offer) (c : Conversation) where
         → Comes ph queue (c.units_at ph) (serving.brought s sap u)
     pub tells : (ph : c.Phase) → c.Holds ph → (s : ServerState) → StandsAt ph s → MayTell size ph s
     pub hears : (ph : c.Phase) → c.Holds ph → Hears ph
+    pub done : (ph : c.Phase) → c.Holds ph → is_over (c.job_at ph) ≡ true → c.queue_at ph ≡ []
     pub plain : (ph : c.Phase) (l : EndState) → finished l sap (c.job_at ph) ≡ c.job_at ph
     pub readies : (ph : c.Phase) → c.Holds ph → (n : Numbers) → n.server_miu ≡ miu → IsPaired n (length (c.queue_at ph)) → Readies size n ph
 
@@ -132,5 +139,7 @@ module _ (sap limit : ℕ) (table : List Offer) (c : Conversation) (ph : c.Phase
     ready = ready;
     session_is = refl;
     accepted_is = refl;
+    same_units = refl;
+    same_over = refl;
     busy = λ u o q a s h. busy u o q s h;
   }

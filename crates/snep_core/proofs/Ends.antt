@@ -23,7 +23,7 @@ use Rattle.snep_core.proofs.Conversations.{Conversation, Converses, Starts}
 use Rattle.snep_core.proofs.Idling.{Idles}
 use Rattle.snep_core.proofs.Meets.{is_in}
 use Rattle.snep_core.proofs.OnConnection.{conn_at}
-use Rattle.snep_core.proofs.Places.{StandsBy}
+use Rattle.snep_core.proofs.Places.{StandsBy, starts_settled}
 use Rattle.snep_core.proofs.Served.{Serves}
 use Rattle.snep_core.proofs.Sides.{Kept, Sizes}
 use Rattle.snep_core.proofs.OneJob.{OneRests, is_it, job_by, jobs, ours, plan_by}
@@ -121,6 +121,7 @@ module _ (client : EndState) (peer : PeerState) (a : Accords client peer) (sap :
     served = h.served;
     job_is = refl;
     serves = serves_at s h.range fresh_session h.session;
+    settled = λ k. h.settled;
   })
 
   abbrev Begun_ : EndState → Type 0
@@ -201,6 +202,7 @@ module _ (client : EndState) (peer : PeerState) (a : Accords client peer) (sap :
         job_is = sym t.job_is;
         serves = subst (λ w. Serves sap x_.limit x_.table x_ w (c.accepted_at t.at)) (sym t.session_is)
             (subst (λ w. Serves sap x_.limit x_.table x_ fresh_session w) (sym t.accepted_is) (serves_at sap range fresh_session h.session));
+        settled = starts_settled most bytes t n;
       }))
   talks_at h s false e = at_rest s (a.stands s)
 

@@ -30,6 +30,7 @@ idle_converses sap limit table old miu size = record {
   comes = λ ph u queue e h s v. absurd (no_unit u queue e);
   tells = λ ph h s v. inl (ap (λ q. (sent size q).unit) v.session);
   hears = λ ph h. hears_nothing sap limit table (idle_conv old) ph h refl;
+  done = λ ph h o. refl;
   plain = λ ph l. refl;
   readies = λ ph h n e paired. stays sap limit table (idle_conv old) ph h size n paired refl (λ u o. absurd cc);
 }

@@ -11,6 +11,7 @@ pub mod PayloadLaw
 pub mod Readied
 pub mod CallsEnd
 pub mod CallsKeep
+pub mod Leaving
 pub mod CutOff
 pub mod Links
 pub mod Owned
@@ -23,6 +24,7 @@ pub mod Submits
 pub mod Connecting
 pub mod Cutting
 pub mod Talking
+pub mod AllClosed
 pub mod Falling
 pub mod Around
 pub mod Tally
@@ -58,6 +60,7 @@ pub mod Removed
 pub mod Peers
 pub mod Asides
 pub mod OneExchange
+pub mod Partings
 pub mod OneJob
 pub mod LookupEnds
 pub mod CloseEnds

@@ -136,14 +136,14 @@ module _ (limit : ℕ) (table : List Offer) (names : List Bound) (old : List Rec
         asks_meets u queue e =
             talk_on s free (conn_at s (asks t.n u) queue (conv_of.units_at t.phase)) _ (server_conn s (asks t.n u)) _ (serving.brought p.service s u) t.own t.served refl refl
             (leaves_brought s p.service (did p.service.limit p.service.table (session_of p.service s) u))
-            (talks_asks limit table old z s (plan s) (job s) t.range t.n p.service laws_of t.phase t.paired t.holds t.job_is t.serves u queue e)
+            (talks_asks limit table old z s (plan s) (job s) t.range t.n p.service laws_of t.phase t.paired t.holds t.job_is t.serves t.settled u queue e)
             (Some s) p.last low h.sides.peer_fair.last
 
         pub acks_meets : Meets job client_acked server_heard
         acks_meets =
             talk_on s free (conn_at s (client_acks t.n) (conv_of.queue_at t.phase) (conv_of.units_at t.phase)) _ (server_conn s (client_acks t.n)) _ p.service t.own t.served refl refl
             (leaves_same s p.service)
-            (talks_client_acks limit table old z s (plan s) (job s) t.range t.n p.service laws_of t.phase t.paired t.holds t.job_is t.serves)
+            (talks_client_acks limit table old z s (plan s) (job s) t.range t.n p.service laws_of t.phase t.paired t.holds t.job_is t.serves t.settled)
             (Some s) p.last low h.sides.peer_fair.last
 
         pub tells_meets : (y : HasUnit) → HasRoom → Meets job (client_told y.unit) (server_told y.unit)
@@ -151,14 +151,14 @@ module _ (limit : ℕ) (table : List Offer) (names : List Bound) (old : List Rec
             talk_on s free (conn_at s (tells t.n y.unit) (conv_of.queue_at t.phase) (conv_of.units_at t.phase ++ y.unit ∷ [])) _ (server_conn s (tells t.n y.unit)) _
             (serving.sent p.service s t.n.client_miu) t.own t.served refl refl
             (leaves_with s p.service (sent t.n.client_miu (session_of p.service s)).session)
-            (talks_tells limit table old z s (plan s) (job s) t.range t.n p.service laws_of t.phase t.paired t.holds t.job_is t.serves y room)
+            (talks_tells limit table old z s (plan s) (job s) t.range t.n p.service laws_of t.phase t.paired t.holds t.job_is t.serves t.settled y room)
             l.last (Some s) h.sides.client_fair.last low
 
         pub hears_meets : Meets job client_heard server_acked
         hears_meets =
             talk_on s free (conn_at s (server_acks t.n) (conv_of.queue_at t.phase) (conv_of.units_at t.phase)) _ (server_conn s (server_acks t.n)) _ p.service t.own t.served refl refl
             (leaves_same s p.service)
-            (talks_server_acks limit table old z s (plan s) (job s) t.range t.n p.service laws_of t.phase t.paired t.holds t.job_is t.serves)
+            (talks_server_acks limit table old z s (plan s) (job s) t.range t.n p.service laws_of t.phase t.paired t.holds t.job_is t.serves t.settled)
             l.last (Some s) h.sides.client_fair.last low
 
     -- What the client gives on a connection, the peer takes.
@@ -183,10 +183,10 @@ module _ (limit : ℕ) (table : List Offer) (names : List Bound) (old : List Rec
               subst Hop (sym (client_quiet l none s t.n ((conv_of s t).units_at t.phase) (t.own ∙ ap (λ q. Some (conn_at s t.n q ((conv_of s t).units_at t.phase))) e))) tt
           unit_ t free (u ∷ queue) e =
               subst Hop (sym (client_unit l none s t.n ((conv_of s t).units_at t.phase) u queue (t.own ∙ ap (λ q. Some (conn_at s t.n q ((conv_of s t).units_at t.phase))) e))) (
-                asks_short limit table old z s (plan s) (job s) t.range t.n p.service (laws_of s t) t.phase t.paired t.holds t.job_is t.serves u queue e,
+                asks_short limit table old z s (plan s) (job s) t.range t.n p.service (laws_of s t) t.phase t.paired t.holds t.job_is t.serves t.settled u queue e,
                 subst (λ q. P (client_asked s t u queue) q) (sym (server_takes serving p s t.n t.served t.paired.told_sa
-                    (few_told limit table old z s (plan s) (job s) t.range t.n p.service (laws_of s t) t.phase t.paired t.holds t.job_is t.serves) u
-                    (fits limit table old z s (plan s) (job s) t.range t.n p.service (laws_of s t) t.phase t.paired t.holds t.job_is t.serves u queue e)))
+                    (few_told limit table old z s (plan s) (job s) t.range t.n p.service (laws_of s t) t.phase t.paired t.holds t.job_is t.serves t.settled) u
+                    (fits limit table old z s (plan s) (job s) t.range t.n p.service (laws_of s t) t.phase t.paired t.holds t.job_is t.serves t.settled u queue e)))
                     (asks_on s t free u queue e),
               )
 
@@ -207,9 +207,9 @@ module _ (limit : ℕ) (table : List Offer) (names : List Bound) (old : List Rec
           ack_ t free [] e = subst Hop (sym (client_settled l none s t.n ((conv_of s t).units_at t.phase) ((conv_of s t).queue_at t.phase) t.own e)) tt
           ack_ t free (v ∷ vs) e =
               subst Hop (sym (client_ack l none s t.n ((conv_of s t).units_at t.phase) ((conv_of s t).queue_at t.phase) t.own v vs e)) (
-                client_ack_short limit table old z s (plan s) (job s) t.range t.n p.service (laws_of s t) t.phase t.paired t.holds t.job_is t.serves,
+                client_ack_short limit table old z s (plan s) (job s) t.range t.n p.service (laws_of s t) t.phase t.paired t.holds t.job_is t.serves t.settled,
                 subst (λ q. P (client_acked s t) q) (sym (server_hears serving p s t.n t.served t.paired.told_sa
-                    (few_told limit table old z s (plan s) (job s) t.range t.n p.service (laws_of s t) t.phase t.paired t.holds t.job_is t.serves)))
+                    (few_told limit table old z s (plan s) (job s) t.range t.n p.service (laws_of s t) t.phase t.paired t.holds t.job_is t.serves t.settled)))
                     (acks_on s t free v vs e),
               )
 
@@ -260,7 +260,7 @@ module _ (limit : ℕ) (table : List Offer) (names : List Bound) (old : List Rec
       own_none = h.sides.peer_own
 
       few_ : (s : ℕ) (t : TalksAt s) → length t.n.asked ≤ 15
-      few_ s t = few_asked limit table old z s (plan s) (job s) t.range t.n p.service (laws_of s t) t.phase t.paired t.holds t.job_is t.serves
+      few_ s t = few_asked limit table old z s (plan s) (job s) t.range t.n p.service (laws_of s t) t.phase t.paired t.holds t.job_is t.serves t.settled
 
       pub server_informs : OnTells → (s : ℕ) → Back (informs serving p s)
       server_informs tells_on s = go (is_in s h.asked) (is_in s h.awaited) refl refl (h.sides.at s)
@@ -269,7 +269,7 @@ module _ (limit : ℕ) (table : List Offer) (names : List Bound) (old : List Rec
           by_room t free y false e = subst Back (sym (server_quiet serving p own_none s t.n t.served (inr e))) tt
           by_room t free y true e =
               subst Back (sym (server_unit serving p own_none s t.n t.served y.unit y.due e)) (
-                tells_short limit table old z s (plan s) (job s) t.range t.n p.service (laws_of s t) t.phase t.paired t.holds t.job_is t.serves y,
+                tells_short limit table old z s (plan s) (job s) t.range t.n p.service (laws_of s t) t.phase t.paired t.holds t.job_is t.serves t.settled y,
                 subst (λ q. P (server_told s t y.unit) q) (sym (client_takes l h.sides.client_served s t.n ((conv_of s t).queue_at t.phase) ((conv_of s t).units_at t.phase) t.own
                     t.paired.asked_sa (few_ s t) y.unit y.short))
                     (tells_on s t free y e),
@@ -294,7 +294,7 @@ module _ (limit : ℕ) (table : List Offer) (names : List Bound) (old : List Rec
           ack_ t free [] e = subst Back (sym (server_settled serving p own_none s t.n t.served e)) tt
           ack_ t free (u ∷ us) e =
               subst Back (sym (server_ack serving p own_none s t.n t.served u us e)) (
-                server_ack_short limit table old z s (plan s) (job s) t.range t.n p.service (laws_of s t) t.phase t.paired t.holds t.job_is t.serves,
+                server_ack_short limit table old z s (plan s) (job s) t.range t.n p.service (laws_of s t) t.phase t.paired t.holds t.job_is t.serves t.settled,
                 subst (λ q. P (server_acked s t) q) (sym (client_hears l h.sides.client_served s t.n ((conv_of s t).queue_at t.phase) ((conv_of s t).units_at t.phase) t.own
                     t.paired.asked_sa (few_ s t)))
                     (hears_on s t free u us e),

@@ -8,7 +8,7 @@ use Rattle.snep_core.specs.Accord.{IsClientSap, PeerState}
 use Rattle.snep_core.specs.Jobs.{Done, Job, Over}
 use Rattle.snep_core.specs.Server.{Received}
 use Rattle.snep_core.specs.Session.{Offer, fresh_session}
-use Rattle.snep_core.specs.Talk.{EndState, Step}
+use Rattle.snep_core.specs.Talk.{EndState, Step, is_over}
 use Rattle.snep_core.proofs.Conversations.{Conversation, Converses}
 use Rattle.snep_core.proofs.Idling.{idle_converses, no_job}
 use Rattle.snep_core.proofs.Meets.{AreUnlike, Keeps, Meets, is_in}
@@ -52,12 +52,12 @@ module _ (limit : ℕ) (table : List Offer) (names : List Bound) (old : List Rec
   rests s miu size m = rests_by miu size (sap == s) m
 
   idles_by : (miu size : ℕ) (b : Bool) → (plan_by b).is_job ≡ false → (ph : ((plan_by b).conv miu size).Phase)
-      → (((plan_by b).conv miu size).units_at ph ≡ []) × (((plan_by b).conv miu size).accepted_at ph ≡ old)
+      → (((plan_by b).conv miu size).units_at ph ≡ []) × (((plan_by b).conv miu size).accepted_at ph ≡ old) × (is_over (((plan_by b).conv miu size).job_at ph) ≡ true)
   idles_by miu size true m ph = absurd cc
-  idles_by miu size false m ph = (refl, refl)
+  idles_by miu size false m ph = (refl, refl, refl)
 
   pub idles : (s miu size : ℕ) → (plan s).is_job ≡ false → (ph : ((plan s).conv miu size).Phase)
-      → (((plan s).conv miu size).units_at ph ≡ []) × (((plan s).conv miu size).accepted_at ph ≡ old)
+      → (((plan s).conv miu size).units_at ph ≡ []) × (((plan s).conv miu size).accepted_at ph ≡ old) × (is_over (((plan s).conv miu size).job_at ph) ≡ true)
   idles s miu size m = idles_by miu size (sap == s) m
 
   -- its SAP is the only one of the call

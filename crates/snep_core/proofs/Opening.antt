@@ -28,7 +28,7 @@ use Rattle.snep_core.specs.Talk.{EndState, client_sap, server_sap, silent}
 use Rattle.snep_core.proofs.Carrying.{IsShort}
 use Rattle.snep_core.proofs.Meets.{AreUnlike, At, Meets, cc_of, cc_part, connect_of, connect_part, is_in}
 use Rattle.snep_core.proofs.OnConnection.{conn_at}
-use Rattle.snep_core.proofs.Places.{Asked, Awaited, Plan, StandsBy, Talking, first_numbers, stands_left}
+use Rattle.snep_core.proofs.Places.{Asked, Awaited, Plan, StandsBy, Talking, first_numbers, stands_left, starts_settled}
 use Rattle.snep_core.proofs.Readied.{elsewhere}
 use Rattle.snep_core.proofs.Served.{Serves, serves_begun}
 use Rattle.snep_core.proofs.Sides.{Sizes, at_changed, kept_left, leaves_with}
@@ -52,7 +52,7 @@ some_window : (w : ℕ) → 1 ≤ w → (w == 0) ≡ false
 some_window w h = grind (arith, nat_tests)
 
 -- SAPs in lists
-in_both : (s : ℕ) (xs ys : List ℕ) → is_in s (xs ++ ys) ≡ (is_in s xs || is_in s ys)
+pub in_both : (s : ℕ) (xs ys : List ℕ) → is_in s (xs ++ ys) ≡ (is_in s xs || is_in s ys)
 in_both s [] ys = refl
 in_both s (x ∷ xs) ys = go (x == s) (in_both s xs ys)
   where
@@ -64,31 +64,31 @@ pub neither : (a b : Bool) → (a || b) ≡ false → (a ≡ false) × (b ≡ fa
 neither true b e = absurd cc
 neither false b e = (refl, e)
 
-in_self : (s : ℕ) (xs : List ℕ) → is_in s (s ∷ xs) ≡ true
+pub in_self : (s : ℕ) (xs : List ℕ) → is_in s (s ∷ xs) ≡ true
 in_self s xs = ap (λ b. b || is_in s xs) (is_self s)
 
-in_other : (s t : ℕ) (xs : List ℕ) → (s == t) ≡ false → is_in t (s ∷ xs) ≡ is_in t xs
+pub in_other : (s t : ℕ) (xs : List ℕ) → (s == t) ≡ false → is_in t (s ∷ xs) ≡ is_in t xs
 in_other s t xs n = ap (λ b. b || is_in t xs) n
 
-or_false : (b : Bool) → (b || false) ≡ b
+pub or_false : (b : Bool) → (b || false) ≡ b
 or_false true = refl
 or_false false = refl
 
-or_true : (b : Bool) → (b || true) ≡ true
+pub or_true : (b : Bool) → (b || true) ≡ true
 or_true true = refl
 or_true false = refl
 
-in_last_other : (s t : ℕ) (xs : List ℕ) → (s == t) ≡ false → is_in t (xs ++ s ∷ []) ≡ is_in t xs
+pub in_last_other : (s t : ℕ) (xs : List ℕ) → (s == t) ≡ false → is_in t (xs ++ s ∷ []) ≡ is_in t xs
 in_last_other s t xs n = in_both t xs (s ∷ []) ∙ ap (λ b. is_in t xs || (b || false)) n ∙ or_false (is_in t xs)
 
-in_last : (s : ℕ) (xs : List ℕ) → is_in s (xs ++ s ∷ []) ≡ true
+pub in_last : (s : ℕ) (xs : List ℕ) → is_in s (xs ++ s ∷ []) ≡ true
 in_last s xs = in_both s xs (s ∷ []) ∙ ap (λ b. is_in s xs || (b || false)) (is_self s) ∙ or_true (is_in s xs)
 
 pub flip : (s t : ℕ) → (s == t) ≡ false → (t == s) ≡ false
 flip s t e = grind (arith, nat_tests)
 
 -- one amid others is none of them
-amid : (s : ℕ) (xs ys : List ℕ) → AreUnlike (xs ++ s ∷ ys) → (is_in s xs ≡ false) × (is_in s ys ≡ false)
+pub amid : (s : ℕ) (xs ys : List ℕ) → AreUnlike (xs ++ s ∷ ys) → (is_in s xs ≡ false) × (is_in s ys ≡ false)
 amid s [] ys h = (refl, h.0)
 amid s (x ∷ xs) ys h =
     let r = amid s xs ys h.1 in
@@ -320,6 +320,7 @@ module _ (limit : ℕ) (table : List Offer) (names : List Bound) (old : List Rec
           job_is = waits.job_is ∙ sym t.job_is;
           serves = subst (λ x. Serves s limit table p.service x (c.accepted_at t.at)) (sym t.session_is)
               (subst (λ y. Serves s limit table p.service fresh_session y) (sym t.accepted_is) waits.serves);
+          settled = starts_settled (plan s).most (plan s).bytes t (first_numbers z);
         }
 
     -- the client has the connection

@@ -56,4 +56,4 @@ offers_accord client peer table a = record {
   where
     go : (sap : ℕ) → (IsApart sap client peer ⊎ IsJoined sap client peer) → IsApart sap client (offering peer table) ⊎ IsJoined sap client (offering peer table)
     go sap (inl h) = inl (record { own = h.own; served = h.served })
-    go sap (inr h) = inr (record { range = h.range; numbers = h.numbers; paired = h.paired; own = h.own; served = h.served; session = h.session })
+    go sap (inr h) = inr (record { range = h.range; numbers = h.numbers; paired = h.paired; settled = h.settled; own = h.own; served = h.served; session = h.session })

@@ -1,18 +1,18 @@
 -- What stands between a client and a peer at one SAP: no connection, one that is asked for, one that is accepted, or one on which a
 -- conversation goes on.
-use Rattle.std.proofs.Common.{◌≡◌, ◌<◌, ◌≤◌, ◌⊎◌, nat_lt, ℕ, suc, ◌+◌, ◌%◌, ◌==◌, Bool, true, false, List, [], ◌∷◌, ◌++◌, length, Option, Some, None, refl, sym, ◌∙◌, ap, subst, inl, inr, arith, length-append}
+use Rattle.std.proofs.Common.{◌≡◌, ◌<◌, ◌≤◌, ◌⊎◌, nat_lt, ℕ, suc, ◌+◌, ◌%◌, ◌==◌, ◌||◌, Bool, true, false, List, [], ◌∷◌, ◌++◌, length, Option, Some, None, is_some, refl, sym, ◌∙◌, ap, subst, inl, inr, arith, length-append}
 use Rattle.std.proofs.lemmas.Bool.Decides.{nat_tests}
-use Rattle.llcp_conn.specs.Conn.{ConnState}
+use Rattle.llcp_conn.specs.Conn.{ConnState, first}
 use Rattle.llcp_link.specs.State.{OwnState}
 use Rattle.llcp_link.specs.Asking.{asked_from}
-use Rattle.snep_core.specs.Accord.{IsClientSap, IsOver, IsPaired, Numbers, server_conn}
+use Rattle.snep_core.specs.Accord.{IsClientSap, IsOver, IsPaired, Numbers, is_some_of, server_conn}
 use Rattle.snep_core.specs.Jobs.{Begins, Job}
 use Rattle.snep_core.specs.Payloads.{accepted_from}
 use Rattle.snep_core.specs.Server.{Received, ServerState, serving}
 use Rattle.snep_core.specs.Session.{Offer, fresh_session}
-use Rattle.snep_core.specs.Talk.{server_sap}
+use Rattle.snep_core.specs.Talk.{is_over, server_sap}
 use Rattle.snep_core.proofs.Carrying.{IsShort}
-use Rattle.snep_core.proofs.Conversations.{AllWithin, Conversation, Converses, StandsAt, Starts, Tells}
+use Rattle.snep_core.proofs.Conversations.{AllWithin, Conversation, Converses, Settled, StandsAt, Starts, Tells, no_unit}
 use Rattle.snep_core.proofs.OnConnection.{conn_at}
 use Rattle.snep_core.proofs.Pairs.{asked_part, asks, client_ack_part, client_acks, server_ack_part, server_acks, tells, told_part}
 use Rattle.snep_core.proofs.Served.{Serves}
@@ -70,6 +70,12 @@ module _ (n : Numbers) (k : ℕ) where
     asked_sa = below (n.asked_sa + length n.asked);
     told_sa = h.told_sa;
   }
+
+-- where nothing of a request is submitted, nothing is owed yet
+pub starts_settled : {sap limit : ℕ} {table : List Offer} {c : Conversation} {old : List Received} (most : Option ℕ) (bytes : List ℕ)
+    (t : Starts sap limit table c (Begins most bytes) old) (n : Numbers) → Settled c t.at n
+starts_settled {c = c} most bytes t n k =
+    absurd (let e : false ≡ true = sym (ap (λ us. is_some_of us || is_over (c.job_at t.at)) t.units_is ∙ ap is_over t.job_is) ∙ k in cc)
 
 -- What goes on between the ends at a SAP: whether it is a job's; the conversation, by what each end takes in a unit; and what it begins
 -- with.
@@ -141,6 +147,7 @@ module _ (limit : ℕ) (table : List Offer) (old : List Received) (z : Sizes) (s
     pub served : c ≡ Some (server_conn sap n)
     pub job_is : job ≡ (plan.conv n.server_miu n.client_miu).job_at phase
     pub serves : StandsAt sap limit table (plan.conv n.server_miu n.client_miu) phase x
+    pub settled : Settled (plan.conv n.server_miu n.client_miu) phase n
 
   -- by whether the CONNECT waits at the client, and the CC at the peer
   abbrev pub StandsBy : Bool → Bool → Option OwnState → Option ConnState → ServerState → Type 0
@@ -167,13 +174,14 @@ module _ (limit : ℕ) (table : List Offer) (old : List Received) (z : Sizes) (s
       served = h.served;
       job_is = h.job_is;
       serves = serves_left v other h.serves;
+      settled = h.settled;
     })
 
   -- One PDU on it.
   module _ (range : IsClientSap sap) (n : Numbers) (x : ServerState) (laws : Converses sap limit table (plan.conv n.server_miu n.client_miu) n.server_miu n.client_miu)
       (ph : (plan.conv n.server_miu n.client_miu).Phase) (paired : IsPaired n (length ((plan.conv n.server_miu n.client_miu).queue_at ph)))
       (holds : (plan.conv n.server_miu n.client_miu).Holds ph) (j : job ≡ (plan.conv n.server_miu n.client_miu).job_at ph)
-      (serves : StandsAt sap limit table (plan.conv n.server_miu n.client_miu) ph x) where
+      (serves : StandsAt sap limit table (plan.conv n.server_miu n.client_miu) ph x) (settled : Settled (plan.conv n.server_miu n.client_miu) ph n) where
     abbrev c : Conversation
     c = plan.conv n.server_miu n.client_miu
 
@@ -192,6 +200,12 @@ module _ (limit : ℕ) (table : List Offer) (old : List Received) (z : Sizes) (s
     pub few_asked : length n.asked ≤ 15
     few_asked = let a = paired.asked in let b = paired.server_window.1 in omega arith
 
+    -- while a unit is to be given no answer came, and the job isn't over
+    giving_on : (u : List ℕ) (queue : List (List ℕ)) → c.queue_at ph ≡ u ∷ queue → (is_some_of units || is_over (c.job_at ph)) ≡ true → ⊥
+    giving_on u queue e k =
+        let none : units ≡ [] = (laws.hears ph holds).apart (ap (λ q. is_some (first q)) e) in
+        no_unit u queue (sym (laws.done ph holds (sym (ap (λ us. is_some_of us || is_over (c.job_at ph)) none) ∙ k)) ∙ e)
+
     -- the client gave a unit
     pub talks_asks : (u : List ℕ) (queue : List (List ℕ)) → c.queue_at ph ≡ u ∷ queue
         → Talking (Some (conn_at sap (asks n u) queue units)) (Some (server_conn sap (asks n u))) (serving.brought x sap u)
@@ -206,6 +220,8 @@ module _ (limit : ℕ) (table : List Offer) (old : List Received) (z : Sizes) (s
           served = refl;
           job_is = j ∙ sym d.job;
           serves = d.serves;
+          settled = λ k. absurd (giving_on u queue e
+              (ap (λ us. is_some_of us || is_over (c.job_at ph)) (sym d.units_is) ∙ ap (λ b. is_some_of (c.units_at d.to) || is_over b) (sym d.job) ∙ k));
         }
 
     pub asks_short : (u : List ℕ) (queue : List (List ℕ)) → c.queue_at ph ≡ u ∷ queue → IsShort (asked_part sap n u)
@@ -223,6 +239,7 @@ module _ (limit : ℕ) (table : List Offer) (old : List Received) (z : Sizes) (s
       served = refl;
       job_is = j;
       serves = serves;
+      settled = settled;
     }
 
     pub client_ack_short : IsShort (client_ack_part sap n)
@@ -240,6 +257,7 @@ module _ (limit : ℕ) (table : List Offer) (old : List Received) (z : Sizes) (s
       served = refl;
       job_is = j;
       serves = serves;
+      settled = λ k. refl;
     }
 
     pub server_ack_short : IsShort (server_ack_part sap n)
@@ -260,6 +278,7 @@ module _ (limit : ℕ) (table : List Offer) (old : List Received) (z : Sizes) (s
       served = refl;
       job_is = j ∙ sym t.job;
       serves = t.serves;
+      settled = λ k. refl;
     }
 
     pub tells_short : (t : Tells sap limit table c n.client_miu ph x) → IsShort (told_part sap n t.unit)

@@ -135,6 +135,10 @@ module _ (sap size limit : ℕ) (table : List Offer) (c : Conversation) where
             (subst (λ y. Serves sap limit table (serving.sent s sap size) (rested (c.session_at ph)) y) (sym same) (serves_sent sap limit table s (c.session_at ph) (c.accepted_at ph) h size z e));
       }
 
+behind_over : (most : Option ℕ) (rest : List ℕ) → is_over (behind_first most rest) ≡ false
+behind_over most [] = refl
+behind_over most (b ∷ bs) = refl
+
 module _ (sap miu size limit : ℕ) (table : List Offer) (ask : Asked) (old : List Received) (later : Conversation) (laws : Converses sap limit table later miu size) where
   abbrev Here_ : Type 0
   Here_ = Phase later.Phase
@@ -196,6 +200,8 @@ module _ (sap miu size limit : ℕ) (table : List Offer) (ask : Asked) (old : Li
     ready = x.ready;
     session_is = x.session_is;
     accepted_is = x.accepted_is;
+    same_units = x.same_units;
+    same_over = x.same_over;
     busy = λ u o q a s h. tells_later x.to s (x.busy u o q a s h);
   }
 
@@ -311,8 +317,10 @@ module _ (sap miu size limit : ℕ) (table : List Offer) (ask : Asked) (old : Li
     -- a phase that another one stands for, as the client sees it
     as_at : (ph : Here_) (r : OnIt) → readied_on (conn_at sap n (queue_at miu limit table ask old later ph) (units_at miu limit table ask old later ph)) (job_at miu limit table ask old later ph) ≡ r
         → (to : Here_) → r ≡ on_so (conn_at sap n (queue_at miu limit table ask old later to) (units_at miu limit table ask old later to)) (job_at miu limit table ask old later to)
-        → Holds miu limit table ask old later to → IsPaired n (length (queue_at miu limit table ask old later to)) → at to ≡ at ph → acc to ≡ acc ph → Busy ph to → Ready_ ph
-    as_at ph r e to i k p x a w = record { to = to; holds = k; paired = p; ready = e ∙ i; session_is = x; accepted_is = a; busy = w }
+        → Holds miu limit table ask old later to → IsPaired n (length (queue_at miu limit table ask old later to)) → at to ≡ at ph → acc to ≡ acc ph
+        → units_at miu limit table ask old later to ≡ units_at miu limit table ask old later ph → is_over (job_at miu limit table ask old later to) ≡ is_over (job_at miu limit table ask old later ph)
+        → Busy ph to → Ready_ ph
+    as_at ph r e to i k p x a us o w = record { to = to; holds = k; paired = p; ready = e ∙ i; session_is = x; accepted_is = a; same_units = us; same_over = o; busy = w }
 
     -- the rest goes out as far as the window allows
     record Sends_ (info : List ℕ) (x : Session) (r : OnIt) : Type 0 where
@@ -394,13 +402,24 @@ module _ (sap miu size limit : ℕ) (table : List Offer) (ask : Asked) (old : Li
         short = let e = length-take miu (bytes_of ask) in let z : n.server_miu ≡ miu = is in omega (arith, e, z)
 
         go : (b : Bool) → takes_on bare_end first ≡ b → Ready_ Unsent
-        go true t = as_at Unsent (chosen true) (all ∙ ap chosen t) Submitted refl tt (paired_more sap n [] first r (takes_room sap n [] [] first t)) refl refl (λ u o q a s h. absurd (no_unit _ _ (sym q)))
-        go false t = as_at Unsent (chosen false) (all ∙ ap chosen t) Unsent refl tt r refl refl (λ u o q a s h. absurd (never_full sap n [] 0 r (no_room sap n [] [] first short t) refl a))
+        go true t = as_at Unsent (chosen true) (all ∙ ap chosen t) Submitted refl tt (paired_more sap n [] first r (takes_room sap n [] [] first t)) refl refl refl (behind_over ask.most behind) (λ u o q a s h. absurd (no_unit _ _ (sym q)))
+        go false t = as_at Unsent (chosen false) (all ∙ ap chosen t) Unsent refl tt r refl refl refl refl (λ u o q a s h. absurd (never_full sap n [] 0 r (no_room sap n [] [] first short t) refl a))
     request_readies fits (Sending info queue rest) k low r =
         let x = sends info (at (Sending info queue rest)) (length rest) queue rest k r low (omega arith) refl in
         as_at (Sending info queue rest) (some_on (length rest) miu (conn_at sap n queue []) ask.most rest)
-        (ap (sent_on (conn_at sap n queue []) ask.most rest) (miu_is low)) (Sending info x.queue x.rest) x.ready x.holds x.paired x.same refl
+        (ap (sent_on (conn_at sap n queue []) ask.most rest) (miu_is low)) (Sending info x.queue x.rest) x.ready x.holds x.paired x.same refl refl refl
         (λ u o q a s h. absurd (sending_on info x.queue x.rest x.holds x.paired x.full q a))
+
+  request_done : (ph : Here_) → Holds miu limit table ask old later ph → is_over (job_at miu limit table ask old later ph) ≡ true → queue_at miu limit table ask old later ph ≡ []
+  request_done Unsent k o = refl
+  request_done Submitted k o = absurd (let e : true ≡ false = sym o ∙ behind_over ask.most (rest_units miu limit table ask old later) in cc)
+  request_done Refusing k o = refl
+  request_done RefusalHeard k o = refl
+  request_done Continues k o = refl
+  request_done ContinueHeard k o = refl
+  request_done (Sending info queue rest) k o = absurd cc
+  request_done Rejected k o = refl
+  request_done (Came ph) k o = laws.done ph k o
 
   -- a request is a conversation
   pub request_converses : Whole miu limit table ask old later sap → IsMiu miu → IsMiu size → IsRead limit ask → Converses sap limit table conv miu size
@@ -409,6 +428,7 @@ module _ (sap miu size limit : ℕ) (table : List Offer) (ask : Asked) (old : Li
     comes = request_comes w range read;
     tells = request_tells fits;
     hears = request_hears w range read;
+    done = request_done;
     plain = request_plain;
     readies = λ ph k n is r. request_readies n is fits ph k (let z = range.0 in omega arith) r;
   }

@@ -5,6 +5,7 @@ use Rattle.llcp_link.specs.State.{Bound}
 use Rattle.snep_core.specs.Jobs.{Begins, Done, Job, Over}
 use Rattle.snep_core.specs.Server.{Received}
 use Rattle.snep_core.specs.Session.{Offer, fresh_session}
+use Rattle.snep_core.specs.Talk.{is_over}
 use Rattle.snep_core.proofs.Conversations.{Conversation, Converses}
 use Rattle.snep_core.proofs.Idling.{idle_converses, no_job}
 use Rattle.snep_core.proofs.Meets.{Keeps, is_in}
@@ -45,12 +46,12 @@ module _ (limit : ℕ) (table : List Offer) (names : List Bound) (old : List Rec
   rests s miu size m = rests_by s miu size (is_in s ours) m
 
   idles_by : (s miu size : ℕ) (b : Bool) → (plan_by s b).is_job ≡ false → (ph : ((plan_by s b).conv miu size).Phase)
-      → (((plan_by s b).conv miu size).units_at ph ≡ []) × (((plan_by s b).conv miu size).accepted_at ph ≡ old)
+      → (((plan_by s b).conv miu size).units_at ph ≡ []) × (((plan_by s b).conv miu size).accepted_at ph ≡ old) × (is_over (((plan_by s b).conv miu size).job_at ph) ≡ true)
   idles_by s miu size true m ph = absurd cc
-  idles_by s miu size false m ph = (refl, refl)
+  idles_by s miu size false m ph = (refl, refl, refl)
 
   pub idles : (s miu size : ℕ) → (plan s).is_job ≡ false → (ph : ((plan s).conv miu size).Phase)
-      → (((plan s).conv miu size).units_at ph ≡ []) × (((plan s).conv miu size).accepted_at ph ≡ old)
+      → (((plan s).conv miu size).units_at ph ≡ []) × (((plan s).conv miu size).accepted_at ph ≡ old) × (is_over (((plan s).conv miu size).job_at ph) ≡ true)
   idles s miu size m = idles_by s miu size (is_in s ours) m
 
   pub mine : (s : ℕ) → (plan s).is_job ≡ is_in s ours

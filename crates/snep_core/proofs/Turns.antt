@@ -10,14 +10,14 @@ use Rattle.llcp_link.proofs.Awaited.{with_same}
 use Rattle.llcp_link.proofs.Clients.{is_self}
 use Rattle.llcp_link.proofs.Ranged.{either}
 use Rattle.llcp_link.specs.State.{Bound, OwnState, conn_from, own_from, with_own}
-use Rattle.snep_core.specs.Accord.{IsClientSap, IsPaired, PeerState, PeerSteps, most_clients}
-use Rattle.snep_core.specs.Jobs.{Begins, Job, has_byte, told_in}
+use Rattle.snep_core.specs.Accord.{IsClientSap, IsPaired, PeerState, PeerSteps, is_some_of, most_clients}
+use Rattle.snep_core.specs.Jobs.{Begins, Job, has_byte, told_all, told_in}
 use Rattle.snep_core.specs.Server.{Received, ServerState, serving}
 use Rattle.snep_core.specs.Session.{Offer, fresh_session}
 use Rattle.snep_core.specs.Talk.{AllReady, EndState, Ends, GivesUp, Goes, OnSap, Ready, Step, Working, all_emptied, all_heard, all_over, all_readied, all_well, begins_on, client_sap, emptied, emptied_by, finished, gave_any, gave_something, given_up, as_they_came, heard, heard_so, heard_with, idle_after, is_over, is_there, miu_of, most_idle, needs, own_of, payload, readied, ready_so, replied, saps, server_sap, settled, silent, told_by, took, units_of, with_job}
 use Rattle.snep_core.proofs.AllJobs.{emptied_elsewhere}
 use Rattle.snep_core.proofs.Answered.{Came, Nothing, Replied, came_gives, or_true, pressed_answers, true_or}
-use Rattle.snep_core.proofs.Conversations.{Tells, told_apart}
+use Rattle.snep_core.proofs.Conversations.{Settled, Tells, told_apart}
 use Rattle.snep_core.proofs.Debts.{debts, debts_left, other_debts, own_else, own_is, owes_conn, owes_own}
 use Rattle.snep_core.proofs.Meets.{At, AreUnlike, Keeps, Meets, cc_of, connect_of, is_in}
 use Rattle.snep_core.proofs.OnConnection.{conn_at, readied_open}
@@ -81,6 +81,11 @@ any_gives old now s (x ∷ xs) i g = go (x.sap == s) refl i (λ k. any_gives old
         → (gave_at old now x.sap || gave_any old now xs) ≡ true
     go true e k more = or_true (gave_at old now x.sap) (gave_any old now xs) (subst (λ t. gave_at old now t ≡ true) (sym (eqb-true x.sap s e)) g)
     go false e k more = true_or (gave_at old now x.sap) (gave_any old now xs) (more k)
+
+-- a job that is over by what was heard, or was before
+was_settled : (units : List (List ℕ)) (job next : Job) → told_all job units ≡ Some next → is_over next ≡ true → (is_some_of units || is_over job) ≡ true
+was_settled [] job next e o = let same : job ≡ next = cc in ap is_over same ∙ o
+was_settled (u ∷ us) job next e o = refl
 
 module _ (limit : ℕ) (table : List Offer) (names : List Bound) (old : List Received) (z : Sizes) (plan : ℕ → Plan) (keeps : Keeps limit table names old z plan)
     (rests : (s miu size : ℕ) → (plan s).is_job ≡ false → (ph : ((plan s).conv miu size).Phase) → ((plan s).conv miu size).Holds ph
@@ -198,6 +203,7 @@ module _ (limit : ℕ) (table : List Offer) (names : List Bound) (old : List Rec
         let next = c.job_at r.to in
         let serves = subst (λ w. Serves s limit table p.service w (c.accepted_at r.to)) (sym r.session_is)
         (subst (λ w. Serves s limit table p.service (c.session_at t.phase) w) (sym r.accepted_is) t.serves) in
+        let settled : Settled c r.to t.n = λ k. t.settled (ap (λ us. is_some_of us || is_over (c.job_at t.phase)) (sym r.same_units) ∙ ap (λ b. is_some_of (c.units_at r.to) || b) (sym r.same_over) ∙ k) in
         let now_ : Talking limit table old z s (plan s) next (Some o) (conn_from s p.served) p.service = record {
           range = t.range;
           n = t.n;
@@ -208,6 +214,7 @@ module _ (limit : ℕ) (table : List Offer) (names : List Bound) (old : List Rec
           served = t.served;
           job_is = refl;
           serves = serves;
+          settled = settled;
         } in
         let there : Talking limit table old z s (plan s) (instead s next job s) (own_from s (with_own o l.own)) (conn_from s p.served) p.service = record {
           range = t.range;
@@ -219,6 +226,7 @@ module _ (limit : ℕ) (table : List Offer) (names : List Bound) (old : List Rec
           served = t.served;
           job_is = ap (instead_by next (job s)) (is_self s);
           serves = serves;
+          settled = settled;
         } in
         let none : c.units_at t.phase ≡ [] = sym (ap units_of t.own) ∙ empty in record {
           next = next;
@@ -387,6 +395,7 @@ module _ (limit : ℕ) (table : List Offer) (names : List Bound) (old : List Rec
           job_is = refl;
           serves = subst (λ w. Serves s limit table p.service w (c.accepted_at y.to)) (sym y.session_is)
               (subst (λ w. Serves s limit table p.service (c.session_at t.phase) w) (sym y.accepted_is) t.serves);
+          settled = λ k. t.settled (was_settled units (c.job_at t.phase) next y.told (sym (ap (λ us. is_some_of us || is_over next) y.units_is) ∙ k));
         } in record {
           next = next;
           heard_is =

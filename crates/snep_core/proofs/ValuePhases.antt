@@ -16,7 +16,7 @@ use Rattle.snep_core.specs.Jobs.{Asks, Collects, Ending, Job, Over, Sends, Value
 use Rattle.snep_core.specs.Message.{answer_code, message}
 use Rattle.snep_core.specs.Server.{Received, ServerState, serving}
 use Rattle.snep_core.specs.Session.{Did, Offer, Sent, Session, did, fresh_session, sent}
-use Rattle.snep_core.specs.Talk.{EndState, continue_bytes, finished}
+use Rattle.snep_core.specs.Talk.{EndState, continue_bytes, finished, is_over}
 use Rattle.snep_core.proofs.Conversations.{AllWithin, Comes, Conversation, Converses, Hears, MayTell, Readies, StandsAt, Tells, hears_nothing, no_unit, stays}
 use Rattle.snep_core.proofs.OnConnection.{OnIt, conn_at, on_so, submits_on, takes_on}
 use Rattle.snep_core.proofs.RequestAnswers.{behind_stays, concat_more, never_full, no_room, none_more, paired_more, quiet, takes_room}
@@ -388,6 +388,8 @@ module _ (limit counts most : ℕ) (v : List ℕ) (old : List Received) (size : 
           ready = ap chosen t;
           session_is = refl;
           accepted_is = refl;
+          same_units = refl;
+          same_over = refl;
           busy = λ u o q a s h. absurd (no_unit _ _ (sym q));
         }
         asks_for k r false t = record {
@@ -397,6 +399,8 @@ module _ (limit counts most : ℕ) (v : List ℕ) (old : List Received) (size : 
           ready = ap chosen t;
           session_is = refl;
           accepted_is = refl;
+          same_units = refl;
+          same_over = refl;
           busy = λ u o q a s h. absurd (never_full sap n [] 0 r (no_room sap n [] [] continue_bytes six_fit t) refl a);
         }
 
@@ -426,12 +430,22 @@ module _ (limit counts most : ℕ) (v : List ℕ) (old : List Received) (size : 
       value_within miu range (Collecting have units going) = tt
       value_within miu range Got = tt
 
+      value_done : (ph : Later) → is_over (job_at ph) ≡ true → queue_at ph ≡ []
+      value_done Offering o = refl
+      value_done FirstHeard o = refl
+      value_done Asking o = refl
+      value_done Requested o = absurd cc
+      value_done Resuming o = refl
+      value_done (Collecting have units going) o = refl
+      value_done Got o = refl
+
       pub value_converses : (miu : ℕ) → IsMiu miu → Converses sap limit table later miu size
       value_converses miu range = record {
         within = λ ph k. value_within miu range ph;
         comes = value_comes;
         tells = value_tells;
         hears = value_hears;
+        done = λ ph k o. value_done ph o;
         plain = value_plain;
         readies = λ ph k n is r. value_readies miu range n is ph k r;
       }

@@ -143,11 +143,12 @@ pub record IsApart (sap : ℕ) (client : EndState) (peer : PeerState) : Type 0 w
   pub own : IsOver (own_of sap client)
   pub served : conn_from sap peer.served ≡ None
 
--- nothing is under way on the connection from this SAP, and the server awaits a request there
+-- nothing is under way on the connection from this SAP, the server awaits a request there, and owes no acknowledgement
 pub record IsJoined (sap : ℕ) (client : EndState) (peer : PeerState) : Type 0 where
   pub range : IsClientSap sap
   pub numbers : Numbers
   pub paired : IsPaired numbers 0
+  pub settled : numbers.asked ≡ []
   pub own : own_of sap client ≡ Some (opened sap server_sap (client_conn sap numbers []) [])
   pub served : conn_from sap peer.served ≡ Some (server_conn sap numbers)
   pub session : session_of peer.service sap ≡ fresh_session
@@ -306,10 +307,9 @@ pub record IsFound (name : List ℕ) (old : PeerState) (sap : ℕ) (client : End
   pub all : AllStay old new
   pub aside : IsAside old client new
 
--- The connection from a SAP was ended, or none was open: there is none, and those from other SAPs stay.
-pub record IsClosed (sap : ℕ) (old : PeerState) (client : EndState) (new : PeerState) : Type 0 where
-  pub apart : IsApart sap client new
-  pub others : OthersStay sap old new
+-- All connections were ended: there is none at either end.
+pub record IsClosed (old : PeerState) (client : EndState) (new : PeerState) : Type 0 where
+  pub apart : (sap : ℕ) → IsApart sap client new
   pub aside : IsAside old client new
 
 -- a call that puts nothing, and failed so: by the link or by want of memory

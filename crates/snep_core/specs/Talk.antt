@@ -177,6 +177,30 @@ begins_from l sap task = begins_all l (record { sap = sap; task = task } ∷ [])
 abbrev pub begins : EndState → Task → Step
 begins l task = begins_from l client_sap task
 
+-- The end of connections from these SAPs, one after the other: a DISC of each that is open.
+abbrev pub leave_from : List ℕ → List TaskOn
+leave_from [] = []
+leave_from (s ∷ ss) = record { sap = s; task = Leaves } ∷ leave_from ss
+
+abbrev pub some_open : EndState → List ℕ → Bool
+some_open l [] = false
+some_open l (s ∷ ss) = is_open_by (own_of s l) || some_open l ss
+
+-- the jobs of such a call at its end
+abbrev pub all_done : List ℕ → List OnSap
+all_done [] = []
+all_done (s ∷ ss) = record { sap = s; job = Over Done } ∷ all_done ss
+
+-- The eight SAPs from which a client's connections are; a call that ends all of them, and its end.
+abbrev pub client_saps : List ℕ
+client_saps = 32 ∷ 33 ∷ 34 ∷ 35 ∷ 36 ∷ 37 ∷ 38 ∷ 39 ∷ []
+
+abbrev pub closes : EndState → Step
+closes l = begins_all l (leave_from client_saps)
+
+abbrev pub all_closed : List OnSap
+all_closed = all_done client_saps
+
 -- The SAP of a slot: eight slots have a SAP each.
 abbrev pub sap_of_slot : ℕ → ℕ
 sap_of_slot slot = client_sap + slot

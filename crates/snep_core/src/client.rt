@@ -1,12 +1,12 @@
 //! A client of a SNEP server, over whatever carries payloads.
 
 ghost use Rattle.std.specs.Prelude.{◌≡◌, ◌<◌, ◌≤◌, ◌⊎◌, ◌↔◌, [], length, true, false, Err, IfOk, IfErr, OnOk};
-ghost use Rattle.llcp_link.specs.Asking.{disconnected_by, is_open_by, looked_up};
+ghost use Rattle.llcp_link.specs.Asking.{is_open_by, looked_up};
 ghost use Rattle.snep_core.specs.Accord.{Accords, AsideFails, AtPeers, GetFails, IsBegun, IsClosed, IsFound, IsGot, IsTaken, PeerState, PutFails};
 ghost use Rattle.snep_core.specs.Calling.{FailsBy, RequestFails, Talks, is_memory, refused_by};
 ghost use Rattle.snep_core.specs.Jobs.{Done, Over, Refused, Sap, Value};
 ghost use Rattle.snep_core.specs.Slots.{fresh_slots, is_staged_at, put_alone};
-ghost use Rattle.snep_core.specs.Talk.{Ends, Finds, Gets, Leaves, Puts, alone, begins, begins_from, begun, client_sap, connected, gave_between as gave, is_waiting as awaits, one_on, own_of, sap_of_slot, stands_of};
+ghost use Rattle.snep_core.specs.Talk.{Ends, Finds, Gets, Puts, all_closed, alone, begins, begins_from, begun, client_sap, closes, connected, gave_between as gave, is_waiting as awaits, one_on, own_of, sap_of_slot, stands_of};
 ghost use Rattle.snep_core.specs.Waning.{Getting, IsOf, aim_by};
 ghost use Rattle.snep_core.specs.declared.fault.SnepFault.{SnepFault};
 ghost use Rattle.snep_core.specs.declared.job.Job.{Job};
@@ -26,6 +26,9 @@ use std::marker::Model;
 
 /// The SAP of this end from which a client connects.
 pub const CLIENT_SAP: u8 = 32;
+
+/// The SAPs of its slots.
+const CLIENT_SAPS: [u8; 8] = [32, 33, 34, 35, 36, 37, 38, 39];
 
 /// A client's end of a link, over which its calls go. After want of memory it gives nothing more.
 #[derive(Debug, Drop)]
@@ -148,20 +151,6 @@ impl ClientEnd {
             Ok(()) => Ok(()),
             Err(LlcFault::Busy) => Ok(()),
             Err(LlcFault::Memory | LlcFault::NameTaken | LlcFault::SapTaken) => Err(self.spend()),
-        }
-    }
-
-    /// Ends the connection from a SAP, which is open.
-    fn disconnect(&mut self, sap: u8) -> Result<(), SnepFault>
-        requires { is_open_by (own_of sap self.old.llc) ≡ true }
-        ensures ok { OnOk result (self.new.llc ≡ disconnected_by self.old.llc (own_of sap self.old.llc)) }
-        ensures going { OnOk result (self.new.spent ≡ self.old.spent) }
-        ensures err { IfErr result (λ e. e ≡ SnepFault.Memory) }
-        ensures spent { IfErr result (λ e. self.new.spent ≡ true) }
-    {
-        match self.llc.disconnect(sap) {
-            Err(_) => Err(self.spend()),
-            Ok(()) => Ok(()),
         }
     }
 
@@ -444,7 +433,7 @@ impl Client {
         }
     }
 
-    /// Ends its connection, where one is open.
+    /// Ends all its connections that are open.
     pub fn close<C: Carrier, A: Answerer>(
         &mut self,
         carrier: &mut C,
@@ -452,14 +441,14 @@ impl Client {
         counts: Counts,
     ) -> Result<(), SnepFault>
         requires ready { C.ready carrier.old }
-        ensures ok { OnOk result (Talks C.seen C.swaps A.steps A.stops counts (begins self.old.llc Leaves)
-            carrier.old far.old (Ends (alone (Over Done)) self.new.llc) carrier.new far.new) }
+        ensures ok { OnOk result (Talks C.seen C.swaps A.steps A.stops counts (closes self.old.llc)
+            carrier.old far.old (Ends all_closed self.new.llc) carrier.new far.new) }
         ensures going { OnOk result ((self.old.spent ≡ false) × (self.new.spent ≡ false)) }
         ensures err { self.old.spent ≡ false → IfErr result (λ e. FailsBy C.seen C.swaps A.steps A.stops counts
-            (begins self.old.llc Leaves) carrier.old far.old e self.new.llc carrier.new far.new) }
+            (closes self.old.llc) carrier.old far.old e self.new.llc carrier.new far.new) }
         // Over a far end that serves as this project's server does, and with which the client accords:
         ensures closed { AtPeers A.steps A.stops self.old.llc far.old (λ view.
-            OnOk result (IsClosed client_sap (view far.old) self.new.llc (view far.new))) }
+            OnOk result (IsClosed (view far.old) self.new.llc (view far.new))) }
         ensures fails { AtPeers A.steps A.stops self.old.llc far.old (λ view.
             IfErr result (λ e. AsideFails (view far.old) e (view far.new))) }
         ensures spent { IfErr result (λ e. self.new.spent ≡ is_memory e) }
@@ -472,20 +461,22 @@ impl Client {
         if self.end.spent {
             return Err(SnepFault::Memory);
         }
-        if !self.end.is_open(CLIENT_SAP) {
+        if !self.end.any_open(&CLIENT_SAPS) {
             return Ok(());
         }
-        match self.end.disconnect(CLIENT_SAP) {
+        let jobs = match self.end.leave_all(&CLIENT_SAPS) {
             Err(fault) => return Err(fault),
-            Ok(()) => {}
-        }
+            Ok(jobs) => jobs,
+        };
         match self
             .end
-            .converse(carrier, far, counts, CLIENT_SAP, Job::Closes)
+            .converse_all(carrier, far, counts, jobs, &mut Slots::new())
         {
             Err(fault) => Err(fault),
-            Ok(Ending::Done) => Ok(()),
-            Ok(Ending::Value(_) | Ending::Sap(_) | Ending::Refused(_)) => unreachable!(),
+            Ok(ended) => {
+                drop(ended);
+                Ok(())
+            }
         }
     }
 }

@@ -9,6 +9,7 @@
 #![tactic(auto)]
 
 mod client;
+mod closing;
 mod fault;
 mod first;
 mod hearing;

@@ -1,4 +1,4 @@
-use Rattle.std.proofs.Common.{◌≡◌, List, ℕ, None, refl, sym, subst, inl, inr, arith}
+use Rattle.std.proofs.Common.{List, ℕ, None, refl, sym, subst, inl, inr, arith}
 use Rattle.snep_core.specs.Accord.{PutFails}
 use Rattle.snep_core.specs.Calling.{FailsBy, Talks}
 use Rattle.snep_core.specs.Jobs.{Begins, Done, Ending, Over, Refused}
