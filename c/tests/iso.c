@@ -123,7 +123,7 @@ static bool rows(void)
     zev_entry_add(&log, ZEV_REPLY, odd, 1);
     right = right && zev_iso_card_next(8, log.bytes, log.length, frame, sizeof frame, &told) == ZEV_BAD_LOG;
     log.length = 0;
-    zev_entry_add(&log, ZEV_COMMAND, command, 265);
+    zev_entry_add(&log, ZEV_COMMAND, heard, 265);
     right = right && zev_iso_reader_next(8, log.bytes, log.length, frame, sizeof frame, &told) == ZEV_BAD_LOG && !zev_entry_add(&log, ZEV_FRAME, frame, 289);
     log.length = 0;
     zev_entry_add(&log, ZEV_COMMAND, odd, 1);
