@@ -28,6 +28,8 @@ const char *zev_fault_text(int32_t fault)
     case ZEV_NO_VERSION: return "the general bytes have no version";
     case ZEV_OTHER_MAJOR: return "the general bytes have a version of another major number";
     case ZEV_MALFORMED: return "the general bytes have a malformed parameter";
+    case ZEV_SIX_BAD: return "six bad receptions in one wait";
+    case ZEV_NO_ANSWER: return "the other end sent a frame that is no allowed answer";
     default: return fault < 0 ? "another fault" : "no fault";
     }
 }

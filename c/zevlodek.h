@@ -21,13 +21,14 @@ extern "C" {
 
 /* What a call answers. A fault is below zero, and leaves `out` as it was. */
 enum zev_answer {
-    ZEV_DONE = 0,  /* what was asked for is there */
-    ZEV_SEND = 1,  /* the command in `out` is to be sent to the tag */
-    ZEV_SILENT = 2 /* a tag gives no answer */
+    ZEV_DONE = 0,   /* what was asked for is there */
+    ZEV_SEND = 1,   /* the command, or the frame, in `out` is to be sent */
+    ZEV_SILENT = 2, /* a tag or a card gives no answer */
+    ZEV_ASLEEP = 3  /* the frame in `out` is a card's last answer: it sleeps now */
 };
 
 enum zev_fault {
-    ZEV_BAD_LOG = -1,      /* the bytes of the log are none that zev_log_add wrote, or zev_payload_add */
+    ZEV_BAD_LOG = -1,      /* the bytes of the log are none that zev_log_add wrote, or zev_payload_add, or zev_entry_add */
     ZEV_BAD_ARGUMENT = -2, /* a number out of its range, or bytes that can't be a tag's memory or frame, or that aren't offers */
     ZEV_SHORT = -3,        /* `out` has fewer bytes than `length` tells: nothing was put there, and nothing was done */
     ZEV_NO_MEMORY = -4,    /* malloc gave none */
@@ -52,7 +53,11 @@ enum zev_fault {
     ZEV_NO_MAGIC = -201,    /* they are not of LLCP */
     ZEV_NO_VERSION = -202,  /* they have no version */
     ZEV_OTHER_MAJOR = -203, /* their version has another major number */
-    ZEV_MALFORMED = -204    /* a parameter isn't whole */
+    ZEV_MALFORMED = -204,   /* a parameter isn't whole */
+
+    /* of a link of ISO-DEP: the next command may begin all the same */
+    ZEV_SIX_BAD = -302,  /* six bad receptions in one wait */
+    ZEV_NO_ANSWER = -303 /* a frame that is no allowed answer */
 };
 
 /* What a call tells beside its answer. What isn't spoken of stays as it was. */
@@ -150,6 +155,25 @@ int32_t zev_peer_message(const zev_peer *peer, const uint8_t *offers, size_t off
 int32_t zev_peer_source(const zev_peer *peer, const uint8_t *offers, size_t offers_length, const uint8_t *general, size_t general_length,
                         const uint8_t *log, size_t log_length, size_t index, zev_told *told);
 
+/* What stands in a log of ISO-DEP. */
+enum zev_entry {
+    ZEV_COMMAND = 0, /* a reader's: a command that it is to send, of 264 bytes at most */
+    ZEV_FRAME = 1,   /* a frame that came whole, without its check bytes */
+    ZEV_DAMAGED = 2, /* a reader's: what came was damaged */
+    ZEV_NOTHING = 3, /* a reader's: nothing came in time */
+    ZEV_REPLY = 4    /* a card's: the reply to the command that it was handed, of 264 bytes at most */
+};
+
+/* Goes on as the reader's end of ISO-DEP (ISO/IEC 14443-4) with a card of this size code, the low four bits of its ATS's format byte; codes above 8
+ * count as 8. The log begins with no bytes behind ATS. Add a command: ZEV_SEND: send the frame in `out`, add what came of it, and call again. ZEV_DONE:
+ * the answer to the command stands in `out`; the next command may be added. ZEV_SILENT: there was no command yet. */
+int32_t zev_iso_reader_next(uint8_t code, const uint8_t *log, size_t log_length, uint8_t *out, size_t out_length, zev_told *told);
+
+/* Goes on as the card's end, with this size code of its own, 0 to 8. The log begins with no bytes where the card is selected. Add each frame that
+ * comes, RATS too: ZEV_SEND, and ZEV_ASLEEP: send the frame in `out`. ZEV_DONE: a command stands in `out`: add the reply, and call again. ZEV_SILENT: send
+ * nothing. A frame that came damaged is not added. A reply where no command was handed is a bad log. */
+int32_t zev_iso_card_next(uint8_t code, const uint8_t *log, size_t log_length, uint8_t *out, size_t out_length, zev_told *told);
+
 /* What a fault says, in English. */
 const char *zev_fault_text(int32_t fault);
 
@@ -186,6 +210,17 @@ static inline void zev_put_counted(zev_log *log, const uint8_t *bytes, size_t le
     log->bytes[log->length + 1] = (uint8_t)(length / 256);
     memcpy(log->bytes + log->length + 2, bytes, length);
     log->length += length + 2;
+}
+
+/* Adds an entry to a log of ISO-DEP, of 288 bytes at most. False where it is longer, or the log has no room for it. */
+static inline bool zev_entry_add(zev_log *log, enum zev_entry kind, const uint8_t *content, size_t length)
+{
+    if (length > 288 || log->room - log->length < length + 3) {
+        return false;
+    }
+    log->bytes[log->length++] = (uint8_t)kind;
+    zev_put_counted(log, content, length);
+    return true;
 }
 
 /* Adds a payload that came on a link, of 2,178 bytes at most. False where it is longer, or the log has no room for it. */

@@ -4,7 +4,7 @@
 
 #include "../zevlodek.h"
 
-static uint8_t memory[64] = {[12] = 0xE1, 0x10, 0x06, 0x00, 0x03, 0x00, 0xFE};
+static uint8_t memory[64] = {0, 0, 0, 0, 0, 0, 0, 0, 0, 0, 0, 0, 0xE1, 0x10, 0x06, 0x00, 0x03, 0x00, 0xFE};
 
 /* Sends a command, and takes the answer: how many bytes it has and how many low bits of the last one came (0: all). */
 static bool transceive(const uint8_t *command, size_t length, uint8_t *answer, size_t *answer_length, uint8_t *bits)
@@ -34,7 +34,7 @@ static const uint8_t message[5] = {0xD1, 0x01, 0x01, 'T', 0x00};
 /* The next step of a job, by what the log has. */
 static int32_t next(enum job job, const zev_log *log, uint8_t *out, size_t room, zev_told *told)
 {
-    static const uint8_t id[8]; /* a Type 2 tag has none */
+    static const uint8_t id[8] = {0}; /* a Type 2 tag has none */
     switch (job) {
     case SURVEY: return zev_survey_next(2, id, log->bytes, log->length, out, room, told);
     case WRITE: return zev_write_next(2, id, message, sizeof message, log->bytes, log->length, out, room, told);

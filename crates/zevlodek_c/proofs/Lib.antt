@@ -6,3 +6,4 @@ pub mod Chains
 pub mod Chunks
 pub mod Telling
 pub mod NamedAreas
+pub mod Entries

@@ -13,6 +13,10 @@ send = pos 1
 abbrev pub silent : ℤ
 silent = pos 2
 
+-- a card answers a last time, and sleeps
+abbrev pub asleep : ℤ
+asleep = pos 3
+
 -- the bytes of a log spell no turns: minus 1
 abbrev pub bad_log : ℤ
 bad_log = negsuc 0
@@ -36,3 +40,11 @@ ends_early = negsuc 4
 -- a fault of reading or writing a tag, by its number: minus 100 and that number less
 abbrev pub tag_fault : ℕ → ℤ
 tag_fault number = negsuc (99 + number)
+
+-- how a link of ISO-DEP ended, by its cause's number: minus 300 and that number less. Six bad receptions in one wait; and
+-- a frame that is no allowed answer.
+abbrev pub six_bad : ℤ
+six_bad = negsuc 301
+
+abbrev pub no_answer : ℤ
+no_answer = negsuc 302

@@ -8,3 +8,5 @@ pub mod Spelled
 pub mod General
 pub mod Peer
 pub mod Replaying
+pub mod Iso
+pub mod IsoReplaying

@@ -12,6 +12,9 @@ pub const SEND: i32 = 1;
 /// A tag gives no answer.
 pub const SILENT: i32 = 2;
 
+/// A card answers a last time, and sleeps.
+pub const ASLEEP: i32 = 3;
+
 /// The bytes of a log spell no turns.
 pub const BAD_LOG: i32 = -1;
 
@@ -26,6 +29,12 @@ pub const NO_MEMORY: i32 = -4;
 
 /// A memory that was read out ends before its message does.
 pub const ENDS_EARLY: i32 = -5;
+
+/// Six bad receptions in one wait of a link.
+pub const SIX_BAD: i32 = -302;
+
+/// A frame that is no allowed answer on a link.
+pub const NO_ANSWER: i32 = -303;
 
 /// A fault of reading or writing a tag, by its number.
 pub fn tag_fault(number: u8) -> i32

@@ -1,15 +1,17 @@
-//! For C: the proved reader and writer of tags and the far end of a link, as functions over numbers and bytes.
+//! For C: the proved reader and writer of tags, and ends of links, as functions over numbers and bytes.
 //!
 //! C keeps what passed between its reader and a tag in memory of its own, a log (`log`), and hands it in each time;
 //! what comes back is the next command, or the end (`reading`). A tag's memory is C's too, where it answers as one
 //! (`tags`), and so is one that was read out (`dumps`). What came on a link of LLCP is kept likewise (`payloads`), and a
-//! far end of it is one behind these payloads (`peer`); `general` has the bytes with which such a link begins. No call
-//! keeps anything: each is a function of what it is given. `c/zevlodek.h` declares the calls.
+//! far end of it is one behind these payloads (`peer`); `general` has the bytes with which such a link begins. Both ends
+//! of ISO-DEP are functions of the frames that came (`iso`). No call keeps anything: each is a function of what it is
+//! given. `c/zevlodek.h` declares the calls.
 #![tactic(auto)]
 
 mod codes;
 mod dumps;
 mod general;
+mod iso;
 mod log;
 mod payloads;
 mod peer;
