@@ -37,7 +37,7 @@ use Rattle.bench_world.specs.declared.entry.Answer.{Answer}
 use Rattle.bench_world.specs.declared.entry.Answer.TheVariants as answers
 use Rattle.bench_world.specs.declared.entry.Entry.{Entry}
 use Rattle.bench_world.specs.Answering.{TellsFault, poll_answer}
-use Rattle.bench_world.specs.CompletingThrees.{HadSixBad3, IsPlaced3, IsUndisturbed3, OneOfTwo3IsRead, QuietThreesRead, QuietThreesWrite, QuietThreesWritten, ThreesRead, ThreesWrite, ThreesWritten, Written3IsRead, Written3IsWhole, Writes3ThenReads}
+use Rattle.bench_world.specs.CompletingThrees.{HadSixBad3, IsPlaced3, IsUndisturbed3, OneOfTwo3IsRead, QuietThreesRead, QuietThreesWrite, QuietThreesWritten, Quiet3IsRead, ThreesRead, ThreesWrite, ThreesWritten, Undisturbed3IsRead, Written3IsRead, Written3IsWhole, Writes3ThenReads}
 use Rattle.bench_world.specs.Legal.{AnswerLaw, FrontOf, Given, LegalStep, Read3Law, State, Writing3Law, changed, state_after, world_after}
 use Rattle.bench_world.specs.Quiet.{AllPass}
 use Rattle.bench_world.specs.Threes.{IfThree, KeepsStores3, TellsForm3, TellsRead3, TellsWrite3, ThreeEnds, ThreeTells, WriteEnd3, end_told, written_three}
@@ -47,7 +47,7 @@ use Rattle.bench_world.proofs.OneAnswer.{one_end}
 use Rattle.bench_world.proofs.Quiet.{few_noisy, no_breaks, no_noisy, quiet_of}
 use Rattle.bench_world.proofs.Telling.{tells_either}
 use Rattle.bench_world.proofs.ThreeLegality.{of_three, as_three, tech_three}
-use Rattle.bench_world.proofs.ThreeTelling.{begun_form, message_form, one_write_told, same_form}
+use Rattle.bench_world.proofs.ThreeTelling.{begun_form, held_form, message_form, one_write_told, same_form}
 use Rattle.bench_world.proofs.WellStored.{with_all}
 use Rattle.bench_world.proofs.WriteBehind.{all_three, last_all, last_image}
 use Rattle.bench_world.proofs.WriteLegality.{found_named}
@@ -259,6 +259,19 @@ module _ (id : List ℕ) (tag : Device) (m : Msg) (answer told : Answer) (r : Wr
       let there : TellsRead3 at_read.device told = told_three_of TellsRead3 id r.later.world.field.listeners r.read_given.asked r.read.events told read at_read.device at_read.found polled failed in
       subst (λ s. TellsForm3 s told) store_read (of_three (kind_of at_read.device) kind_read _ ⊥ there)
 
+  reads_placed : IsPlaced3 r.later id at_read.device
+  reads_placed = record { found = at_read.found; kind = kind_read }
+
+  pub tells_undisturbed_read : IsUndisturbed3 id r.read_given.asked r.read.events → TellsForm3 last told
+  tells_undisturbed_read u =
+      let there : TellsRead3 at_read.device told = subst (TellsRead3 at_read.device) r.told' (threes_read r.later r.after r.read_given r.read id at_read.device r.reads r.reading reads_placed u) in
+      subst (λ s. TellsForm3 s told) store_read (of_three (kind_of at_read.device) kind_read _ ⊥ there)
+
+  pub tells_quiet_read : AllPass r.later.queue → TellsForm3 last told
+  tells_quiet_read pass =
+      let there : TellsRead3 at_read.device told = subst (TellsRead3 at_read.device) r.told' (quiet_threes_read r.later r.after r.read_given r.read id at_read.device r.reads r.reading reads_placed pass) in
+      subst (λ s. TellsForm3 s told) store_read (of_three (kind_of at_read.device) kind_read _ ⊥ there)
+
   keeps : KeepsWrite3Law message tag (end_told r.write.answer) r.before.world.field es
   keeps =
       of_three (kind_of tag) r.placed.kind _ _
@@ -315,3 +328,11 @@ one_of_two_three id tag m answer message writable r = by_left (left id tag m ans
     by_left (inl old) = inl (subst (λ s. IsT3Form s (Message message)) old here)
     by_left (inr (inl begun)) = absurd (let clash : Message message ≡ Unfinished = same_form (last id tag m answer (answers.Message message writable) r) (Message message) Unfinished here begun in cc)
     by_left (inr (inr new)) = inr (same_message message (message_of m) (same_form (last id tag m answer (answers.Message message writable) r) (Message message) (Message (message_of m)) here new))
+
+pub undisturbed_is_read_three : Undisturbed3IsRead
+undisturbed_is_read_three id tag m told r u =
+    held_form (last id tag m answers.Written told r) (message_of m) told (new_left id tag m answers.Written told r refl) (tells_undisturbed_read id tag m answers.Written told r u)
+
+pub quiet_is_read_three : Quiet3IsRead
+quiet_is_read_three id tag m told r pass =
+    held_form (last id tag m answers.Written told r) (message_of m) told (new_left id tag m answers.Written told r refl) (tells_quiet_read id tag m answers.Written told r pass)

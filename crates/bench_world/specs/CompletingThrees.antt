@@ -108,6 +108,18 @@ Written3IsRead =
 abbrev pub Written3IsWhole : Type 0
 Written3IsWhole = (id : List ℕ) (tag : Device) (m : Msg) → Writes3ThenReads id tag m answers.Written answers.Unfinished → ⊥
 
+-- Where noise doesn't keep the read from it, it tells that message, ...
+abbrev pub Undisturbed3IsRead : Type 0
+Undisturbed3IsRead =
+    (id : List ℕ) (tag : Device) (m : Msg) (told : Answer) (r : Writes3ThenReads id tag m answers.Written told) → IsUndisturbed3 id r.read_given.asked r.read.events
+    → (writable : Bool) × (told ≡ answers.Message (message_of m) writable)
+
+-- ... and so it does where no fate is left but Pass.
+abbrev pub Quiet3IsRead : Type 0
+Quiet3IsRead =
+    (id : List ℕ) (tag : Device) (m : Msg) (told : Answer) (r : Writes3ThenReads id tag m answers.Written told) → AllPass r.later.queue
+    → (writable : Bool) × (told ≡ answers.Message (message_of m) writable)
+
 -- Whatever the write answered, a message that the read tells is the one that the tag held before, or the new one.
 abbrev pub OneOfTwo3IsRead : Type 0
 OneOfTwo3IsRead =

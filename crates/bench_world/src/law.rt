@@ -5,7 +5,7 @@ ghost use Rattle.bench_world.specs.Behind.{WrittenIsRead, OneOfThreeIsRead, Brok
 ghost use Rattle.bench_world.specs.Completing.{ReadsComplete, WritesComplete, ShownIsWritten, ValidIsWritten, FindsComplete, TagsComplete, ThreesComplete};
 ghost use Rattle.bench_world.specs.CompletingLinks.{AskedComplete, PutsComplete, GetsComplete, LookupsComplete, UnlinksComplete, ValidIsOk, LinkingsComplete, KindsTold};
 ghost use Rattle.bench_world.specs.CompletingForging.{ForgedKindsTold, ForgingsComplete, QuietForgings};
-ghost use Rattle.bench_world.specs.CompletingThrees.{ThreesRead, ThreesWrite, ThreesWritten, QuietThreesRead, QuietThreesWrite, QuietThreesWritten, Written3IsRead, Written3IsWhole, OneOfTwo3IsRead};
+ghost use Rattle.bench_world.specs.CompletingThrees.{ThreesRead, ThreesWrite, ThreesWritten, QuietThreesRead, QuietThreesWrite, QuietThreesWritten, Written3IsRead, Written3IsWhole, OneOfTwo3IsRead, Undisturbed3IsRead, Quiet3IsRead};
 ghost use Rattle.bench_world.specs.LinkLaw.{CutArrivalLaw, CutLinkLaw, LinkLaw};
 ghost use Rattle.bench_world.specs.Quiet.{QuietStays, QuietReads, QuietWrites, QuietIsWritten, QuietFinds, QuietTags, QuietThrees};
 ghost use Rattle.bench_world.specs.QuietHearing.{QuietHears, QuietScript};
@@ -70,6 +70,7 @@ pub fn reads_behind()
     ensures written3 { Written3IsRead }
     ensures whole3 { Written3IsWhole }
     ensures two3 { OneOfTwo3IsRead }
+    ensures told3 { Undisturbed3IsRead }
 {}
 
 /// Which lines of a script are taken is decided by the lines alone, not by what was sent.
@@ -100,6 +101,7 @@ pub fn quiet_air()
     ensures reads3 { QuietThreesRead }
     ensures writes3 { QuietThreesWrite }
     ensures written3 { QuietThreesWritten }
+    ensures behind3 { Quiet3IsRead }
     ensures talks { QuietTalks }
     ensures linkings { QuietLinkings }
     ensures forgings { QuietForgings }
