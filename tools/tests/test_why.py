@@ -79,7 +79,7 @@ ROWS = (
     ((T2, "lock 01020304 16"), "01020304 has 16 blocks, of which 15 is the last"),
     ((T5, "lock E004010203040506 4"), "E004010203040506 has 4 blocks, of which 3 is the last"),
     ((T2, "busy 01020304 1 3"), "01020304 is a Type 2 tag, and busy is for a Type 4 tag or a peer"),
-    ((PEER, "dump 08010203"), "08010203 is a peer, and dump is for a Type 2 tag, a Type 4 tag or a Type 5 tag"),
+    ((PEER, "dump 08010203"), "08010203 is a peer, and dump is for a Type 2 tag, a Type 3 tag, a Type 4 tag or a Type 5 tag"),
     ((T2, "inbox 01020304"), "01020304 is a Type 2 tag, and inbox is for a peer"),
     (("offer E004010203040506 6B 01",), "no device E004010203040506 is placed"),
     (("place t2 01020304 4 " + "00" * 17,), "HEX has 17 bytes, more than the 16 of 4 blocks of 4 bytes"),
@@ -89,6 +89,13 @@ ROWS = (
     ),
     (("place t5 E004010203040506 2049 32 -",), "2049 blocks of 32 are 65568 bytes, and 65536 is the most"),
     (("place t5 E004010203040506 1 4 0011223344",), "HEX has 5 bytes, more than the 4 of 1 block of 4 bytes"),
+    (("place t3 01020304 13 -",), "ID: '01020304' has 4 bytes, and this ID has 8"),
+    (("place t3 0102030405060708 257 -",), "BLOCKS: '257' is above 256"),
+    (("read3 0102",), "ID: '0102' has 2 bytes, and this ID has 8"),
+    (("poll3 x",), "poll3 has no word behind it, and here is 1"),
+    (("write3 0102030405060708",), "write3 needs 2 words behind it, and here is 1"),
+    ((T5, "place t3 E004010203040506 13 -"), "E004010203040506 is placed already, as a Type 5 tag"),
+    (("place t3 0102030405060708 1 " + "00" * 17,), "HEX has 17 bytes, more than the 16 of 1 block of 16 bytes"),
     (("place t4 02030405 8 000F20 -",), "the container has 3 bytes, and it has to have 15 to 64"),
     (
         ("place t4 02030405 8 000F20003B00340406E10300100000 -",),
@@ -132,7 +139,7 @@ class Reasons(unittest.TestCase):
             [
                 "  it is:     lock 01020304 16",
                 "  expected:  lock ID BLOCK",
-                "  accepted where a Type 2 or Type 5 tag with this ID has this block",
+                "  accepted where a Type 2, Type 3 or Type 5 tag with this ID has this block",
             ],
         )
 

@@ -80,7 +80,7 @@ pub enum Command {
         rw: u8,
         limit: u32,
     },
-    /// Locks a block of a Type 2 or Type 5 tag against writing.
+    /// Locks a block of a Type 2, Type 3 or Type 5 tag against writing.
     Lock {
         id: DeviceId,
         block: u16,

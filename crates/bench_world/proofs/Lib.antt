@@ -46,6 +46,7 @@ pub mod QuietWritten
 pub mod OneJournal
 pub mod Shapes
 pub mod Quiet
+pub mod ThreesComplete
 pub mod QuietLinks
 pub mod OpeningKind
 pub mod CompleteLinkings

@@ -93,7 +93,7 @@ back_passes (Clash g x ∷ es) z = omega (arith, z)
 behind : (x : Fate) (n : ℕ) → other_than_pass x + n ≡ 0 → n ≡ 0
 behind x n z = omega (arith, z)
 
-no_noisy : (is_one : Signal → Bool) (es : List Event) → noise es ≡ 0 → noisy_turns is_one es ≡ 0
+pub no_noisy : (is_one : Signal → Bool) (es : List Event) → noise es ≡ 0 → noisy_turns is_one es ≡ 0
 no_noisy is_one [] z = refl
 no_noisy is_one (Reset ∷ es) z = no_noisy is_one es z
 no_noisy is_one (Request g x ∷ es) z =
@@ -123,7 +123,7 @@ module _ {W : Type 0} (m : AirModel W) where
   first_round w next (Answers g x ∷ es) turns each lit over z d = absurd (let clash : back_of (Answers g x ∷ es) ≡ backs.Nothing = ap back_of turns.made ∙ trace_first m w turns.moves in cc)
   first_round w next (Clash g x ∷ es) turns each lit over z d = absurd (let clash : back_of (Clash g x ∷ es) ≡ backs.Nothing = ap back_of turns.made ∙ trace_first m w turns.moves in cc)
 
-few_noisy : (n : ℕ) → n ≡ 0 → n < tries
+pub few_noisy : (n : ℕ) → n ≡ 0 → n < tries
 few_noisy n z = omega (arith, z)
 
 pub quiet_stays : QuietStays

@@ -46,6 +46,7 @@ use Rattle.bench_world.proofs.CompleteForging.{forges_quietly}
 use Rattle.bench_world.proofs.CompleteLinkings.{links_quietly}
 use Rattle.bench_world.proofs.Fronts.{on_field}
 use Rattle.bench_world.proofs.Placing.{IsWith, is_with, with_sound}
+use Rattle.bench_world.proofs.ThreesComplete.{quiet_threes_read, quiet_threes_write, quiet_threes_written}
 use Rattle.bench_world.proofs.Quiet.{quiet_stays, quiet_reads, quiet_writes, quiet_finds, quiet_tags, quiet_threes}
 use Rattle.bench_world.proofs.QuietLinks.{quiet_talks}
 use Rattle.bench_world.proofs.Written.{told_written}
@@ -237,6 +238,9 @@ quiet_entry s t g line e calm q sp step =
         finds = λ is. quiet_finds s t g e step is calm.queue;
         tags = λ is. quiet_tags s t g e step is calm.queue;
         threes = λ is. quiet_threes s t g e step is calm.queue;
+        reads3 = λ id d is p. quiet_threes_read s t g e id d step is p calm.queue;
+        writes3 = λ id m d is p. quiet_threes_write s t g e id m d step is p calm.queue;
+        written3 = λ id m d is p shows. quiet_threes_written s t g e id m d step is p calm.queue shows;
         links = links_quietly s t g e calm.ready step calm.queue;
         forges = forges_quietly s t g e calm.ready step calm.queue;
         talks = quiet_talks s t g e step calm.queue;

@@ -41,6 +41,8 @@ asks_none s c on = refl
 pub short_of : (joins : Joins) (s : State) (c : Command) (cut : List Event) (t : State) → IsOnLink c → CutFront joins s c cut t → CutShort joins s c cut t
 short_of joins s (Read id) cut t on f = off on
 short_of joins s (Write id m) cut t on f = off on
+short_of joins s (Read3 id) cut t on f = off on
+short_of joins s (Write3 id m) cut t on f = off on
 short_of joins s c cut t on f = f
 
 -- what is due on the link is no reset

@@ -2,6 +2,7 @@
 use Rattle.std.proofs.Common.{◌≡◌, ◌↔◌, ◌⊎◌, inl, inr, ℕ, ◌+◌, ◌<◌, List, [], ◌∷◌, ◌++◌, map, Bool, true, false, nat_eq, if◌then◌else◌, Option, Some, None, IsSome, Result, Ok, Err, refl, sym, ◌∙◌, ap, subst, arith}
 use Rattle.std.specs.List.{AllByRecursion}
 use Rattle.std.specs.Cmp.Lexicographic.{pointwise}
+use Rattle.std.proofs.lemmas.Bool.{cases_lt}
 use Rattle.std.proofs.lemmas.List.{append-nil}
 use Rattle.nfc_base.specs.declared.event.Event.{Event}
 use Rattle.nfc_base.specs.declared.event.Fate.{Fate}
@@ -16,6 +17,7 @@ use Rattle.air_core.specs.Turn.{Air, moment}
 use Rattle.air_core.specs.Conversation.{Moment, Note, Lit, Got, Lost, Next, Over, LightUp, Asks, IsDemand, AreTurns, FatesFrom, EachDue, Going, receptions, replay, with_events}
 use Rattle.air_core.specs.Turning.{due-append, due_weaker, due_shift, fates-append, back_of-append, receptions-append, turns-append, events-append}
 use Rattle.air_core.specs.Waits.{stand, waits_next}
+use Rattle.air_core.proofs.LostField.{breaks-append}
 use Rattle.air_core.proofs.PlainTurns.{noise_append}
 use Rattle.nfca_poll.specs.declared.fault.PollFault.{PollFault}
 use Rattle.nfca_poll.specs.declared.fault.PollFault.TheVariants as faults
@@ -58,7 +60,7 @@ use Rattle.bench_world.specs.declared.entry.Answer.TheVariants as answers
 use Rattle.bench_world.specs.Answering.{TellsFault, poll_answer}
 use Rattle.bench_world.specs.Legal.{Stores3Law, no_joins}
 use Rattle.bench_world.specs.Obeying.{CutOffUnlinked, ObeyedUnlinked}
-use Rattle.bench_world.specs.Threes.{AreWellStored, IfThree, IsWellStored, KeepsStores3, ReadAsks3, ReadEnd3, TellsEnd3, TellsForm3, TellsRead3, TellsWrite3, ThreeEnds, ThreeTells, WriteAsks3, WriteEnd3, end_told, told_three, written_three}
+use Rattle.bench_world.specs.Threes.{AreWellStored, CutThree, IfThree, IsWellStored, KeepsStores3, ReadAsks3, ReadEnd3, TellsEnd3, TellsForm3, TellsRead3, TellsWrite3, ThreeEnds, ThreeTells, WriteAsks3, WriteEnd3, end_told, told_three, written_three}
 use Rattle.bench_world.proofs.Fronts.{ends_behind, field_behind, stable_behind}
 use Rattle.bench_world.proofs.Legality.{above, asks_for, asks_obeyed, front_of, lost_behind, none_in, part_stays, stores_stay, trace_is}
 use Rattle.bench_world.proofs.Placed.{Upon}
@@ -370,6 +372,24 @@ module _ (old mid : Air Device) (id : List ℕ) (place : ℕ) (idle : IsIdle old
   told_here : seeking id s.seeks.asked.notes ≡ Told (Ok tt) []
   told_here = s.seeks.told ∙ ap (λ h. Told h []) (found_both (has_three id old.listeners) s.seeks.heard s.seeks.is).1
 
+  -- what was asked of it was cut off by nothing but want of memory
+  cut_three : (what : Changes) (IsAll : List Signal → Type 0) (new : Air Device) → (r : AsksThreeSome what IsAll (moment mid) (moment new)) → CutThree id r.commands new.trace
+  cut_three what IsAll new r =
+      let hs : List Note = s.seeks.asked.notes in
+      let ks : List Note = r.asked.notes in
+      let g : Going air (three_due id r.commands) (moment old) (moment new) (hs ++ ks) = both_three id r.commands (moment old) (moment mid) (moment new) hs ks told_here s.seeks.asked.going r.asked.going in
+      let trace : new.trace ≡ g.events = trace_is old new (three_due id r.commands) (hs ++ ks) g idle in
+      let none : breaks s.seeks.asked.going.events ≡ 0 = elim (cases_lt 0 (breaks s.seeks.asked.going.events)) [
+        | inl some ↦ absurd (let is : ◌≡◌ {A = Result (Unit {0}) PollFault} (Ok tt) (Err faults.FieldLost) = s.seeks.lost.1 some in cc)
+        | inr still ↦ omega (arith, still)
+      ] in
+      inr (record {
+        behind = ks;
+        sought = ap (λ es. seeking id (receptions es)) trace ∙ ap (seeking id) g.known ∙ seeking_more id hs ks (Ok tt) told_here;
+        unbroken = r.unbroken;
+        unlost = ap breaks trace ∙ omega (arith, breaks-append s.seeks.asked.going.events r.asked.going.events, none, r.unlost);
+      })
+
   abbrev of_both' : (new : Air Device) (commands : List Signal) (ks : List Note) → Going air (waits_next commands) (moment mid) (moment new) ks → Going air (three_due id commands) (moment old) (moment new) (s.seeks.asked.notes ++ ks)
   of_both' new commands ks h = both_three id commands (moment old) (moment mid) (moment new) s.seeks.asked.notes ks told_here s.seeks.asked.going h
 
@@ -409,6 +429,7 @@ module _ (old mid : Air Device) (id : List ℕ) (place : ℕ) (idle : IsIdle old
         refl,
         front_of None (Read3 id) (λ h. h) os old new r.commands ns idle tt refl g asked,
         part_stays os.ends old new g.events idle g.moment (r.asked.same ∙ s.seeks.asked.same) (none_in (Read3 id) (λ h. h) os old new r.commands ns g asked),
+        cut_three NoStore (ReadAsksThree id (device_store s.device)) new r,
       )
 
   -- it was written
@@ -480,6 +501,7 @@ module _ (old mid : Air Device) (id : List ℕ) (place : ℕ) (idle : IsIdle old
         subst (λ es. Stores3Law (above os old) no_joins id m (Err fault.Memory) es) (sym (trace_is old new (three_due id commands) ns g idle))
             (stores_above os old id m (Err fault.Memory) g.events (none_in (Write3 id m) (λ h. h) os old new commands ns g asked)
             (stores_behind new (message_of m) commands w.told.asked.notes w.told.asked.going (Err fault.Memory) w.told.asked.same w.law)),
+        cut_three (StoreOf (device_id s.device)) (WriteAsksThreeOf id (message_of m) s.device) new w.told,
       )
 
 -- No tag was selected, ...
@@ -522,6 +544,11 @@ missed_write_three old new id m e answer idle well s is = λ ends peers places.
 pub sought_part : (id : List ℕ) (old new : Moment (World Device)) (e : PollFault) → Seeks id (Err e) old new → SeekingCut id old new
 sought_part id old new e s = record { notes = s.asked.notes; going = s.asked.going; same = s.asked.same }
 
+-- nothing was asked of the tag yet
+sought_three : (old new : Air Device) (id : List ℕ) (asked : List Signal) → IsIdle old → SeekingCut id (moment old) (moment new) → CutThree id asked new.trace
+sought_three old new id asked idle part =
+    inl (subst (EachDue (λ ns. asks (seeking id ns)) []) (sym (trace_is old new (λ ns. asks (seeking id ns)) part.notes part.going idle)) part.going.each)
+
 pub seeking_cut_read : (old new : Air Device) (id : List ℕ) → IsIdle old → AreWellStored old.listeners → SeekingCut id (moment old) (moment new) → CutOffUnlinked old new (Read3 id)
 seeking_cut_read old new id idle well part = λ ends peers.
     let os : Upon = record { ends = ends; peers = peers; link = None } in
@@ -531,6 +558,7 @@ seeking_cut_read old new id idle well part = λ ends peers.
       refl,
       front_of None (Read3 id) (λ h. h) os old new some.0 part.notes idle tt refl g some.1,
       part_stays os.ends old new part.going.events idle part.going.moment part.same (none_in (Read3 id) (λ h. h) os old new some.0 part.notes g some.1),
+      sought_three old new id some.0 idle part,
     )
 
 pub seeking_cut_write : (old new : Air Device) (id : List ℕ) (m : Msg) → IsIdle old → AreWellStored old.listeners → SeekingCut id (moment old) (moment new) → CutOffUnlinked old new (Write3 id m)
@@ -544,6 +572,7 @@ seeking_cut_write old new id m idle well part = λ ends peers.
       subst (λ es. Stores3Law (above os old) no_joins id m (Err fault.Memory) es) (sym (trace_is old new (three_due id some.0) part.notes g idle))
           (stores_above os old id m (Err fault.Memory) g.events (none_in (Write3 id m) (λ h. h) os old new some.0 part.notes g some.1)
           (sought_stores id (message_of m) (moment old) (moment new) part.notes part.going part.same (sound_one id old idle))),
+      sought_three old new id some.0 idle part,
     )
 
 -- the faults by which selecting may end

@@ -266,6 +266,14 @@ begun_form store t = by_form (form_of store t.end answers.Unfinished t.shows t.t
     by_form form.Unfinished is e = is
     by_form (form.Message n) is e = absurd cc
 
+-- a store that holds a message tells it
+pub held_form : (store m : List ℕ) (answer : Answer) → IsT3Form store (form.Message m) → TellsForm3 store answer → (w : Bool) × (answer ≡ answers.Message m w)
+unfolding form_told
+held_form store m answer holds t =
+    let x = form_of store t.end answer t.shows t.told in
+    let told : form_told (form.Message m) (is_writable store) ≡ Some answer = ap (λ f. form_told f (is_writable store)) (same_form store (form.Message m) x.form holds x.is) ∙ x.told in
+    (is_writable store, some_answer answer (answers.Message m (is_writable store)) (sym told))
+
 one_form_told : (store : List ℕ) (a b : Answer) → TellsForm3 store a → TellsForm3 store b → a ≡ b
 one_form_told store a b p q =
     let x = form_of store p.end a p.shows p.told in

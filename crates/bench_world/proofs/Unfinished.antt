@@ -43,6 +43,8 @@ use Rattle.bench_world.proofs.WriteLegality.{found_named}
 pub short_front : (joins : Joins) (s : State) (c : Command) (cut : List Event) (t : State) → CutShort joins s c cut t → CutFront joins s c cut t
 short_front joins s (Read id) cut t (g, joined, front, stores, how) = (g, joined, front, stores)
 short_front joins s (Write id m) cut t (g, joined, front, stores, how) = (g, joined, front, stores)
+short_front joins s (Read3 id) cut t (g, joined, front, stores, how) = (g, joined, front, stores)
+short_front joins s (Write3 id m) cut t (g, joined, front, stores, how) = (g, joined, front, stores)
 short_front joins s c cut t f = f
 
 -- Nothing was done.

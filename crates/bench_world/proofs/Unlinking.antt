@@ -232,6 +232,8 @@ module _ (c : Command) (r : IsReset c) (old : Machines) (settled : IsSettled old
 short_unlinked : (c : Command) → IsReset c → (s t : State) (es : List Event) → CutShort no_joins (unlinked s) c es t → CutShort no_joins s c es t
 short_unlinked (Read id) r s t es cut = (cut.0, cut.1, r.front s t cut.0 es None cut.2, r.stores s (cut.0).joins es cut.3, cut.4)
 short_unlinked (Write id m) r s t es cut = (cut.0, cut.1, r.front s t cut.0 es None cut.2, r.stores s (cut.0).joins es cut.3, cut.4)
+short_unlinked (Read3 id) r s t es cut = (cut.0, cut.1, r.front s t cut.0 es None cut.2, r.stores s (cut.0).joins es cut.3, cut.4)
+short_unlinked (Write3 id m) r s t es cut = (cut.0, cut.1, r.front s t cut.0 es None cut.2, r.stores s (cut.0).joins es cut.3, cut.4)
 short_unlinked c r s t es cut = (cut.0, cut.1, r.front s t cut.0 es None cut.2, r.stores s (cut.0).joins es cut.3)
 
 module _ (c : Command) (r : IsReset c) (old : Machines) (settled : IsSettled old) (b : Air Device) where

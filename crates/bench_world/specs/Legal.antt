@@ -55,7 +55,7 @@ use Rattle.bench_world.specs.Arriving.{ArrivesAt, ArrivesCutAt, ArrivesCutWithin
 use Rattle.bench_world.specs.Forging.{ForgeTells, forged_general, forging, opens_link}
 use Rattle.bench_world.specs.Answering.{TagTells, TellsFound, TagsTell, ThreesTell, CutTag}
 use Rattle.bench_world.specs.Reading.{TellsOf, ReadAsks}
-use Rattle.bench_world.specs.Threes.{KeepsStores3, ReadAsks3, TellsRead3, TellsWrite3, ThreeTells, WriteAsks3, WriteEnd3, end_told}
+use Rattle.bench_world.specs.Threes.{CutThree, KeepsStores3, ReadAsks3, TellsRead3, TellsWrite3, ThreeTells, WriteAsks3, WriteEnd3, end_told}
 use Rattle.bench_world.specs.Writing.{TellsWrite, WriteAsks, KeepsStores, ending_told}
 use Rattle.bench_devices.specs.Answering.{FindTells}
 
@@ -609,6 +609,8 @@ CutFrontBy How joins s c cut t = (g : Given) × (g.joins ≡ joins) × FrontOf s
 abbrev pub CutShort : Joins → State → Command → List Event → State → Type 0
 CutShort joins s (Read id) cut t = CutFrontBy (λ asked. CutTag id asked cut) joins s (Read id) cut t
 CutShort joins s (Write id message) cut t = CutFrontBy (λ asked. CutTag id asked cut) joins s (Write id message) cut t
+CutShort joins s (Read3 id) cut t = CutFrontBy (λ asked. CutThree id asked cut) joins s (Read3 id) cut t
+CutShort joins s (Write3 id message) cut t = CutFrontBy (λ asked. CutThree id asked cut) joins s (Write3 id message) cut t
 CutShort joins s c cut t = CutFront joins s c cut t
 
 -- What a command may add at most to what the peer's server accepted, at which its end stopped.

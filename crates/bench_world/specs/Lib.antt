@@ -27,6 +27,7 @@ pub mod Journal
 pub mod CompletingLinks
 pub mod QuietLinks
 pub mod CompletingForging
+pub mod CompletingThrees
 pub mod QuietHearing
 pub mod Taking
 pub mod SameCommands

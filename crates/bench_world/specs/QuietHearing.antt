@@ -29,6 +29,9 @@ use Rattle.bench_world.specs.Journal.{LeadsTo}
 use Rattle.bench_world.specs.Legal.{State, Joins, changed, state_after, first_state}
 use Rattle.bench_world.specs.Quiet.{AllPass}
 use Rattle.bench_world.specs.CompletingForging.{ForgesQuietly}
+use Rattle.bench_world.specs.CompletingThrees.{IsPlaced3}
+use Rattle.bench_world.specs.Threes.{TellsRead3, TellsWrite3}
+use Rattle.bench_devices.specs.Threes.{ShowsThreeWriteOf}
 use Rattle.bench_world.specs.QuietLinks.{LinksQuietly, TalksQuietly}
 use Rattle.bench_world.specs.Reading.{TellsOf}
 use Rattle.bench_world.specs.Writing.{TellsWrite}
@@ -100,6 +103,9 @@ pub record IsQuietEntry (s : State) (e : Entry) (t : State) : Type 0 where
   pub finds : e.command ≡ Find → e.answer ≡ whole_field s.world.field.listeners
   pub tags : e.command ≡ Crowd → TellsTags s.world.field.listeners e.answer
   pub threes : e.command ≡ Poll3 → e.answer ≡ three_told (sensed_of s.world.field.listeners)
+  pub reads3 : (id : List ℕ) (d : Device) → e.command ≡ Read3 id → IsPlaced3 s id d → TellsRead3 d e.answer
+  pub writes3 : (id : List ℕ) (m : Msg) (d : Device) → e.command ≡ Write3 id m → IsPlaced3 s id d → TellsWrite3 (message_of m) d e.answer
+  pub written3 : (id : List ℕ) (m : Msg) (d : Device) → e.command ≡ Write3 id m → IsPlaced3 s id d → ShowsThreeWriteOf (message_of m) d (Ok tt) → e.answer ≡ answers.Written
   pub links : LinksQuietly s e
   pub forges : ForgesQuietly s e
   pub talks : TalksQuietly s e t

@@ -5,7 +5,7 @@ use Rattle.std.specs.List.{AllByRecursion}
 use Rattle.nfc_base.specs.Signal.{Signal}
 use Rattle.nfc_base.specs.Trace.{noise, breaks}
 use Rattle.nfc_base.specs.declared.event.Event.{Event}
-use Rattle.air_core.specs.Conversation.{Note, receptions}
+use Rattle.air_core.specs.Conversation.{EachDue, Note, receptions}
 use Rattle.air_core.specs.Waits.{stand}
 use Rattle.nfca_poll.specs.declared.fault.PollFault.{PollFault}
 use Rattle.t3t_tag.specs.Store.{IsT3Store}
@@ -13,12 +13,12 @@ use Rattle.t3t_access.specs.declared.fault.T3Fault.{T3Fault}
 use Rattle.t3t_access.specs.declared.fault.T3Fault.TheVariants as fault
 use Rattle.t3t_access.specs.declared.found.Found3.{Found3}
 use Rattle.bench_devices.specs.declared.device.Device.{Device}
-use Rattle.bench_devices.specs.Answering.{TellsStanding}
+use Rattle.bench_devices.specs.Answering.{IsUnbroken, TellsStanding}
 use Rattle.bench_devices.specs.Device.{BenchWorld, device_id, device_locks, device_store, kind_of}
 use Rattle.bench_devices.specs.Keeping.{images_of}
 use Rattle.bench_devices.specs.Kinds.{DeviceKind, T2Kind, T3Kind, T4Kind, PeerKind, T5Kind}
 use Rattle.bench_devices.specs.Placed.{device_with, OfPlaced}
-use Rattle.bench_devices.specs.Polling.{Told}
+use Rattle.bench_devices.specs.Polling.{Told, asks}
 use Rattle.bench_devices.specs.Sensing.{seeking, has_three, found_if, HasSought}
 use Rattle.bench_devices.specs.Threes.{ReadAsksThree, ShowsThree, ShowsThreeWrite, WriteAsksThreeOf, KeepsWrite3Law}
 use Rattle.bench_world.specs.declared.entry.Answer.{Answer}
@@ -127,6 +127,17 @@ pub record ThreeTells (Tells : Device → Answer → Type 0) (id : List ℕ) (ds
   pub ends : ThreeEnds Tells id ds asked (found_if (has_three id ds) heard) behind answer
   pub lost : (answer ≡ answers.FieldLost) ↔ (0 < breaks events)
   pub noisy : answer ≡ answers.SixBad → 0 < noise events
+
+-- Nothing but want of memory ended what is asked of a Type 3 tag that was found: what was heard broke off no wait, and no Break was used.
+pub record IsUnbrokenThree (id : List ℕ) (asked : List Signal) (cut : List Event) : Type 0 where
+  pub behind : List Note
+  pub sought : seeking id (receptions cut) ≡ Told (Ok tt) behind
+  pub unbroken : IsUnbroken (stand 0 asked behind)
+  pub unlost : breaks cut ≡ 0
+
+-- A command of a Type 3 tag that was cut off: all that happened looks for the tag, or so it ended.
+abbrev pub CutThree : List ℕ → List Signal → List Event → Type 0
+CutThree id asked cut = EachDue (λ ns. asks (seeking id ns)) [] cut ⊎ IsUnbrokenThree id asked cut
 
 -- The stores of a Type 3 tag keep the law of a write; any other device keeps its own.
 abbrev pub KeepsStores3 : List ℕ → Device → WriteEnd3 → BenchWorld → List Event → Type 0

@@ -71,7 +71,8 @@ pub enum Answer {
     SixBad,
     /// A tag holds the message now.
     Written,
-    /// A tag refused a command, by this code: 0 of a Type 2 tag, the error of a Type 5 tag, the status of a Type 4 tag.
+    /// A tag refused a command, by this code: 0 of a Type 2 tag, the error of a Type 5 tag, the status of a Type 3 or a
+    /// Type 4 tag.
     Refused(u16),
     /// Its container forbids writing.
     ReadOnly,

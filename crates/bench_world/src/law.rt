@@ -5,6 +5,7 @@ ghost use Rattle.bench_world.specs.Behind.{WrittenIsRead, OneOfThreeIsRead, Brok
 ghost use Rattle.bench_world.specs.Completing.{ReadsComplete, WritesComplete, ShownIsWritten, ValidIsWritten, FindsComplete, TagsComplete, ThreesComplete};
 ghost use Rattle.bench_world.specs.CompletingLinks.{AskedComplete, PutsComplete, GetsComplete, LookupsComplete, UnlinksComplete, ValidIsOk, LinkingsComplete, KindsTold};
 ghost use Rattle.bench_world.specs.CompletingForging.{ForgedKindsTold, ForgingsComplete, QuietForgings};
+ghost use Rattle.bench_world.specs.CompletingThrees.{ThreesRead, ThreesWrite, ThreesWritten, QuietThreesRead, QuietThreesWrite, QuietThreesWritten, Written3IsRead, Written3IsWhole, OneOfTwo3IsRead, Undisturbed3IsRead, Quiet3IsRead};
 ghost use Rattle.bench_world.specs.LinkLaw.{CutArrivalLaw, CutLinkLaw, LinkLaw};
 ghost use Rattle.bench_world.specs.Quiet.{QuietStays, QuietReads, QuietWrites, QuietIsWritten, QuietFinds, QuietTags, QuietThrees};
 ghost use Rattle.bench_world.specs.QuietHearing.{QuietHears, QuietScript};
@@ -13,17 +14,21 @@ ghost use Rattle.bench_world.specs.ReadBack.{LinesTellEvents, AnswersApart};
 ghost use Rattle.bench_world.specs.Taking.{LinesDecide};
 
 /// A legal read of a placed tag, without a Break, without a wait of six bad receptions and with one round (of a Type 5
-/// tag one try) of polling without noise, tells what the tag's store holds.
+/// tag one try) of polling without noise, tells what the tag's store holds. So does one of a Type 3 tag, which also tells
+/// that a write of it was begun and not finished.
 pub fn reads_complete()
-    ensures { ReadsComplete }
+    ensures tags { ReadsComplete }
+    ensures threes { ThreesRead }
 {}
 
 /// So does a legal write tell what it comes to by the tag's store and its locked blocks: a message is written where the
-/// tag takes it and none of the blocks that are written for it is locked.
+/// tag takes it and none of the blocks that are written for it is locked; of a Type 3 tag likewise.
 pub fn writes_complete()
     ensures told { WritesComplete }
     ensures shown { ShownIsWritten }
     ensures written { ValidIsWritten }
+    ensures threes { ThreesWrite }
+    ensures valid { ThreesWritten }
 {}
 
 /// A legal search, without a Break and with a round and a try without noise, lists the whole field; one for Type 5 tags,
@@ -55,12 +60,17 @@ pub fn links_complete()
 /// Behind a write, with no command between that touches its tag, a read that tells a message tells the new one where
 /// the write was a success, and whatever it answered the old one, the empty one or the new one. Where the tag is pulled
 /// away at any one of the transmissions of a write, and all others pass, a read behind it tells one of these three; at
-/// the first of them, the old one.
+/// the first of them, the old one. Of a Type 3 tag a success is never read as unfinished, and only the old message or the
+/// new one is told.
 pub fn reads_behind()
     ensures written { WrittenIsRead }
     ensures three { OneOfThreeIsRead }
     ensures broken { BrokenIsRead }
     ensures first { FirstBrokenIsRead }
+    ensures written3 { Written3IsRead }
+    ensures whole3 { Written3IsWhole }
+    ensures two3 { OneOfTwo3IsRead }
+    ensures told3 { Undisturbed3IsRead }
 {}
 
 /// Which lines of a script are taken is decided by the lines alone, not by what was sent.
@@ -88,6 +98,10 @@ pub fn quiet_air()
     ensures finds { QuietFinds }
     ensures tags { QuietTags }
     ensures threes { QuietThrees }
+    ensures reads3 { QuietThreesRead }
+    ensures writes3 { QuietThreesWrite }
+    ensures written3 { QuietThreesWritten }
+    ensures behind3 { Quiet3IsRead }
     ensures talks { QuietTalks }
     ensures linkings { QuietLinkings }
     ensures forgings { QuietForgings }

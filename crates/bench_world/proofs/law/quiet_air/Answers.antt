@@ -4,6 +4,7 @@ use Rattle.bench_world.proofs.QuietHearing as hearing
 use Rattle.bench_world.proofs.QuietLinks as links
 use Rattle.bench_world.proofs.CompleteLinkings.{quiet_linkings}
 use Rattle.bench_world.proofs.QuietWritten.{quiet_is_written}
+use Rattle.bench_world.proofs.ThreesComplete.{quiet_is_read_three, quiet_threes_read, quiet_threes_write, quiet_threes_written}
 use Rattle.bench_world.proofs.law.quiet_air.Goals as goal
 
 pub returns-clause-stays : goal.returns-clause-stays
@@ -41,3 +42,15 @@ returns-clause-forgings c = quiet_forgings
 
 pub returns-clause-threes : goal.returns-clause-threes
 returns-clause-threes c = quiet.quiet_threes
+
+pub returns-clause-reads3 : goal.returns-clause-reads3
+returns-clause-reads3 c = quiet_threes_read
+
+pub returns-clause-writes3 : goal.returns-clause-writes3
+returns-clause-writes3 c = quiet_threes_write
+
+pub returns-clause-written3 : goal.returns-clause-written3
+returns-clause-written3 c = quiet_threes_written
+
+pub returns-clause-behind3 : goal.returns-clause-behind3
+returns-clause-behind3 c = quiet_is_read_three
