@@ -3,8 +3,8 @@
 //!
 //! `message` has the codes and writes messages; `first` reads the first unit of a request; `session` is one connection: what
 //! is gathered, what is to be sent, what waits for a continue; `server` has the table for get, what was accepted, and a
-//! session for each client's SAP; `client` is the other end, `slot` has the messages that wait on its slots, and `running`
-//! puts them at once; `law` says what the units of a client's messages put, that a server accepts
+//! session for each client's SAP; `client` is the other end, `slot` has the messages that wait on its slots, `running` puts
+//! them at once, and `closing` ends all connections; `law` says what the units of a client's messages put, that a server accepts
 //! just that, and that a client's calls come to an end.
 #![tactic(auto)]
 

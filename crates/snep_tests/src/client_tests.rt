@@ -14,7 +14,7 @@ fn names_are_looked_up(rt: HostRuntime) -> Result<(), Fail> {
         (Step::Lookup("urn:nfc:sn:snep"), "Ok(4)"),
         (Step::Lookup("urn:nfc:sn:none"), "Ok(0)"),
         (Step::Lookup("urn:nfc:sn:sdp"), "Ok(1)"),
-        (Step::Close, "Ok(())"),
+        (Step::Close(&[]), "Ok(())"),
         (Step::Handed, "3"),
         // an SNL with the number 0 and "urn:nfc:sn:snep"
         (Step::Payload(0), "064108100075726E3A6E66633A736E3A736E6570"),
@@ -27,13 +27,47 @@ fn an_open_connection_is_closed(rt: HostRuntime) -> Result<(), Fail> {
     let rows = [
         (Step::Put(&[7]), "Ok(())"),
         (Step::Lookup("urn:nfc:sn:snep"), "Ok(4)"),
-        (Step::Close, "Ok(())"),
-        (Step::Close, "Ok(())"),
+        (Step::Close(&[]), "Ok(())"),
+        (Step::Close(&[]), "Ok(())"),
         // behind a CONNECT, the put and an SNL
         (Step::Payload(3), "1160"),
         (Step::Handed, "4"),
     ];
     new_ends(&rt, rt.alloc(), &rows)
+}
+
+/// Connections from three SAPs, which end in so many payloads by these numbers of PDUs.
+fn three_end(
+    rt: &impl Abort,
+    alloc: Global,
+    numbers: &'static [u32],
+    handed: &'static str,
+    first: &'static str,
+) -> Result<(), Fail> {
+    let rows = [
+        (Step::GetOn(7, 16, b"k1", &[]), "NotImplemented"),
+        (Step::Put(&[7]), "Ok(())"),
+        (Step::GetOn(3, 16, b"k1", &[]), "NotImplemented"),
+        (Step::Handed, "6"),
+        (Step::Close(numbers), "Ok(())"),
+        (Step::Payload(6), first),
+        (Step::Handed, handed),
+        // none is open now
+        (Step::Close(&[]), "Ok(())"),
+        (Step::Handed, handed),
+        (Step::Put(&[8]), "Ok(())"),
+        (Step::Accepted, "2"),
+    ];
+    new_ends(rt, alloc, &rows)
+}
+
+#[test]
+fn all_connections_end_at_once(rt: HostRuntime) -> Result<(), Fail> {
+    // in one payload the DISCs from SAPs 32, 35 and 39
+    three_end(&rt, rt.alloc(), &[], "7", "0080000211600002116300021167")?;
+    // or one behind the other
+    three_end(&rt, rt.alloc(), &[1, 1, 1], "9", "1160")?;
+    three_end(&rt, rt.alloc(), &[1, 2], "8", "1160")
 }
 
 #[test]
@@ -70,7 +104,7 @@ fn causes(
         lookup_over(alloc, client, far, EndCause::Memory),
         Err(SnepFault::Memory)
     );
-    follows(rt, alloc, client, far, &[(Step::Close, "Err(Memory)")])
+    follows(rt, alloc, client, far, &[(Step::Close(&[]), "Err(Memory)")])
 }
 
 #[test]

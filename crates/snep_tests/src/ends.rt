@@ -209,7 +209,8 @@ pub(crate) enum Step {
     Get(u32, &'static [u8]),
     /// The same on a slot, by these numbers of PDUs.
     GetOn(u8, u32, &'static [u8], &'static [u32]),
-    Close,
+    /// All connections end, by these numbers of PDUs.
+    Close(&'static [u32]),
     /// A message is staged on a slot.
     Stage(u8, &'static [u8]),
     /// What is staged is put, by these numbers of PDUs.
@@ -395,7 +396,10 @@ fn told(
                 got_on(rt, client, link, far, slot, most, key, counts),
             )
         }
-        Step::Close => done(alloc, client.close(link, far, Counts::most(alloc))),
+        Step::Close(numbers) => {
+            let counts = numbered(alloc, numbers)?;
+            done(alloc, client.close(link, far, counts))
+        }
         Step::Stage(slot, message) => done(alloc, staged(rt, client, slot, message)),
         Step::Run(numbers) => {
             let counts = numbered(alloc, numbers)?;
