@@ -107,6 +107,12 @@ class Faults(unittest.TestCase):
                 FarEnd(LEAST, *sizes).answer(b"\0\0")
             self.assertEqual(caught.exception.number, -2)
 
+    def test_a_payload_that_met_a_fault_counts_as_not_taken(self):
+        end = FarEnd(LEAST, 127)
+        with self.assertRaises(Fault):
+            end.answer(b"\0\0")
+        self.assertEqual(end.log, b"")
+
     def test_a_payload_and_an_offer_that_are_too_long(self):
         end = FarEnd(LEAST)
         with self.assertRaises(ValueError):
