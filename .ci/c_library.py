@@ -2,7 +2,7 @@
 """The C library: builds the static library of `zevlodek_c` over the libraries that the gate proved, and runs what is written in C.
 
 `rt ci` proves a static library and builds none, and `rt lib` would prove all below it once more; so the kit's compiler is called here with the
-words that `rt lib` gives it. It proves the crate itself again, which takes half a minute. For aarch64 the library is built, and run only where
+words that `rt lib` gives it. It proves the crate itself again, which takes two processor minutes a target. For aarch64 the library is built, and run only where
 a compiler of C and an emulator for it are there.
 """
 
