@@ -20,7 +20,7 @@ Interface 1, `NFC-V and clashes`, has link type 147, LINKTYPE_USER0. A packet is
 
   byte 0   the version of this header, 0
   byte 1   what it is: 0 a request of the reader, 1 an answer, 2 a clash, of which the data are the common first bits
-  byte 2   the technology: 0 NFC-A, 1 NFC-V
+  byte 2   the technology: 0 NFC-A, 1 NFC-V, 2 NFC-F
   byte 3   how many low bits of the last byte were sent, 1 to 7; 0 for all of them
 
 What becomes of the lines:
@@ -28,7 +28,8 @@ What becomes of the lines:
   ! reset   two packets of interface 0 without data, field off and field on.
   > <       one packet each, as it was sent, whatever its fate. With the fate `break` a field off follows.
   * (clash) one packet of interface 1.
-  NFC-V     one packet each of interface 1. A report doesn't print a frame's technology; annotate.py tells it.
+  NFC-V     one packet each of interface 1, and of NFC-F too. A report doesn't print a frame's technology; annotate.py
+            tells it.
 
 A frame of NFC-A without a bit goes to interface 1 too: the other one has no event for it.
 
@@ -58,6 +59,7 @@ from frames.line import Frame
 
 LINKTYPE_ISO_14443, LINKTYPE_USER0 = 264, 147
 NFC_A, OTHER = 0, 1
+NFC_F = 2
 INTERFACES = ((LINKTYPE_ISO_14443, "NFC-A"), (LINKTYPE_USER0, "NFC-V and clashes"))
 SNAPLEN = 0
 STEP_US = 1000
@@ -126,8 +128,9 @@ class Converter:
         return packets
 
     def transmission(self, event: Event, comment: str) -> Packet:
-        if event.is_nfcv or event.mark == "*" or not event.frame.data:
-            header = bytes([0, KINDS[event.mark], int(event.is_nfcv), event.frame.tail])
+        if event.is_nfcv or event.is_nfcf or event.mark == "*" or not event.frame.data:
+            technology = NFC_F if event.is_nfcf else int(event.is_nfcv)
+            header = bytes([0, KINDS[event.mark], technology, event.frame.tail])
             return Packet(OTHER, header + event.frame.data, comment)
         return Packet(NFC_A, self.nfca_content(event.mark == ">", event.frame), comment)
 

@@ -10,6 +10,7 @@ from frames.iso_dep import IsoDep
 from frames.line import Frame, FrameLine, frame_line, is_reset
 from frames.nfc_dep import NfcDep
 from frames.session import Session
+from frames.type3 import Type3, named
 from frames.type5 import Type5
 
 NFCV_FLAGS = (0x22, 0x26)
@@ -32,6 +33,7 @@ class Event:
     device: str = ""
     protocol: type | None = None
     whole: bytes = b""
+    is_nfcf: bool = False
 
 
 @dataclass
@@ -49,10 +51,10 @@ class Reader:
     def __init__(self) -> None:
         self.session = Session()
         self.answering = Answering()
-        self.is_nfcv = False
+        self.is_nfcv = self.is_nfcf = False
 
     def dark(self) -> None:
-        self.is_nfcv = False
+        self.is_nfcv = self.is_nfcf = False
         self.answering.dark()
 
     def event(self, text: str) -> Event | None:
@@ -68,14 +70,21 @@ class Reader:
         told = self.session.tell(shown)
         if shown.mark == ">":
             self.is_nfcv = self.is_nfcv_request(shown.frame)
-        is_nfcv = self.is_nfcv
-        device = self.answering.device(shown, is_nfcv)
+            self.is_nfcf = isinstance(self.session.told_by, Type3)
+        is_nfcv, is_nfcf = self.is_nfcv, self.is_nfcf
+        device = self.device(shown)
         if shown.fate == "break":
             self.dark()
         told_by = self.session.told_by
         whole = told_by.whole if shown.mark != "*" and isinstance(told_by, (IsoDep, NfcDep)) else b""
         protocol = type(told_by) if told_by else None
-        return Event(number, shown.mark, shown.frame, shown.fate, told, is_nfcv, device, protocol, whole)
+        return Event(number, shown.mark, shown.frame, shown.fate, told, is_nfcv, device, protocol, whole, is_nfcf)
+
+    def device(self, shown: FrameLine) -> str:
+        """Who sends it, or to whom it goes. A frame of NFC-F names its tag."""
+        if self.is_nfcf:
+            return "" if shown.mark == "*" else named(shown.frame)
+        return self.answering.device(shown, self.is_nfcv)
 
     def is_nfcv_request(self, frame: Frame) -> bool:
         """Whether it is Type 5's. A report doesn't print it; of one that fits nothing the first byte decides."""

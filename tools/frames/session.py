@@ -10,6 +10,7 @@ from frames.line import Frame, FrameLine
 from frames.nfc_dep import NfcDep
 from frames.polling import Polling
 from frames.type2 import Type2
+from frames.type3 import Type3
 from frames.type5 import Type5
 from frames.words import counted
 
@@ -42,7 +43,7 @@ class Protocols:
     def __init__(self) -> None:
         # ISO-DEP stands before Type 5: to an activated card goes a block, which may look like a Type 5 request.
         self.type5 = Type5()
-        self.in_order: list[Protocol] = [Polling(), IsoDep(), Type2(), NfcDep(), self.type5]
+        self.in_order: list[Protocol] = [Polling(), IsoDep(), Type2(), NfcDep(), Type3(), self.type5]
         self.current: Protocol | None = None
 
     def request(self, frame: Frame) -> str | None:

@@ -30,6 +30,8 @@ class Columns:
             self.kinds[selected[2]] = selected[1]
         elif event.is_nfcv:
             self.kinds[event.device] = "Type 5 tag"
+        elif event.is_nfcf:
+            self.kinds[event.device] = "Type 3 tag"
         return self.places.setdefault(event.device, len(self.places) + 1)
 
     def told(self) -> list[dict[str, str]]:

@@ -116,6 +116,9 @@ def is_accepted(line):
         blocks, head = int(found[2]), bytes_of(found[3])
         is_memory = 4 <= blocks <= 256 and len(head) <= 4 * blocks
         return is_nfca(bytes_of(found[1])) and is_memory and is_area_whole(head.ljust(16, b"\0"), blocks)
+    if found := re.fullmatch(f"place t3 {content} {number} {content}", line):
+        blocks, head = int(found[2]), bytes_of(found[3])
+        return len(bytes_of(found[1])) == 8 and 1 <= blocks <= 256 and len(head) <= 16 * blocks
     if found := re.fullmatch(f"place t4 {content} {number} {content} {content}", line):
         container, head = bytes_of(found[3]), bytes_of(found[4])
         is_container = 15 <= len(container) <= 64 and container[9:11] != b"\xe1\x03" and container[11] < 0x80

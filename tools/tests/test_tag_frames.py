@@ -428,3 +428,41 @@ class Type5Frames(unittest.TestCase):
     def test_a_command_to_every_tag_is_no_block_of_iso_dep(self) -> None:
         self.assertEqual(last_told(*ACTIVATE, "> 022003 pass"), "I-block 0: command of 2 bytes, too short")
         self.assertEqual(last_told(*ACTIVATE, "! reset", "> 022003 pass"), "READ SINGLE BLOCK 3, to every tag")
+
+
+class Type3Frames(unittest.TestCase):
+    """A Type 3 tag is found, checked and updated."""
+
+    FOUND = ("> 060012FC0000 pass", "< 120101020304050607080000000000000000 pass")
+
+    def test_a_read_and_an_update(self) -> None:
+        content = "D1010154010000000000000000000000"
+        self.assertEqual(
+            told(
+                *self.FOUND,
+                "> 12060102030405060708010B000280018002 pass",
+                "< 2D070102030405060708000002" + content * 2 + " pass",
+                f"> 20080102030405060708010900018003{content} pass",
+                "< 0C0901020304050607080000 pass",
+            ),
+            [
+                "SENSF_REQ of system code 12FCh, 1 time slot",
+                "SENSF_RES: 0102030405060708",
+                "CHECK of blocks 1 to 2, to 0102030405060708",
+                "blocks 1 to 2",
+                f"UPDATE of block 3: {content}, to 0102030405060708",
+                "updated",
+            ],
+        )
+
+    def test_refusals_and_clashes(self) -> None:
+        update = "> 20080102030405060708010900018001" + "00" * 16 + " pass"
+        locked = "refused, status FF03h: the block is locked"
+        self.assertEqual(last_told(*self.FOUND, update, "< 0C090102030405060708FF03 pass"), locked)
+        self.assertEqual(last_told(self.FOUND[0], "* 1201010203/6 pass"), "SENSF_RES, clash behind 38 common bits")
+
+    def test_what_is_no_frame_of_them(self) -> None:
+        for request in ("070012FC0000", "060012FC", "11060102030405060708010B00018000", "10060102030405060708010B00028000"):
+            self.assertEqual(last_told(f"> {request} pass"), "?", request)
+        for answer in ("11010102030405060708000000000000", "120201020304050607080000000000000000"):
+            self.assertEqual(last_told(self.FOUND[0], f"< {answer} pass"), "?", answer)

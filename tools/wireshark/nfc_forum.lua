@@ -18,7 +18,7 @@ local llcp = Proto("llcp", "Logical Link Control Protocol")
 local snep = Proto("snep", "Simple NDEF Exchange Protocol")
 
 local kinds = { [0] = "request", [1] = "answer", [2] = "clash" }
-local technologies = { [0] = "NFC-A", [1] = "NFC-V" }
+local technologies = { [0] = "NFC-A", [1] = "NFC-V", [2] = "NFC-F" }
 
 local frame_fields = {
   line = ProtoField.uint32("nfc_forum.line", "Line of the script"),

@@ -1,5 +1,5 @@
 -- What is due while Type 3 tags are found, read or written is of NFC-F, so no device without a link hands anything over.
-use Rattle.std.proofs.Common.{◌≡◌, ℕ, zero, suc, Bool, List, [], ◌∷◌, Ok, Err, refl, sym, ◌∙◌, subst}
+use Rattle.std.proofs.Common.{◌≡◌, ℕ, zero, suc, List, [], ◌∷◌, Ok, Err, refl, sym, ◌∙◌, subst}
 use Rattle.std.specs.List.{AllByRecursion}
 use Rattle.nfc_base.specs.Signal.{Signal}
 use Rattle.air_core.specs.Conversation.{Note, Lit, Got, Lost, Asks}
@@ -7,7 +7,7 @@ use Rattle.air_core.proofs.DueWaits.{due_all}
 use Rattle.air_core.proofs.Following.{light_is_no_request, over_is_no_request}
 use Rattle.nfca_poll.specs.Enquiry.{Enquiry, enquiring}
 use Rattle.t3t_tag.specs.Store.{attributes}
-use Rattle.t3t_access.specs.Answers.{check_of, update_of}
+use Rattle.t3t_access.specs.Answers.{update_of}
 use Rattle.t3t_access.specs.Polling.{sensf_req, polling_f, picking_f}
 use Rattle.t3t_access.specs.Reading.{check_at, first_checks}
 use Rattle.t3t_access.specs.Writing.{command_at, first_asked, put_at}

@@ -91,9 +91,11 @@ still_before id w (e ∷ es) h = (sym (held_kept id w.listeners (replay air w (e
 -- and so do all its images
 pub images_still : (id : List ℕ) (w : BenchWorld) (es : List Event) → EachAsked IsHarmless es → AllByRecursion (λ s. s ≡ held_by (device_with id w.listeners)) (images_of id w es)
 images_still id w [] h = (refl, tt)
-images_still id w (e ∷ es) h =
-    (refl, subst (λ x. AllByRecursion (λ s. s ≡ x) (images_of id (air.happens w e) es)) (held_kept id w.listeners (air.happens w e).listeners (events_keep (e ∷ []) w (first e h)))
-    (images_still id (air.happens w e) es (behind e h)))
+images_still id w (e ∷ es) h = (
+  refl,
+  subst (λ x. AllByRecursion (λ s. s ≡ x) (images_of id (air.happens w e) es)) (held_kept id w.listeners (air.happens w e).listeners (events_keep (e ∷ []) w (first e h)))
+      (images_still id (air.happens w e) es (behind e h)),
+)
   where
     first : (x : Event) → EachAsked IsHarmless (x ∷ es) → EachAsked IsHarmless (x ∷ [])
     first Reset k = tt

@@ -1,6 +1,6 @@
 -- Reading and writing a selected Type 3 tag of the bench: what is asked of it, what is told, and the law over its
 -- stores meanwhile (NFC Forum Type 3 Tag).
-use Rattle.std.specs.Prelude.{◌≡◌, ◌⊎◌, ℕ, ◌<◌, ◌≤◌, List, get_or, Bool, true, false, Result, Ok, Err}
+use Rattle.std.specs.Prelude.{◌≡◌, ◌⊎◌, ℕ, ◌<◌, List, get_or, Bool, true, false, Result, Ok, Err}
 use Rattle.std.specs.List.{AllByRecursion}
 use Rattle.nfc_base.specs.Signal.{Signal}
 use Rattle.nfc_base.specs.TagLinks.{PassInThree}
@@ -17,7 +17,7 @@ use Rattle.t3t_access.specs.declared.fault.T3Fault.{T3Fault}
 use Rattle.t3t_access.specs.declared.fault.T3Fault.TheVariants as fault
 use Rattle.t3t_access.specs.declared.found.Found3.{Found3}
 use Rattle.t3t_access.specs.Reading.{first_checks, IsDue}
-use Rattle.t3t_access.specs.Writing.{Takes, blocks_of, put_at, all_puts, first_asked}
+use Rattle.t3t_access.specs.Writing.{Takes, put_at, all_puts, first_asked}
 use Rattle.t3t_access.specs.OwnWriting.{IsBegun, IsNew, IsBarred, IsTooSmall, IsPutDue}
 use Rattle.tag_writer.specs.Law.{last_store}
 use Rattle.bench_devices.specs.declared.device.Device.{Device}

@@ -11,7 +11,7 @@ use Rattle.bench_devices.specs.declared.device.Device.{Device}
 use Rattle.bench_devices.specs.Keeping.{Kept, AllStayDevices, IsSound, StaysDevice, kept}
 use Rattle.bench_world.specs.declared.entry.Answer.TheVariants as answers
 use Rattle.bench_world.specs.declared.entry.Loss.TheVariants as losses
-use Rattle.bench_world.specs.World.{FarEnd, WholeWorld, Stable}
+use Rattle.bench_world.specs.World.{WholeWorld, Stable}
 use Rattle.bench_world.specs.ByPayloads.{IsFrontOfPayloads}
 use Rattle.bench_world.specs.Asked.{IsOnLink}
 use Rattle.bench_world.specs.Legal.{State, Given, Joins, CutFront, CutShort, CutStores, EachLegal, ForgeCutLeaves, ForgeHalts, FrontOf, HaltLeaves, Halts, PeerHalts, begun, end_of, first_state, state_after, world_after}

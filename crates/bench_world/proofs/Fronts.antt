@@ -40,7 +40,7 @@ use Rattle.bench_devices.proofs.PeerLinks.{devices_link}
 use Rattle.bench_devices.specs.Device.{device_locks, device_store}
 use Rattle.bench_devices.specs.ThreeAsking.{three_due}
 use Rattle.bench_devices.specs.Threes.{ReadAsksThree, WriteAsksThreeOf}
-use Rattle.bench_world.specs.Threes.{IfThree, ReadAsks3, WriteAsks3}
+use Rattle.bench_world.specs.Threes.{IfThree}
 use Rattle.bench_world.specs.Reading.{ReadAsks}
 use Rattle.bench_world.specs.Writing.{WriteAsks}
 use Rattle.bench_devices.specs.Keeping.{AllStayDevices}

@@ -12,7 +12,7 @@ use Rattle.air_core.proofs.Following.{trace_first}
 use Rattle.nfca_poll.specs.RoundTrace.{rounds, up_to_reset, back_noise}
 use Rattle.nfca_poll.specs.Inventory.{tries, inventory_all, inventory_of}
 use Rattle.bench_script.specs.declared.command.Command.{Command}
-use Rattle.bench_script.specs.declared.command.Command.TheVariants.{Find, Crowd, Poll3, Read, Read3, Write, Write3}
+use Rattle.bench_script.specs.declared.command.Command.TheVariants.{Find, Crowd, Poll3, Read, Write}
 use Rattle.bench_script.specs.declared.command.DeviceId.{DeviceId}
 use Rattle.bench_script.specs.declared.command.DeviceId.TheVariants.{A, V}
 use Rattle.bench_script.specs.DeviceIds.{bytes_of}

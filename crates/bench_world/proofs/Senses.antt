@@ -1,5 +1,5 @@
 -- Type 3 tags were searched for.
-use Rattle.std.proofs.Common.{◌≡◌, List, [], IsSome, ◌⊎◌, Option, Some, None, Result, Ok, Err, refl, sym, ◌∙◌, ap, inl, inr}
+use Rattle.std.proofs.Common.{◌≡◌, [], IsSome, ◌⊎◌, Some, None, Result, Ok, Err, refl, ◌∙◌, ap, inl, inr}
 use Rattle.air_core.specs.World.{World}
 use Rattle.air_core.specs.Turn.{Air, moment}
 use Rattle.air_core.specs.Conversation.{Moment, Going, replay}

@@ -1,5 +1,5 @@
 -- What holds of each command that asks something on the open link.
-use Rattle.std.proofs.Common.{◌≡◌, ℕ, List, [], ◌∷◌, ◌++◌, Bool, true, false, is_some, if◌then◌else◌, Option, Some, None, refl, sym, ◌∙◌, ap, subst, append-nil}
+use Rattle.std.proofs.Common.{◌≡◌, ℕ, List, [], ◌∷◌, Bool, true, false, is_some, if◌then◌else◌, Option, Some, None, refl, ◌∙◌, ap, append-nil}
 use Rattle.nfc_base.specs.declared.event.Event.{Event}
 use Rattle.air_core.specs.Conversation.{LightUp, Note}
 use Rattle.snep_core.specs.Server.{Received}

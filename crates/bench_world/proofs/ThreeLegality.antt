@@ -1,7 +1,6 @@
 -- Reads and writes of Type 3 tags that were obeyed, and what want of memory leaves of one.
-use Rattle.std.proofs.Common.{◌≡◌, ◌↔◌, ◌⊎◌, inl, inr, ℕ, ◌+◌, ◌<◌, List, [], ◌∷◌, ◌++◌, map, Bool, true, false, nat_eq, if◌then◌else◌, Option, Some, None, IsSome, Result, Ok, Err, refl, sym, ◌∙◌, ap, subst, arith}
+use Rattle.std.proofs.Common.{◌≡◌, ◌⊎◌, inl, inr, ℕ, ◌+◌, ◌<◌, List, [], ◌∷◌, ◌++◌, map, Bool, true, false, Option, Some, None, IsSome, Result, Ok, Err, refl, sym, ◌∙◌, ap, subst, arith}
 use Rattle.std.specs.List.{AllByRecursion}
-use Rattle.std.specs.Cmp.Lexicographic.{pointwise}
 use Rattle.std.proofs.lemmas.Bool.{cases_lt}
 use Rattle.std.proofs.lemmas.List.{append-nil}
 use Rattle.nfc_base.specs.declared.event.Event.{Event}
@@ -21,15 +20,11 @@ use Rattle.air_core.proofs.LostField.{breaks-append}
 use Rattle.air_core.proofs.PlainTurns.{noise_append}
 use Rattle.nfca_poll.specs.declared.fault.PollFault.{PollFault}
 use Rattle.nfca_poll.specs.declared.fault.PollFault.TheVariants as faults
-use Rattle.nfca_poll.specs.Enquiry.{Enquiry}
 use Rattle.t3t_tag.specs.Store as three
-use Rattle.t3t_access.specs.declared.fault.T3Fault.{T3Fault}
 use Rattle.t3t_access.specs.declared.fault.T3Fault.TheVariants as fault
 use Rattle.t3t_access.specs.Polling.{picking_f}
 use Rattle.t3t_access.specs.Writing.{first_asked}
-use Rattle.t3t_access.specs.declared.found.Found3.{Found3}
 use Rattle.far_air.specs.Quietly.{NoneHands}
-use Rattle.bench_script.specs.declared.command.Command.{Command}
 use Rattle.bench_script.specs.declared.command.Command.TheVariants.{Read3, Write3}
 use Rattle.bench_script.specs.declared.message.Msg.{Msg}
 use Rattle.bench_script.specs.Messages.{message_of}
@@ -38,20 +33,19 @@ use Rattle.bench_devices.specs.declared.device.Device.TheVariants.{T2, T3, T4, P
 use Rattle.bench_devices.specs.declared.polling.SeenKind.TheVariants as seen
 use Rattle.bench_devices.specs.Answering.{TellsStanding}
 use Rattle.bench_devices.specs.Device.{BenchWorld, air, devices, device_id, device_locks, device_store, device_tech, kind_of}
-use Rattle.bench_devices.specs.Keeping.{AllKeepBut, Changes, EachAsked, IsSound, Kept, Leaves, NoStore, StoreOf, held_by, images_of, kept}
+use Rattle.bench_devices.specs.Keeping.{AllKeepBut, Changes, IsSound, Kept, Leaves, NoStore, StoreOf, held_by, images_of, kept}
 use Rattle.bench_devices.specs.Kinds.{DeviceKind, T2Kind, T3Kind, T4Kind, PeerKind, T5Kind}
-use Rattle.bench_devices.specs.Phases.{AskedPart, AsksTag, IsIdle}
+use Rattle.bench_devices.specs.Phases.{AsksTag, IsIdle}
 use Rattle.bench_devices.specs.Placed.{IfPlaced, OfPlaced, device_with}
 use Rattle.bench_devices.specs.Polling as polls
 use Rattle.bench_devices.specs.Polling.{Followed, Told, asks}
-use Rattle.bench_devices.specs.Sensing.{IsThree, SeekingCut, Seeks, SeeksAt, found_if, from_reset, has_three, seeking, HasSought}
+use Rattle.bench_devices.specs.Sensing.{IsThree, SeekingCut, Seeks, SeeksAt, found_if, has_three, seeking, HasSought}
 use Rattle.bench_devices.specs.ThreeAsking.{then_three, three_due}
-use Rattle.bench_devices.specs.Threes.{FailsThree, KeepsWrite3Law, ReadAsksThree, ReadsThree, ShowsThree, ShowsThreeWrite, ShowsThreeWriteOf, StandsThree, WriteAsksThree, WriteAsksThreeOf, Write3Law, WritesThree, WritesThreeSome, AsksThreeSome}
+use Rattle.bench_devices.specs.Threes.{FailsThree, KeepsWrite3Law, ReadAsksThree, ReadsThree, ShowsThree, ShowsThreeWriteOf, StandsThree, WriteAsksThree, WriteAsksThreeOf, Write3Law, WritesThree, WritesThreeSome, AsksThreeSome}
 use Rattle.bench_devices.proofs.EveryFrame.{IsSoundOne, leaves_behind, leaves_more}
 use Rattle.bench_devices.proofs.Following.{ToldOn, told_on}
-use Rattle.bench_devices.proofs.ImagesJoin.{held_kept, images_still, with_alone}
+use Rattle.bench_devices.proofs.ImagesJoin.{images_still, with_alone}
 use Rattle.bench_devices.proofs.Sensed.{no_three}
-use Rattle.bench_devices.proofs.SelectingKept.{IsHarmless}
 use Rattle.bench_devices.proofs.ThreeLaw.{law_sought, law_still, sought_harmless}
 use Rattle.bench_devices.proofs.ThreeLists.{rest_of}
 use Rattle.bench_devices.proofs.ThreePuts.{puts_rest}

@@ -1,5 +1,5 @@
 -- What a read and a write of a Type 3 tag came to, and the answers that tell it.
-use Rattle.std.proofs.Common.{◌≡◌, ◌⊎◌, inl, inr, ℕ, ◌<◌, List, [], Bool, true, false, Option, Some, None, Result, Ok, Err, refl, sym, ◌∙◌, ap, subst, arith}
+use Rattle.std.proofs.Common.{◌≡◌, inl, inr, ℕ, ◌<◌, List, Bool, true, false, Option, Some, None, Ok, Err, refl, sym, ◌∙◌, ap, subst, arith}
 use Rattle.std.specs.Prelude.{◌≤◌, ◌*◌, ◌==◌, get_or, length}
 use Rattle.nfc_base.specs.declared.tag_link.AskFault.{AskFault}
 use Rattle.nfc_base.specs.declared.tag_link.AskFault.TheVariants as asking
@@ -10,7 +10,6 @@ use Rattle.t3t_tag.specs.Attributes.{message_blocks}
 use Rattle.t3t_tag.specs.Form.{IsSized, IsT3Form, T3Form, is_writable}
 use Rattle.t3t_tag.specs.Store.{attributes}
 use Rattle.t3t_tag.proofs.Forms.{has_one_form}
-use Rattle.t3t_access.specs.declared.fault.T3Fault.{T3Fault}
 use Rattle.t3t_access.specs.declared.fault.T3Fault.TheVariants as fault
 use Rattle.t3t_access.specs.declared.found.Found3.{Found3}
 use Rattle.t3t_access.specs.OwnWriting.{IsTooSmall}

@@ -1,6 +1,5 @@
 -- A read and a write of a Type 3 tag that noise doesn't keep from it answer as the tag stands, and a read behind a write tells what that left.
-use Rattle.std.proofs.Common.{◌≡◌, ◌⊎◌, inl, inr, ℕ, ◌<◌, ◌≤◌, List, [], ◌∷◌, Bool, true, false, Option, Some, None, Result, Ok, Err, refl, sym, ◌∙◌, ap, subst, arith}
-use Rattle.std.specs.List.{AllByRecursion}
+use Rattle.std.proofs.Common.{◌≡◌, ◌⊎◌, inl, inr, ℕ, ◌<◌, ◌≤◌, List, [], ◌∷◌, Bool, true, false, Some, Result, Ok, Err, refl, sym, ◌∙◌, ap, subst, arith}
 use Rattle.nfc_base.specs.declared.event.Event.{Event}
 use Rattle.nfc_base.specs.declared.tag_link.AskFault.{AskFault}
 use Rattle.nfc_base.specs.declared.tag_link.AskFault.TheVariants as asking
@@ -12,11 +11,9 @@ use Rattle.nfca_poll.specs.declared.fault.PollFault.{PollFault}
 use Rattle.nfca_poll.specs.declared.fault.PollFault.TheVariants as faults
 use Rattle.nfca_poll.specs.Inventory.{tries}
 use Rattle.t3t_tag.specs.Form.{IsT3Form, T3Form, Message, Unfinished}
-use Rattle.t3t_access.specs.declared.fault.T3Fault.TheVariants as fault
 use Rattle.t3t_access.specs.OwnWriting.{IsBegun, IsNew}
 use Rattle.t3t_access.specs.Polling.{sensf_req}
 use Rattle.tag_writer.specs.Law.{last_store}
-use Rattle.bench_script.specs.declared.command.Command.{Command}
 use Rattle.bench_script.specs.declared.command.Command.TheVariants.{Read3, Write3}
 use Rattle.bench_script.specs.declared.command.DeviceId.TheVariants.{V}
 use Rattle.bench_script.specs.declared.message.Msg.{Msg}
@@ -26,7 +23,7 @@ use Rattle.bench_devices.specs.declared.polling.SeenKind.TheVariants as seen
 use Rattle.bench_devices.specs.Answering.{TellsStanding}
 use Rattle.bench_devices.specs.Device.{BenchWorld, air, device_id, device_store, kind_of}
 use Rattle.bench_devices.specs.Keeping.{AllKeepBut, Fixed, fixed, held_by, images_of}
-use Rattle.bench_devices.specs.Kinds.{DeviceKind, T3Kind}
+use Rattle.bench_devices.specs.Kinds.{T3Kind}
 use Rattle.bench_devices.specs.Noise.{noisy_tries}
 use Rattle.bench_devices.specs.Placed.{IfPlaced, OfPlaced, device_with}
 use Rattle.bench_devices.specs.Polling.{Told}
@@ -38,9 +35,9 @@ use Rattle.bench_world.specs.declared.entry.Answer.TheVariants as answers
 use Rattle.bench_world.specs.declared.entry.Entry.{Entry}
 use Rattle.bench_world.specs.Answering.{TellsFault, poll_answer}
 use Rattle.bench_world.specs.CompletingThrees.{HadSixBad3, IsPlaced3, IsUndisturbed3, OneOfTwo3IsRead, QuietThreesRead, QuietThreesWrite, QuietThreesWritten, Quiet3IsRead, ThreesRead, ThreesWrite, ThreesWritten, Undisturbed3IsRead, Written3IsRead, Written3IsWhole, Writes3ThenReads}
-use Rattle.bench_world.specs.Legal.{AnswerLaw, FrontOf, Given, LegalStep, Read3Law, State, Writing3Law, changed, state_after, world_after}
+use Rattle.bench_world.specs.Legal.{AnswerLaw, FrontOf, Given, LegalStep, Read3Law, State, Writing3Law, state_after, world_after}
 use Rattle.bench_world.specs.Quiet.{AllPass}
-use Rattle.bench_world.specs.Threes.{IfThree, KeepsStores3, TellsForm3, TellsRead3, TellsWrite3, ThreeEnds, ThreeTells, WriteEnd3, end_told, written_three}
+use Rattle.bench_world.specs.Threes.{KeepsStores3, TellsForm3, TellsRead3, TellsWrite3, ThreeEnds, ThreeTells, end_told}
 use Rattle.bench_world.proofs.Fronts.{field_after}
 use Rattle.bench_world.proofs.HeldOn.{IsAlike, own_found, steps_alike}
 use Rattle.bench_world.proofs.OneAnswer.{one_end}

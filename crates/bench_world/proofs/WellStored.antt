@@ -1,38 +1,35 @@
 -- Each Type 3 tag keeps a store that a new tag may have, through every legal step: a write alone changes one, and leaves such a store
 -- at each time.
-use Rattle.std.proofs.Common.{◌≡◌, ◌⊎◌, inl, inr, ℕ, List, [], ◌∷◌, ◌++◌, map, Bool, true, false, nat_eq, if◌then◌else◌, Option, Some, None, Result, Ok, Err, refl, sym, ◌∙◌, ap, subst}
+use Rattle.std.proofs.Common.{◌≡◌, ℕ, List, [], ◌∷◌, ◌++◌, map, Bool, true, false, nat_eq, if◌then◌else◌, Option, Some, None, refl, sym, ◌∙◌, ap, subst}
 use Rattle.std.specs.List.{AllByRecursion}
 use Rattle.std.specs.Cmp.Lexicographic.{pointwise}
 use Rattle.nfc_base.specs.declared.event.Event.{Event}
-use Rattle.air_core.specs.Conversation.{Note, Over, receptions, replay}
+use Rattle.air_core.specs.Conversation.{Note, Over, replay}
 use Rattle.t3t_tag.specs.Store as three
 use Rattle.nfca_poll.proofs.OneLevel.{pointwise_self}
 use Rattle.t5t_tag.proofs.Bytes.{equal_bytes}
 use Rattle.t3t_access.specs.OwnWriting.{IsBegun, IsNew}
-use Rattle.tag_writer.specs.Law.{Ending, last_store}
+use Rattle.tag_writer.specs.Law.{Ending}
 use Rattle.snep_core.specs.Talk.{Puts, Gets, Finds}
 use Rattle.link_calls.specs.Asking.{LinkAsking, Does, Closes}
 use Rattle.bench_script.specs.declared.command.Command.{Command}
 use Rattle.bench_script.specs.declared.command.Command.TheVariants.{Skip, Fates, PlaceT2, PlaceT3, PlaceT4, PlaceT5, PlacePeer, Lock, Busy, Offer, Remove, Dump, Inbox, Find, Crowd, Poll3, Read, Read3, Write, Write3, Link, Forge, Put, Get, Lookup, Unlink}
-use Rattle.bench_script.specs.declared.command.DeviceId.{DeviceId}
-use Rattle.bench_script.specs.declared.message.Msg.{Msg}
 use Rattle.bench_script.specs.DeviceIds.{bytes_of}
 use Rattle.bench_script.specs.Messages.{message_of}
 use Rattle.bench_devices.specs.declared.device.Device.{Device}
 use Rattle.bench_devices.specs.declared.device.Device.TheVariants.{T2, T3, T4, Peer, T5}
 use Rattle.bench_devices.specs.Device.{BenchWorld, StablePart, air, device_busy, device_id, device_locked, device_store, kind_of, stable_of}
 use Rattle.bench_devices.specs.Kinds.{DeviceKind, T2Kind, T3Kind, T4Kind, PeerKind, T5Kind, IfRead}
-use Rattle.bench_devices.specs.Keeping.{AllKeepBut, AllStayDevices, AreSound, Fixed, IsApart, Kept, fixed, held_by, images_of, kept}
+use Rattle.bench_devices.specs.Keeping.{AllKeepBut, AllStayDevices, AreSound, Fixed, IsApart, Kept, held_by, images_of, kept}
 use Rattle.bench_devices.specs.Placed.{IfPlaced, device_with, with_changed, without}
 use Rattle.bench_devices.specs.Threes.{KeepsWrite3Law}
 use Rattle.bench_devices.specs.Writing.{KeepsWriteLaw}
-use Rattle.bench_world.specs.declared.entry.Answer.{Answer}
 use Rattle.bench_world.specs.declared.entry.Entry.{Entry}
 use Rattle.bench_world.specs.Asked.{asked_on_link}
 use Rattle.bench_world.specs.Calls.{IfLinked, due_asked, due_if}
 use Rattle.bench_world.specs.Forging.{opens_link}
 use Rattle.bench_world.specs.Links.{OpenLink}
-use Rattle.bench_world.specs.Legal.{Accepts, AnswerBy, AnswerLaw, CallLaw, CrowdLaw, FindLaw, ForgeLaw, FrontOf, Given, LegalStep, LinkingLaw, MayPlaceT3, Read3Law, ReadLaw, SenseLaw, State, StoresLaw, Stores3Law, Writing3Law, WritingLaw, begun, changed, due, due_by, state_after, world_after}
+use Rattle.bench_world.specs.Legal.{AnswerBy, AnswerLaw, CallLaw, CrowdLaw, FindLaw, ForgeLaw, FrontOf, Given, LegalStep, LinkingLaw, MayPlaceT3, Read3Law, ReadLaw, SenseLaw, State, Writing3Law, WritingLaw, begun, changed, due, due_by, state_after, world_after}
 use Rattle.bench_world.specs.Threes.{AreWellStored, IfThree, IsWellStored, KeepsStores3, WriteEnd3, end_told}
 use Rattle.bench_world.specs.Writing.{KeepsStores, ending_told}
 use Rattle.bench_world.specs.World.{Stable, WholeWorld, bench_air, stable}
@@ -96,8 +93,7 @@ stored_stays [] (e ∷ es) stay same h = absurd stay
 stored_stays (d ∷ ds) [] stay same h = absurd stay
 stored_stays (d ∷ ds) (e ∷ es) stay same h =
     let one : stable_of e ≡ stable_of d = cc in
-    let rest : map stable_of es ≡ map stable_of ds = cc in
-    (
+    let rest : map stable_of es ≡ map stable_of ds = cc in (
       well_as (kind_of d) (kind_of e) (device_store d) (device_store e) (ap (λ (k : Fixed). k.kind) stay.0.fixed) (ap (λ (k : StablePart). k.store) one) h.0,
       stored_stays ds es stay.1 rest h.1,
     )

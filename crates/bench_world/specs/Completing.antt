@@ -16,7 +16,7 @@ use Rattle.nfca_poll.specs.Crowd.{Each}
 use Rattle.nfcv_poll.specs.Finding.{IsAscending}
 use Rattle.nfcv_poll.specs.Passes.{passes, noise_in}
 use Rattle.nfcv_poll.specs.Tags.{IsOneOf}
-use Rattle.bench_script.specs.declared.command.Command.TheVariants.{Find, Crowd, Poll3, Read, Read3, Write, Write3}
+use Rattle.bench_script.specs.declared.command.Command.TheVariants.{Find, Crowd, Poll3, Read, Write}
 use Rattle.t3t_access.specs.Polling.{sensf_req}
 use Rattle.bench_script.specs.declared.command.DeviceId.{DeviceId}
 use Rattle.bench_script.specs.declared.command.DeviceId.TheVariants.{A, V}

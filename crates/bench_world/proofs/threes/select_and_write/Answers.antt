@@ -1,4 +1,4 @@
-use Rattle.std.proofs.Common.{◌≡◌, ℕ, List, Result, Ok, Err, Some, sym, ap, subst, inl}
+use Rattle.std.proofs.Common.{◌≡◌, ℕ, List, Err, Some, sym, subst}
 use Rattle.air_core.specs.Turn.{moment}
 use Rattle.t3t_access.specs.declared.fault.T3Fault.TheVariants as fault
 use Rattle.bench_script.specs.declared.command.Command.TheVariants.{Write3}

@@ -1,4 +1,4 @@
-use Rattle.std.proofs.Common.{◌≡◌, ℕ, List, Result, Ok, Err, Some, sym, ap, subst}
+use Rattle.std.proofs.Common.{◌≡◌, Result, Ok, Err, Some, sym, ap, subst}
 use Rattle.air_core.specs.Turn.{moment}
 use Rattle.nfca_poll.specs.declared.fault.PollFault.{PollFault}
 use Rattle.t3t_access.specs.declared.polling.Fcrowd.{Fcrowd}
