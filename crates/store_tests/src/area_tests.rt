@@ -187,7 +187,7 @@ fn type_2_messages(rt: HostRuntime) -> Result<(), Fail> {
 
 #[test]
 fn type_2_faults(rt: HostRuntime) -> Result<(), Fail> {
-    let rows: [(&[u8], u8); 11] = [
+    const ROWS: [(&[u8], u8); 11] = [
         (&[0, 0, 0, 0], 1),
         (&[0xE1, 0x20, 6, 0xF0], 2),
         (&[0xE1, 0x10, 6, 0xF0], 3),
@@ -200,7 +200,7 @@ fn type_2_faults(rt: HostRuntime) -> Result<(), Fail> {
         (&[0xE1, 0x10, 6, 0, 3, 0xFF, 0xFF, 0xFF], 7),
         (&[0xE1, 0x10, 6, 0, 5, 0xFF, 0, 0xFF, 3, 0], 7),
     ];
-    for (bytes, fault) in rows {
+    for &(bytes, fault) in &ROWS {
         let held = t2_tag_holds(&rt, 64, bytes)?;
         assert!(rt; is_held(&held, fault, &[]), "at {bytes:?}: {held:?}");
     }
@@ -379,7 +379,7 @@ fn settles_at(rt: &impl Abort, store: &[u8], least: usize) {
 /// The byte that shows a message, a fault or a terminator: with it the walk settles, without it the answer is More.
 #[test]
 fn fronts_settle_by_one_byte(rt: HostRuntime) -> Result<(), Fail> {
-    let rows: [(usize, &[u8]); 7] = [
+    const ROWS: [(usize, &[u8]); 7] = [
         (21, &[3, 3, 0xD0, 0, 0, 0xFE]),
         (18, &[3, 0, 0xFE]),
         (17, &[0xFE]),
@@ -388,7 +388,7 @@ fn fronts_settle_by_one_byte(rt: HostRuntime) -> Result<(), Fail> {
         (20, &[3, 0xFF, 1, 0]),
         (24, &[7, 5, 1, 2, 3, 4, 5, 0xFE]),
     ];
-    for (least, area) in rows {
+    for &(least, area) in &ROWS {
         let store = store(&rt, 64, 16, area)?;
         assert_eq!(rt; store.len(), 64, "at {area:?}");
         settles_at(&rt, &store, least);
@@ -421,14 +421,14 @@ fn walk_goes_on(rt: &impl Abort, store: &[u8]) {
 
 #[test]
 fn walks_go_on(rt: HostRuntime) -> Result<(), Fail> {
-    let rows: [&[u8]; 3] = [
+    const ROWS: [&[u8]; 3] = [
         &[
             0, 2, 3, 0x28, 4, 4, 7, 2, 0xAA, 0xAA, 3, 12, 1, 2, 3, 4, 5, 6, 7, 8, 9, 10, 11, 12,
         ],
         &[2, 3, 0x1C, 4, 4, 0, 0, 0xFE],
         &[3, 0xFF, 0xFF, 0xFF],
     ];
-    for area in rows {
+    for &area in &ROWS {
         walk_goes_on(&rt, &store(&rt, 64, 16, area)?);
     }
     Ok(())

@@ -132,13 +132,13 @@ fn planned_280(rt: &HostRuntime, head: &[u8], count: usize, first: u8) -> Result
 /// The longest message leaves no room for a terminator. The old one was empty, so nothing has to be closed.
 #[test]
 fn the_longest_message(rt: HostRuntime) -> Result<(), Fail> {
-    let rows: [Row; 3] = [
+    const ROWS: [Row; 3] = [
         (0, 5, &[2, 3, 4, 5]),
         (10, 15, &[42, 43, 44, 45]),
         (11, 4, &[3, 46, 0, 1]),
     ];
     let head = [0xE1, 0x10, 6, 0, 3, 0, 0xFE];
-    has_steps(&rt, &planned_64(&rt, &head, 46, 0)?, 12, &rows);
+    has_steps(&rt, &planned_64(&rt, &head, 46, 0)?, 12, &ROWS);
     is_too_long(&rt, &planned_64(&rt, &head, 47, 0)?, 46);
     Ok(())
 }
@@ -146,7 +146,7 @@ fn the_longest_message(rt: HostRuntime) -> Result<(), Fail> {
 /// A length of three bytes lies in two blocks; the first of them is written first and last.
 #[test]
 fn a_length_over_two_blocks(rt: HostRuntime) -> Result<(), Fail> {
-    let rows: [Row; 4] = [
+    const ROWS: [Row; 4] = [
         (0, 5, &[0x35, 3, 0, 0xD0]),
         (1, 6, &[0xFF, 1, 2, 3]),
         (64, 69, &[252, 253, 254, 255]),
@@ -155,7 +155,7 @@ fn a_length_over_two_blocks(rt: HostRuntime) -> Result<(), Fail> {
     let head = [
         0xE1, 0x10, 0x21, 0, 1, 3, 0x90, 0x10, 0x35, 3, 3, 0xD0, 0, 0, 0xFE,
     ];
-    has_steps(&rt, &planned_280(&rt, &head, 255, 1)?, 66, &rows);
+    has_steps(&rt, &planned_280(&rt, &head, 255, 1)?, 66, &ROWS);
     is_too_long(&rt, &planned_280(&rt, &head, 256, 1)?, 255);
     Ok(())
 }
@@ -165,7 +165,7 @@ fn a_length_over_two_blocks(rt: HostRuntime) -> Result<(), Fail> {
 /// that block is written, and the block of the length before it and behind it.
 #[test]
 fn unchanged_blocks_stay(rt: HostRuntime) -> Result<(), Fail> {
-    let cases: [(&[u8], usize, u8, &[Row]); 3] = [
+    const CASES: [(&[u8], usize, u8, &[Row]); 3] = [
         (
             &[0xE1, 0x10, 6, 0, 3, 3, 0xD0, 0, 0, 0xFE],
             0,
@@ -184,7 +184,7 @@ fn unchanged_blocks_stay(rt: HostRuntime) -> Result<(), Fail> {
             ],
         ),
     ];
-    for (head, count, first, rows) in cases {
+    for &(head, count, first, rows) in &CASES {
         let outcome = planned_64(&rt, head, count, first)?;
         has_steps(&rt, &outcome, rows.len(), rows);
     }
@@ -194,7 +194,7 @@ fn unchanged_blocks_stay(rt: HostRuntime) -> Result<(), Fail> {
 /// A memory control TLV reserves the addresses 32 to 35: block 8 is left alone.
 #[test]
 fn reserved_addresses_stay(rt: HostRuntime) -> Result<(), Fail> {
-    let rows: [Row; 4] = [
+    const ROWS: [Row; 4] = [
         (0, 6, &[2, 3, 4, 5]),
         (1, 7, &[6, 7, 8, 9]),
         (2, 9, &[10, 11, 12, 0xFE]),
@@ -204,7 +204,7 @@ fn reserved_addresses_stay(rt: HostRuntime) -> Result<(), Fail> {
         0xE1, 0x10, 6, 0, 2, 3, 0x20, 4, 4, 3, 0, 0xFE, 0, 0, 0, 0, 0, 0, 0, 0, 0xAA, 0xBB, 0xCC,
         0xDD,
     ];
-    has_steps(&rt, &planned_64(&rt, &head, 12, 1)?, 4, &rows);
+    has_steps(&rt, &planned_64(&rt, &head, 12, 1)?, 4, &ROWS);
     is_too_long(&rt, &planned_64(&rt, &head, 38, 1)?, 37);
     Ok(())
 }
@@ -228,7 +228,7 @@ fn planned_t5(rt: &HostRuntime, count: usize, first: u8) -> Result<Outcome, Fail
 /// Blocks of 32 bytes: the message shares one with the container, which stays.
 #[test]
 fn one_block_of_a_type_5_tag(rt: HostRuntime) -> Result<(), Fail> {
-    let rows: [Row; 2] = [
+    const ROWS: [Row; 2] = [
         (
             0,
             0,
@@ -240,7 +240,7 @@ fn one_block_of_a_type_5_tag(rt: HostRuntime) -> Result<(), Fail> {
             b"\xE1\x40\x0F\0\x03\x02\xD1\xD2\xFE\xFE\0\0\0\0\0\0\0\0\0\0\0\0\0\0\0\0\0\0\0\0\0\0",
         ),
     ];
-    has_steps(&rt, &planned_t5(&rt, 2, 0xD1)?, 2, &rows);
+    has_steps(&rt, &planned_t5(&rt, 2, 0xD1)?, 2, &ROWS);
     is_too_long(&rt, &planned_t5(&rt, 119, 0)?, 118);
     Ok(())
 }

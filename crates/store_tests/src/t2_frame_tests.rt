@@ -34,7 +34,7 @@ fn spells_nothing(frame: &Frame) -> bool {
 
 #[test]
 fn other_frames_spell_nothing(rt: HostRuntime) -> Result<(), Fail> {
-    let frames: [(Tech, &[u8], u8); 6] = [
+    const FRAMES: [(Tech, &[u8], u8); 6] = [
         (Tech::A, &[0x5], 4),
         (Tech::A, &[0xA], 5),
         (Tech::A, &[0xA], 0),
@@ -42,7 +42,7 @@ fn other_frames_spell_nothing(rt: HostRuntime) -> Result<(), Fail> {
         (Tech::A, &[0; 15], 0),
         (Tech::A, &[0; 16], 7),
     ];
-    for (tech, bytes, tail) in frames {
+    for &(tech, bytes, tail) in &FRAMES {
         let frame = Frame::part(tech, bytes, tail)?;
         assert!(rt; spells_nothing(&frame), "at {bytes:?} {tail}");
     }

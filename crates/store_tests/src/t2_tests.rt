@@ -45,7 +45,7 @@ fn obeys(
 #[test]
 fn obeys_each_frame(rt: HostRuntime) -> Result<(), Fail> {
     let mut tag = T2Tag::new(addresses(&rt, 64)?)?;
-    let steps: [(&[u8], &[u8], u8); 10] = [
+    const STEPS: [(&[u8], &[u8], u8); 10] = [
         (
             &[0x30, 0],
             &[0, 1, 2, 3, 4, 5, 6, 7, 8, 9, 10, 11, 12, 13, 14, 15],
@@ -73,7 +73,7 @@ fn obeys_each_frame(rt: HostRuntime) -> Result<(), Fail> {
         (&[0x30], &[], 0),
         (&[0xA2, 4, 9, 8, 7, 6, 5], &[], 0),
     ];
-    for (request, answer, tail) in steps {
+    for &(request, answer, tail) in &STEPS {
         obeys(&rt, &mut tag, request, answer, tail)?;
     }
     Ok(())

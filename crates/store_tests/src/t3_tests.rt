@@ -293,7 +293,7 @@ const FRAMES: [(&[u8], &[u8]); 20] = [
 #[test]
 fn hears_frames_by_their_length(rt: HostRuntime) -> Result<(), Fail> {
     let mut tag = tag(rt.alloc(), 14, &ATTRIBUTES)?;
-    for (request, answer) in FRAMES {
+    for &(request, answer) in &FRAMES {
         let told = tag.obey(&frame(request)?);
         assert!(rt; is_answer(&told, answer), "at {request:?}: {told:?}");
     }
@@ -301,20 +301,29 @@ fn hears_frames_by_their_length(rt: HostRuntime) -> Result<(), Fail> {
     Ok(())
 }
 
+/// A tag tells nothing to this frame, and it spells no command.
+fn is_unheard(rt: &impl Abort, tag: &mut T3Tag, other: &Frame) {
+    let told = (tag.obey(other), T3Command::read_from(other));
+    assert_eq!(rt; told, (None, None), "at {other:?}");
+}
+
+/// The same of these bytes in another technology, or with a tail.
+fn are_unheard(rt: &impl Abort, tag: &mut T3Tag, bytes: &[u8]) {
+    for (tech, tail) in [(Tech::A, 0), (Tech::V, 0), (Tech::F, 7)] {
+        if let Ok(other) = Frame::part(tech, bytes, tail) {
+            is_unheard(rt, tag, &other);
+        }
+    }
+}
+
 /// A poll and a Check in another technology or with a tail, and an Update too, tell nothing and change nothing.
 #[test]
 fn hears_whole_frames_of_nfc_f_alone(rt: HostRuntime) -> Result<(), Fail> {
-    let check = addressed(6, &[1, 0x0B, 0, 1, 0x80, 0])?;
     let mut tag = tag(rt.alloc(), 14, &ATTRIBUTES)?;
-    for bytes in [&POLLED[..0], &[6, 0, 0x12, 0xFC, 0, 0], &check, &BEGINS] {
-        for (tech, tail) in [(Tech::A, 0), (Tech::V, 0), (Tech::F, 7)] {
-            let Ok(other) = Frame::part(tech, bytes, tail) else {
-                continue;
-            };
-            assert_eq!(rt; tag.obey(&other), None, "at {tech:?} {tail} {bytes:?}");
-            assert_eq!(rt; T3Command::read_from(&other), None, "at {tech:?} {tail}");
-        }
-    }
+    are_unheard(&rt, &mut tag, &[]);
+    are_unheard(&rt, &mut tag, &[6, 0, 0x12, 0xFC, 0, 0]);
+    are_unheard(&rt, &mut tag, &addressed(6, &[1, 0x0B, 0, 1, 0x80, 0])?);
+    are_unheard(&rt, &mut tag, &BEGINS);
     assert!(rt; tag.store().starts_with(&ATTRIBUTES));
     Ok(())
 }
@@ -357,7 +366,7 @@ const STORES: [(usize, &[u8], bool); 18] = [
 
 #[test]
 fn takes_whole_blocks_that_its_attributes_name(rt: HostRuntime) -> Result<(), Fail> {
-    for (size, head, taken) in STORES {
+    for &(size, head, taken) in &STORES {
         assert_eq!(rt;
             is_taken(rt.alloc(), size, head)?,
             taken,
@@ -386,24 +395,32 @@ fn an_update_of_block_0_may_leave_no_store_of_a_tag(rt: HostRuntime) -> Result<(
     Ok(())
 }
 
+/// What a tag answers to a Check of this block.
+fn checked(tag: &mut T3Tag, block: u8) -> Result<Option<Frame>, Fail> {
+    let request = addressed(6, &[1, 0x0B, 0, 1, 0x80, block])?;
+    Ok(tag.obey(&frame(&request)?))
+}
+
+/// Whether the block behind this one, which a tag has, is refused.
+fn ends_at(rt: &impl Abort, tag: &mut T3Tag, last: u8) -> Result<bool, Fail> {
+    let told = checked(tag, last)?;
+    assert!(rt;
+        told.is_some_and(|answer| answer.view().len() == 29),
+        "at {last}"
+    );
+    let refused = T3Answer::CheckRefused {
+        id: ID,
+        status: 0xFF02,
+    };
+    Ok(checked(tag, last.saturating_add(1))? == Some(refused.to_frame()))
+}
+
 /// The last block of a tag, and the one behind it, of tags of 1, 2 and 256 blocks.
 #[test]
 fn has_as_many_blocks_as_its_store(rt: HostRuntime) -> Result<(), Fail> {
     for (blocks, last, is_next) in [(1usize, 0u8, true), (2, 1, true), (256, 255, false)] {
         let mut tag = T3Tag::new(ID, vec![in rt.alloc(); 0u8; 16 * blocks]?)?;
-        let request = addressed(6, &[1, 0x0B, 0, 1, 0x80, last])?;
-        let told = tag.obey(&frame(&request)?);
-        assert!(rt;
-            told.is_some_and(|answer| answer.view().len() == 29),
-            "at {blocks}"
-        );
-        let request = addressed(6, &[1, 0x0B, 0, 1, 0x80, last.saturating_add(1)])?;
-        let next = tag.obey(&frame(&request)?);
-        let refused = T3Answer::CheckRefused {
-            id: ID,
-            status: 0xFF02,
-        };
-        assert_eq!(rt; next == Some(refused.to_frame()), is_next, "at {blocks}");
+        assert_eq!(rt; ends_at(&rt, &mut tag, last)?, is_next, "at {blocks}");
     }
     Ok(())
 }
@@ -453,20 +470,36 @@ const SPELLED: [(&[u8], bool, bool); 17] = [
     (&[], false, false),
 ];
 
+/// A frame spells a command or none, and a command spells it.
+fn spells_command(rt: &impl Abort, spelled: &Frame, is_command: bool) {
+    match T3Command::read_from(spelled) {
+        Some(command) => {
+            assert!(rt;
+                is_command && command.to_frame() == *spelled,
+                "at {spelled:?}"
+            )
+        }
+        None => assert!(rt; !is_command, "at {spelled:?}"),
+    }
+}
+
+/// A frame spells an answer or none, and an answer spells it.
+fn spells_answer(rt: &impl Abort, spelled: &Frame, is_answer: bool) {
+    match T3Answer::read_from(spelled) {
+        Some(answer) => assert!(rt;
+            is_answer && answer.to_frame() == *spelled,
+            "at {spelled:?}"
+        ),
+        None => assert!(rt; !is_answer, "at {spelled:?}"),
+    }
+}
+
 #[test]
 fn reads_what_is_spelled_and_spells_it_again(rt: HostRuntime) -> Result<(), Fail> {
-    for (bytes, is_command, is_answer) in SPELLED {
+    for &(bytes, is_command, is_answer) in &SPELLED {
         let spelled = frame(bytes)?;
-        let command = T3Command::read_from(&spelled);
-        assert_eq!(rt; command.is_some(), is_command, "at {bytes:?}");
-        if let Some(command) = command {
-            assert!(rt; command.to_frame() == spelled, "at {bytes:?}");
-        }
-        let answer = T3Answer::read_from(&spelled);
-        assert_eq!(rt; answer.is_some(), is_answer, "at {bytes:?}");
-        if let Some(answer) = answer {
-            assert!(rt; answer.to_frame() == spelled, "at {bytes:?}");
-        }
+        spells_command(&rt, &spelled, is_command);
+        spells_answer(&rt, &spelled, is_answer);
     }
     Ok(())
 }

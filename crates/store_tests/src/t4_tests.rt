@@ -57,7 +57,7 @@ fn obeys(rt: &impl Abort, tag: &mut T4Tag, rows: &[Row]) {
 
 #[test]
 fn reads_a_message(rt: HostRuntime) -> Result<(), Fail> {
-    let rows: [Row; 6] = [
+    const ROWS: [Row; 6] = [
         (&SELECT_APPLICATION, &[0x90, 0x00]),
         (&SELECT_CONTAINER, &[0x90, 0x00]),
         (
@@ -75,13 +75,13 @@ fn reads_a_message(rt: HostRuntime) -> Result<(), Fail> {
         ),
     ];
     let mut tag = tag(rt.alloc(), &CONTAINER, 512, &[0x00, 0x03, 0xD0])?;
-    obeys(&rt, &mut tag, &rows);
+    obeys(&rt, &mut tag, &ROWS);
     Ok(())
 }
 
 #[test]
 fn reads_in_pieces_of_fifteen(rt: HostRuntime) -> Result<(), Fail> {
-    let rows: [Row; 8] = [
+    const ROWS: [Row; 8] = [
         (&SELECT_APPLICATION, &[0x90, 0x00]),
         (&SELECT_NDEF, &[0x90, 0x00]),
         (&[0x00, 0xB0, 0x00, 0x00, 0x02], &[0x00, 0x39, 0x90, 0x00]),
@@ -104,7 +104,7 @@ fn reads_in_pieces_of_fifteen(rt: HostRuntime) -> Result<(), Fail> {
         ),
     ];
     let mut tag = tag(rt.alloc(), &SMALL, 59, &[0x00, 0x39, 0xD0])?;
-    obeys(&rt, &mut tag, &rows);
+    obeys(&rt, &mut tag, &ROWS);
     Ok(())
 }
 
@@ -194,21 +194,21 @@ fn guards(rt: &impl Abort, tag: &mut T4Tag, guard: &Guard) {
     let _opened = tag.obey(&SELECT_APPLICATION);
     let _picked = tag.obey(&SELECT_NDEF);
     let updated = tag.obey(&[0x00, 0xD6, 0x00, 0x00, 0x02, 0x00, 0x00]);
-    assert_eq!(rt; updated.as_slice(), guard.3, "at {guard:?}");
     let content = tag.obey(&[0x00, 0xB0, 0x00, 0x00, 0x02]);
-    assert_eq!(rt; content.as_slice(), guard.4, "at {guard:?}");
+    let told = (updated.as_slice(), content.as_slice());
+    assert_eq!(rt; told, (guard.3, guard.4), "at {guard:?}");
 }
 
 #[test]
 fn obeys_its_container(rt: HostRuntime) -> Result<(), Fail> {
-    let rows: [Guard; 5] = [
+    const ROWS: [Guard; 5] = [
         (0x0D, 0x00, 0x00, &[0x90, 0x00], &[0, 0, 0x90, 0x00]),
         (0x02, 0x00, 0x00, &[0x90, 0x00], &[0, 0, 0x90, 0x00]),
         (0x01, 0x00, 0x00, &[0x67, 0x00], &[0, 0, 0x90, 0x00]),
         (0x01, 0x00, 0xFF, &[0x69, 0x82], &[0, 0, 0x90, 0x00]),
         (0x0D, 0x80, 0x00, &[0x90, 0x00], &[0x69, 0x82]),
     ];
-    for guard in &rows {
+    for guard in &ROWS {
         guards(&rt, &mut guarded_tag(rt.alloc(), guard)?, guard);
     }
     Ok(())

@@ -182,7 +182,7 @@ const ROUNDS: [(&[u8], u8); 12] = [
 
 #[test]
 fn its_slot_is_the_nibble_above_the_mask(rt: HostRuntime) -> Result<(), Fail> {
-    for (begin, own) in ROUNDS {
+    for &(begin, own) in &ROUNDS {
         let told = slot(&mut named(rt.alloc(), ID)?, begin)?;
         assert_eq!(rt; told, own, "at {begin:?}");
     }
@@ -212,7 +212,7 @@ fn slot_behind(tag: &mut T5Tag, frame: &[u8]) -> Result<u8, Fail> {
 #[test]
 fn any_other_frame_ends_a_round(rt: HostRuntime) -> Result<(), Fail> {
     let id = [0xE0, 4, 1, 2, 3, 4, 5, 2];
-    for (frame, answer) in INTERRUPTED {
+    for &(frame, answer) in &INTERRUPTED {
         let told = slot_behind(&mut named(rt.alloc(), id)?, frame)?;
         assert_eq!(rt; told, answer, "at {frame:?}");
     }
@@ -242,7 +242,7 @@ fn locked_tag(alloc: Global) -> Result<T5Tag, Fail> {
 
 #[test]
 fn writes_no_locked_block(rt: HostRuntime) -> Result<(), Fail> {
-    let rows: [Row; 7] = [
+    const ROWS: [Row; 7] = [
         (0x21, &[9, 1, 2, 3, 4], &[1, 0x12]),
         (0x21, &[9, 1, 2, 3], &[1, 0x0F]),
         (0x21, &[255, 1, 2, 3, 4], &[1, 0x12]),
@@ -251,21 +251,21 @@ fn writes_no_locked_block(rt: HostRuntime) -> Result<(), Fail> {
         (0x21, &[10, 1, 2, 3, 4], &[0]),
         (0x20, &[9], &[0; 5]),
     ];
-    obeys(&rt, &mut locked_tag(rt.alloc())?, &rows)
+    obeys(&rt, &mut locked_tag(rt.alloc())?, &ROWS)
 }
 
 #[test]
 fn stays_quiet_until_dark(rt: HostRuntime) -> Result<(), Fail> {
     let mut tag = tag(rt.alloc(), 4, 4, &[])?;
     // the command that quiets the tag is itself unanswered; an addressed read is answered still
-    let quiet: [(&[u8], &[u8]); 5] = [
+    const QUIET: [(&[u8], &[u8]); 5] = [
         (&[0x22, 2, 6, 5, 4, 3, 2, 1, 4, 0xE0], &[]),
         (&[0x26, 1, 0], &[]),
         (&[2, 0x20, 0], &[]),
         (&[2], &[]),
         (&[0x22, 0x20, 6, 5, 4, 3, 2, 1, 4, 0xE0, 0], &[0; 5]),
     ];
-    for (request, answer) in quiet {
+    for &(request, answer) in &QUIET {
         hears(&rt, &mut tag, request, answer)?;
     }
     tag.dark();
@@ -339,24 +339,24 @@ const FIRST: [u8; 33] = [
 
 #[test]
 fn reads_and_writes_large_blocks(rt: HostRuntime) -> Result<(), Fail> {
-    let rows: [Row; 3] = [
+    const ROWS: [Row; 3] = [
         (0x21, &WRITTEN, &[0]),
         (0x20, &[255], &READ),
         (0x20, &[0], &FIRST),
     ];
     let mut tag = tag(rt.alloc(), 8192, 32, &[0xE1, 0x40, 0x0F])?;
-    obeys(&rt, &mut tag, &rows)
+    obeys(&rt, &mut tag, &ROWS)
 }
 
 #[test]
 fn reads_many_blocks_of_at_most_256_bytes(rt: HostRuntime) -> Result<(), Fail> {
-    let rows: [Row; 3] = [
+    const ROWS: [Row; 3] = [
         (0x23, &[249, 7], &[0; 257]),
         (0x23, &[0, 8], &[1, 0x0F]),
         (0x23, &[2, 255], &[1, 0x10]),
     ];
     let mut tag = tag(rt.alloc(), 8224, 32, &[0xE1, 0x40, 0x0F])?;
-    obeys(&rt, &mut tag, &rows)
+    obeys(&rt, &mut tag, &ROWS)
 }
 
 /// A tag of 65,536 bytes whose last block is locked.
@@ -370,7 +370,7 @@ fn wide_tag(alloc: Global) -> Result<T5Tag, Fail> {
 
 #[test]
 fn blocks_past_255_are_named_by_two_bytes(rt: HostRuntime) -> Result<(), Fail> {
-    let rows: [Row; 9] = [
+    const ROWS: [Row; 9] = [
         (0x31, &[0, 1, 1, 2, 3, 4], &[0]),
         (0x30, &[0, 1], &[0, 1, 2, 3, 4]),
         (0x20, &[1], &[0, 0, 0, 0, 0]),
@@ -381,7 +381,7 @@ fn blocks_past_255_are_named_by_two_bytes(rt: HostRuntime) -> Result<(), Fail> {
         (0x31, &[0, 0x40, 5, 6, 7], &[1, 0x10]),
         (0x23, &[255, 1], &[0, 0, 0, 0, 0, 1, 2, 3, 4]),
     ];
-    obeys(&rt, &mut wide_tag(rt.alloc())?, &rows)
+    obeys(&rt, &mut wide_tag(rt.alloc())?, &ROWS)
 }
 
 /// A command is sent by this frame, and is this text.
@@ -414,7 +414,7 @@ fn command_comes_back(
 
 #[test]
 fn commands_come_back(rt: HostRuntime) -> Result<(), Fail> {
-    let rows: [(&[u8], &str); 11] = [
+    const ROWS: [(&[u8], &str); 11] = [
         (
             &[0x26, 1, 10, 6, 1],
             "Inventory { mask_bits: 10, mask: [6, 1, 0, 0, 0, 0, 0, 0] }",
@@ -454,7 +454,7 @@ fn commands_come_back(rt: HostRuntime) -> Result<(), Fail> {
             "ReadMany { id: Some([224, 4, 1, 2, 3, 4, 5, 6]), first: 1, more: 13 }",
         ),
     ];
-    for (bytes, text) in rows {
+    for &(bytes, text) in &ROWS {
         command_comes_back(&rt, rt.alloc(), bytes, text)?;
     }
     Ok(())
@@ -462,7 +462,7 @@ fn commands_come_back(rt: HostRuntime) -> Result<(), Fail> {
 
 #[test]
 fn other_frames_spell_no_command(rt: HostRuntime) -> Result<(), Fail> {
-    let rows: [&[u8]; 16] = [
+    const ROWS: [&[u8]; 16] = [
         &[6, 1, 61, 6, 5, 4, 3, 2, 1, 4, 0],
         &[6, 1, 4, 0x16],
         &[2],
@@ -480,7 +480,7 @@ fn other_frames_spell_no_command(rt: HostRuntime) -> Result<(), Fail> {
         &[0x26, 1, 3, 14],
         &[0x26, 1, 8, 6, 5],
     ];
-    for bytes in rows {
+    for &bytes in &ROWS {
         let frame = Frame::whole(Tech::V, bytes)?;
         assert_eq!(rt; T5Command::read_from(&frame), None, "at {bytes:?}");
     }
@@ -507,7 +507,7 @@ fn answer_comes_back(rt: &impl Abort, alloc: Global, bytes: &[u8], text: &str) -
 
 #[test]
 fn answers_come_back(rt: HostRuntime) -> Result<(), Fail> {
-    let rows: [(&[u8], &str); 9] = [
+    const ROWS: [(&[u8], &str); 9] = [
         (
             &[0, 0, 6, 5, 4, 3, 2, 1, 4, 0xE0],
             "Some(Present { id: [224, 4, 1, 2, 3, 4, 5, 6] })",
@@ -521,7 +521,7 @@ fn answers_come_back(rt: HostRuntime) -> Result<(), Fail> {
         (&[2, 0], "None"),
         (&[], "None"),
     ];
-    for (bytes, text) in rows {
+    for &(bytes, text) in &ROWS {
         answer_comes_back(&rt, rt.alloc(), bytes, text)?;
     }
     Ok(())

@@ -18,7 +18,7 @@ fn told(call: Option<CallKind>) -> (&'static str, u8) {
 
 #[test]
 fn calls(rt: HostRuntime) -> Result<(), Fail> {
-    let rows: [(&[u8], u8, (&str, u8)); 10] = [
+    const ROWS: [(&[u8], u8, (&str, u8)); 10] = [
         (&[0x26], 7, ("SENS_REQ", 0)),
         (&[0x52], 7, ("ALL_REQ", 0)),
         (&[0x26], 0, ("none", 0)),
@@ -30,7 +30,7 @@ fn calls(rt: HostRuntime) -> Result<(), Fail> {
         (&[0x95, 0x70, 1, 2, 3, 4], 0, ("none", 0)),
         (&[0x99, 0x20], 0, ("none", 0)),
     ];
-    for (bytes, tail, wanted) in rows {
+    for &(bytes, tail, wanted) in &ROWS {
         let frame = Frame::part(Tech::A, bytes, tail)?;
         assert_eq!(rt; told(CallKind::read_from(&frame)), wanted, "at {bytes:?}");
     }

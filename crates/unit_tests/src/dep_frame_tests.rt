@@ -64,7 +64,7 @@ fn frames(rt: HostRuntime) -> Result<(), Fail> {
 
 #[test]
 fn refusals(rt: HostRuntime) -> Result<(), Fail> {
-    let rows: [(&[u8], u16, DepKind); 16] = [
+    const ROWS: [(&[u8], u16, DepKind); 16] = [
         (&[0xF1, 0x03, 0xD4, 0x0A], 0, DepKind::Start),
         (&[], 0, DepKind::Start),
         (&[0xF0, 0x00], 1, DepKind::Length),
@@ -87,7 +87,7 @@ fn refusals(rt: HostRuntime) -> Result<(), Fail> {
         (&[0xF0, 0x04, 0xD4, 0x0A, 0x00], 4, DepKind::Trailing),
         (&[0xF0, 0x05, 0xD4, 0x06, 0x80, 0x00], 5, DepKind::Trailing),
     ];
-    for (bytes, place, kind) in rows {
+    for &(bytes, place, kind) in &ROWS {
         let refusal = DepRefusal { place, kind };
         assert_eq!(rt; DepFrame::read_from(bytes), Err(refusal), "at {bytes:?}");
     }

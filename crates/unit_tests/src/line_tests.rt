@@ -203,7 +203,7 @@ fn lines(rt: HostRuntime) {
 
 #[test]
 fn lines_with_a_message(rt: HostRuntime) {
-    let rows = [
+    const ROWS: [(&str, u8); 21] = [
         ("write 01020304 -", 0),
         ("write e004010203040506 D00000", 0),
         ("write 01020304 gen:0:0", 0),
@@ -232,12 +232,12 @@ fn lines_with_a_message(rt: HostRuntime) {
         ("write D00000 01020304", 1),
         ("write", 1),
     ];
-    faults(&rt, rt.alloc(), &rows);
+    faults(&rt, rt.alloc(), &ROWS);
 }
 
 #[test]
 fn values(rt: HostRuntime) -> Result<(), Fail> {
-    let rows = [
+    const ROWS: [(&str, &str, &str); 4] = [
         (
             "fates PDLB",
             "fates PDLB",
@@ -251,12 +251,12 @@ fn values(rt: HostRuntime) -> Result<(), Fail> {
         ("find", "find", "Find"),
         ("#find", "", "Skip"),
     ];
-    spell(&rt, rt.alloc(), &rows)
+    spell(&rt, rt.alloc(), &ROWS)
 }
 
 #[test]
 fn values_of_devices(rt: HostRuntime) -> Result<(), Fail> {
-    let rows = [
+    const ROWS: [(&str, &str, &str); 5] = [
         (
             "lock 04112233445566 12",
             "lock 04112233445566 12",
@@ -283,12 +283,12 @@ fn values_of_devices(rt: HostRuntime) -> Result<(), Fail> {
             "Remove { id: V([224, 4, 1, 2, 3, 4, 5, 255]) }",
         ),
     ];
-    spell(&rt, rt.alloc(), &rows)
+    spell(&rt, rt.alloc(), &ROWS)
 }
 
 #[test]
 fn values_with_a_message(rt: HostRuntime) -> Result<(), Fail> {
-    let rows = [
+    const ROWS: [(&str, &str, &str); 2] = [
         (
             "write 04112233445566 d000",
             "write 04112233445566 D000",
@@ -300,7 +300,7 @@ fn values_with_a_message(rt: HostRuntime) -> Result<(), Fail> {
             "Write { id: V([224, 4, 1, 2, 3, 4, 5, 255]), message: Gen { count: 1013, start: 255 } }",
         ),
     ];
-    spell(&rt, rt.alloc(), &rows)
+    spell(&rt, rt.alloc(), &ROWS)
 }
 
 /// Whether a line of so many fates is taken.

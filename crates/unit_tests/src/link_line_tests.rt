@@ -112,7 +112,7 @@ fn lines_of_links(rt: HostRuntime) {
 
 #[test]
 fn values_of_links(rt: HostRuntime) -> Result<(), Fail> {
-    let rows = [
+    const ROWS: [(&str, &str, &str); 4] = [
         (
             "link 080102fF 2175 15",
             "link 080102FF 2175 15",
@@ -130,12 +130,12 @@ fn values_of_links(rt: HostRuntime) -> Result<(), Fail> {
         ),
         ("unlink", "unlink", "Unlink"),
     ];
-    spell(&rt, rt.alloc(), &rows)
+    spell(&rt, rt.alloc(), &ROWS)
 }
 
 #[test]
 fn values_on_links(rt: HostRuntime) -> Result<(), Fail> {
-    let rows = [
+    const ROWS: [(&str, &str, &str); 2] = [
         (
             "get 65536 6b31",
             "get 65536 6B31",
@@ -147,5 +147,5 @@ fn values_on_links(rt: HostRuntime) -> Result<(), Fail> {
             "Lookup { name: Items { owned: [117, 114, 110, 58, 110, 102, 99, 58, 115, 110, 58, 115, 110, 101, 112] } }",
         ),
     ];
-    spell(&rt, rt.alloc(), &rows)
+    spell(&rt, rt.alloc(), &ROWS)
 }

@@ -19,12 +19,12 @@ fn counted_from(
 
 #[test]
 fn counted_bytes_begin_again_at_0(rt: HostRuntime) -> Result<(), Fail> {
-    let rows: [(u32, u8, usize, &[u8]); 3] = [
+    const ROWS: [(u32, u8, usize, &[u8]); 3] = [
         (0, 9, 0, &[]),
         (4, 254, 0, &[254, 255, 0, 1]),
         (65536, 3, 65535, &[2]),
     ];
-    for (count, start, skipped, wanted) in rows {
+    for &(count, start, skipped, wanted) in &ROWS {
         let (size, end) = counted_from(rt.alloc(), count, start, skipped)?;
         assert_eq!(rt;
             (size, end.as_slice()),

@@ -173,7 +173,7 @@ fn fault_of(alloc: Global, bytes: &[u8]) -> Option<PduFault> {
 
 #[test]
 fn faults_have_their_places(rt: HostRuntime) -> Result<(), Fail> {
-    let rows: [(&[u8], u16, PduKind); 12] = [
+    const ROWS: [(&[u8], u16, PduKind); 12] = [
         (&[], 0, PduKind::Short),
         (&[0x11], 1, PduKind::Short),
         (&[0x13, 0x20], 2, PduKind::Short),
@@ -191,7 +191,7 @@ fn faults_have_their_places(rt: HostRuntime) -> Result<(), Fail> {
         ),
         (&[0x81, 0xC4], 2, PduKind::Short),
     ];
-    for (bytes, place, kind) in rows {
+    for &(bytes, place, kind) in &ROWS {
         let wanted = PduFault::Refused { place, kind };
         assert_eq!(rt; fault_of(rt.alloc(), bytes), Some(wanted), "at {bytes:?}");
     }
@@ -236,7 +236,7 @@ fn are_written(rt: &impl Abort, miu: u16, wks: u16, bytes: &[u8]) {
 
 #[test]
 fn general_bytes_are_written(rt: HostRuntime) {
-    let rows: [(u16, u16, &[u8]); 2] = [
+    const ROWS: [(u16, u16, &[u8]); 2] = [
         (128, 0x0003, b"Ffm\x01\x01\x13\x03\x02\x00\x03"),
         (
             2175,
@@ -244,7 +244,7 @@ fn general_bytes_are_written(rt: HostRuntime) {
             b"Ffm\x01\x01\x13\x02\x02\x07\xFF\x03\x02\x00\x13",
         ),
     ];
-    for (miu, wks, bytes) in rows {
+    for &(miu, wks, bytes) in &ROWS {
         are_written(&rt, miu, wks, bytes);
     }
 }

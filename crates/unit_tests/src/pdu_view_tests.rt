@@ -21,7 +21,7 @@ fn seen_so(rt: &impl Abort, alloc: Global, rows: &[(&[u8], &str)]) -> Result<(),
 
 #[test]
 fn payloads_are_seen_in_place(rt: HostRuntime) -> Result<(), Fail> {
-    let rows: [(&[u8], &str); 13] = [
+    const ROWS: [(&[u8], &str); 13] = [
         (&[0x00, 0x00], "Ok(Symm)"),
         (
             &[0x11, 0x20],
@@ -60,7 +60,7 @@ fn payloads_are_seen_in_place(rt: HostRuntime) -> Result<(), Fail> {
             "Ok(Agf([0, 2, 17, 32, 0, 4, 19, 32, 0, 1]))",
         ),
     ];
-    seen_so(&rt, rt.alloc(), &rows)?;
+    seen_so(&rt, rt.alloc(), &ROWS)?;
     let linux = PduView::Connect {
         dsap: 1,
         ssap: 32,
@@ -105,7 +105,7 @@ fn payloads_of_another_stack_are_seen(rt: HostRuntime) -> Result<(), Fail> {
 
 #[test]
 fn a_view_tells_the_first_fault(rt: HostRuntime) {
-    let rows: [(&[u8], u16, PduKind); 12] = [
+    const ROWS: [(&[u8], u16, PduKind); 12] = [
         (&[0x11], 1, PduKind::Short),
         (&[0x13, 0x20], 2, PduKind::Short),
         (&[0x00, 0x40], 0, PduKind::Ptype),
@@ -130,7 +130,7 @@ fn a_view_tells_the_first_fault(rt: HostRuntime) {
             PduKind::Short,
         ),
     ];
-    for (bytes, place, kind) in rows {
+    for &(bytes, place, kind) in &ROWS {
         assert_eq!(rt;
             view(bytes),
             Err(PduRefusal { place, kind }),
@@ -169,7 +169,7 @@ fn walks(alloc: Global, bytes: &[u8]) -> Result<String, Fail> {
 /// A parameter of an unknown type is skipped.
 #[test]
 fn walks_give_all_that_was_checked(rt: HostRuntime) -> Result<(), Fail> {
-    let rows: [(&[u8], &str); 3] = [
+    const ROWS: [(&[u8], &str); 3] = [
         // of the name "urn:nfc:sn:snep"
         (
             LINUX_CONNECT,
@@ -183,7 +183,7 @@ fn walks_give_all_that_was_checked(rt: HostRuntime) -> Result<(), Fail> {
         ),
         (&[0x11, 0x20, 0x63, 1, 7], ""),
     ];
-    for (bytes, wanted) in rows {
+    for &(bytes, wanted) in &ROWS {
         let text = walks(rt.alloc(), bytes)?;
         assert_eq!(rt; text.as_str(), wanted, "at {bytes:?}");
     }
@@ -193,7 +193,7 @@ fn walks_give_all_that_was_checked(rt: HostRuntime) -> Result<(), Fail> {
 /// Of repeated parameters the last counts.
 #[test]
 fn a_connect_is_heard_whole(rt: HostRuntime) -> Result<(), Fail> {
-    let rows: [(&[u8], Option<u16>, Option<u8>, Option<&[u8]>); 3] = [
+    const ROWS: [(&[u8], Option<u16>, Option<u8>, Option<&[u8]>); 3] = [
         (
             LINUX_CONNECT,
             Some(0x7FF),
@@ -215,7 +215,7 @@ fn a_connect_is_heard_whole(rt: HostRuntime) -> Result<(), Fail> {
             Some(&[]),
         ),
     ];
-    for (bytes, miux, rw, name) in rows {
+    for &(bytes, miux, rw, name) in &ROWS {
         let Ok(PduView::Connect { params, .. }) = view(bytes) else {
             return Err(Fail::new("another PDU"));
         };
@@ -259,7 +259,7 @@ fn changes_read_alike(rt: &impl Abort, alloc: Global, bytes: &[u8]) -> Result<()
 
 #[test]
 fn changed_bytes_are_read_alike(rt: HostRuntime) -> Result<(), Fail> {
-    let rows: [&[u8]; 10] = [
+    const ROWS: [&[u8]; 10] = [
         &[0x00, 0x00],
         LINUX_CONNECT,
         &[0x81, 0x84, 0x02, 0x02, 0x07, 0xFF, 0x05, 0x01, 0x0F],
@@ -271,7 +271,7 @@ fn changed_bytes_are_read_alike(rt: HostRuntime) -> Result<(), Fail> {
         &[0x10, 0xE0, 0xAA],
         &[0x00, 0x80, 0, 2, 0x11, 0x20, 0, 4, 0x13, 0x20, 0x00, 0x01],
     ];
-    for bytes in rows {
+    for &bytes in &ROWS {
         changes_read_alike(&rt, rt.alloc(), bytes)?;
     }
     Ok(())

@@ -5,7 +5,7 @@ use std::test::Fail;
 
 #[test]
 fn lines_of_peers(rt: HostRuntime) {
-    let rows = [
+    const ROWS: [(&str, u8); 25] = [
         ("place peer 01020304 0 128 1 1024", 0),
         ("place peer 00010203040506070809 3 2175 15 65536", 0),
         ("place peer 01020304 4 128 1 1024", 1),
@@ -32,12 +32,12 @@ fn lines_of_peers(rt: HostRuntime) {
         ("inbox 0102030405", 1),
         ("inbox 01020304 1", 1),
     ];
-    faults(&rt, rt.alloc(), &rows);
+    faults(&rt, rt.alloc(), &ROWS);
 }
 
 #[test]
 fn values_of_peers(rt: HostRuntime) -> Result<(), Fail> {
-    let rows = [
+    const ROWS: [(&str, &str, &str); 3] = [
         (
             "place peer 080102fF 3 2175 15 65536",
             "place peer 080102FF 3 2175 15 65536",
@@ -54,5 +54,5 @@ fn values_of_peers(rt: HostRuntime) -> Result<(), Fail> {
             "Inbox { id: A(Ident { bytes: [8, 1, 2, 255] }) }",
         ),
     ];
-    spell(&rt, rt.alloc(), &rows)
+    spell(&rt, rt.alloc(), &ROWS)
 }

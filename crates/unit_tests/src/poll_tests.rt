@@ -345,7 +345,7 @@ fn calls_tell_dark(rt: &impl Abort, field: &mut Field<Front<Card>>) {
 
 #[test]
 fn faults(rt: HostRuntime) -> Result<(), Fail> {
-    let rows: [(&[Fate], PollFault); 6] = [
+    const ROWS: [(&[Fate], PollFault); 6] = [
         (&[L, L, D, L], PollFault::Nobody),
         (&[P, L, L, L, L], PollFault::Nobody),
         (&[P, D, L], PollFault::Disturbed),
@@ -353,7 +353,7 @@ fn faults(rt: HostRuntime) -> Result<(), Fail> {
         (&[L, L, B], PollFault::FieldLost),
         (&[P, P, P, B], PollFault::FieldLost),
     ];
-    for (fates, fault) in rows {
+    for &(fates, fault) in &ROWS {
         let told = resolved(rt.alloc(), fates)?;
         assert_eq!(rt; told.err(), Some(fault), "at {fates:?}");
     }
@@ -537,7 +537,7 @@ const NOISE: PollFault = PollFault::Disturbed;
 
 #[test]
 fn rounds_under_noise(rt: HostRuntime) -> Result<(), Fail> {
-    let rows: [(&[Fate], Rounds, Result<Kind, PollFault>); 9] = [
+    const ROWS: [(&[Fate], Rounds, Result<Kind, PollFault>); 9] = [
         (&[], (Ok(2), 1, 2), Ok(Kind::T4)),
         (&[P, P, P, P, P, P, P, P, L], (Ok(2), 2, 4), Ok(Kind::T4)),
         (&[P, P, P, P, P, D], (Ok(2), 2, 2), Ok(Kind::T4)),
@@ -556,7 +556,7 @@ fn rounds_under_noise(rt: HostRuntime) -> Result<(), Fail> {
         (&[P, P, P, P, P, P, P, P, B], (Err(LOST), 1, 1), Err(LOST)),
         (&[P, P, P, D, L, B], (Err(LOST), 2, 0), Err(LOST)),
     ];
-    for (fates, found, picked) in rows {
+    for &(fates, found, picked) in &ROWS {
         assert_eq!(rt; noisy(rt.alloc(), fates)?, (found, picked), "at {fates:?}");
     }
     Ok(())
@@ -767,7 +767,7 @@ fn inventories(rt: HostRuntime) -> Result<(), Fail> {
     const BAD: PollFault = PollFault::BadAnswer;
     const NOT_FOUND: PollFault = PollFault::NotFound;
     // the devices, the fates, and the inventory
-    let rows: [(&[u8], &[Fate], Inventory); 7] = [
+    const ROWS: [(&[u8], &[Fate], Inventory); 7] = [
         (&[6], &[], (Ok(Vcrowd::One(PRESENT)), Ok(()))),
         (&[6, 7], &[], (Ok(Vcrowd::Crowd), Ok(()))),
         (&[], &[], (Ok(Vcrowd::Nobody), Err(NOT_FOUND))),
@@ -776,7 +776,7 @@ fn inventories(rt: HostRuntime) -> Result<(), Fail> {
         (&[6], &[L, L, L, P, D], (Err(NOISE), Ok(()))),
         (&[6], &[L, L, L, L], (Ok(Vcrowd::Nobody), Err(NOT_FOUND))),
     ];
-    for (lows, fates, wanted) in rows {
+    for &(lows, fates, wanted) in &ROWS {
         let told = inventory(rt.alloc(), lows, fates)?;
         assert_eq!(rt; told, wanted, "at {lows:?}, {fates:?}");
     }

@@ -103,7 +103,7 @@ fn read_lines(
 
 #[test]
 fn lines_are_cut_at_lf_alone(rt: HostRuntime) -> Result<(), Fail> {
-    let texts: [(&[u8], &[u8]); 6] = [
+    const TEXTS: [(&[u8], &[u8]); 6] = [
         (b"", b""),
         (b"\n", b"\n"),
         (b"a", b"a\n"),
@@ -114,7 +114,7 @@ fn lines_are_cut_at_lf_alone(rt: HostRuntime) -> Result<(), Fail> {
             b"a line of more than seven bytes\n",
         ),
     ];
-    for (text, lines) in texts {
+    for &(text, lines) in &TEXTS {
         for size in SIZES {
             read_lines(&rt, rt.alloc(), text, (size, 0), lines, Ok(false))?;
         }

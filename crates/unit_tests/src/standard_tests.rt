@@ -59,13 +59,13 @@ impl Write for Narrow {
 #[test]
 fn a_narrow_writer_takes_pieces_and_fails(rt: HostRuntime) {
     let mut sink = StdSink::new(Narrow { writes: 0 });
-    let writes: [(&[u8], Result<(), Failed>); 4] = [
+    const WRITES: [(&[u8], Result<(), Failed>); 4] = [
         (b"abcd", Ok(())),
         (b"ef", Err(Failed)),
         (b"ef", Ok(())),
         (b"g", Err(Failed)),
     ];
-    for (bytes, outcome) in writes {
+    for &(bytes, outcome) in &WRITES {
         assert_eq!(rt; write_all(&mut sink, bytes), outcome);
     }
     assert_eq!(rt; sink.write(b""), Ok(0));

@@ -32,7 +32,7 @@ fn is_read_and_written(
 
 #[test]
 fn digits_of_either_case_are_written_in_upper_case(rt: HostRuntime) -> Result<(), Fail> {
-    let rows = [
+    const ROWS: [(&str, &str); 18] = [
         ("# find", ""),
         ("fates P", "fates P"),
         ("fates PDLBBLDP", "fates PDLBBLDP"),
@@ -67,7 +67,7 @@ fn digits_of_either_case_are_written_in_upper_case(rt: HostRuntime) -> Result<()
             "write E00401020304050F gen:65536:255",
         ),
     ];
-    for (lower, upper) in rows {
+    for &(lower, upper) in &ROWS {
         is_read_and_written(&rt, rt.alloc(), lower, upper)?;
     }
     Ok(())
