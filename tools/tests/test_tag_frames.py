@@ -462,7 +462,8 @@ class Type3Frames(unittest.TestCase):
         self.assertEqual(last_told(self.FOUND[0], "* 1201010203/6 pass"), "SENSF_RES, clash behind 38 common bits")
 
     def test_what_is_no_frame_of_them(self) -> None:
-        for request in ("070012FC0000", "060012FC", "11060102030405060708010B00018000", "10060102030405060708010B00028000"):
+        lengths = ("11060102030405060708010B00018000", "10060102030405060708010B00028000")
+        for request in ("070012FC0000", "060012FC", *lengths):
             self.assertEqual(last_told(f"> {request} pass"), "?", request)
         for answer in ("11010102030405060708000000000000", "120201020304050607080000000000000000"):
             self.assertEqual(last_told(self.FOUND[0], f"< {answer} pass"), "?", answer)
