@@ -91,10 +91,10 @@ const POLLED: [(bool, &[Fate], Result<Fcrowd, PollFault>, usize); 6] = [
 
 #[test]
 fn what_polling_a_field_tells(rt: HostRuntime) -> Result<(), Fail> {
-    for (both, fates, told, sent) in POLLED {
+    for &(both, fates, told, sent) in &POLLED {
         let mut field = field_of(rt.alloc(), both, fates)?;
-        assert_eq!(rt; poll_three(&mut field), told, "{both} {fates:?}");
-        assert_eq!(rt; transmissions(field.trace()), sent, "{both} {fates:?}");
+        let outcome = (poll_three(&mut field), transmissions(field.trace()));
+        assert_eq!(rt; outcome, (told, sent), "{both} {fates:?}");
     }
     Ok(())
 }
@@ -155,18 +155,11 @@ const READ: [(bool, &[Fate], [u8; 8], Told, usize); 9] = [
 
 #[test]
 fn what_reading_in_a_field_tells(rt: HostRuntime) -> Result<(), Fail> {
-    for (both, fates, id, told, sent) in READ {
+    for &(both, fates, id, told, sent) in &READ {
         let mut field = field_of(rt.alloc(), both, fates)?;
-        assert_eq!(rt;
-            read(rt.alloc(), &mut field, id)?,
-            told,
-            "{both} {fates:?} {id:?}"
-        );
-        assert_eq!(rt;
-            transmissions(field.trace()),
-            sent,
-            "{both} {fates:?} {id:?}"
-        );
+        let outcome = read(rt.alloc(), &mut field, id)?;
+        let outcome = (outcome, transmissions(field.trace()));
+        assert_eq!(rt; outcome, (told, sent), "{both} {fates:?} {id:?}");
     }
     Ok(())
 }
@@ -251,23 +244,12 @@ const WRITTEN: [Writing; 5] = [
 
 #[test]
 fn what_writing_in_a_field_leaves(rt: HostRuntime) -> Result<(), Fail> {
-    for (both, fates, id, told, first, second) in WRITTEN {
+    for &(both, fates, id, told, first, second) in &WRITTEN {
         let mut field = field_of(rt.alloc(), both, fates)?;
-        assert_eq!(rt;
-            write(rt.alloc(), &mut field, id, &MESSAGE)?,
-            told,
-            "{both} {fates:?} {id:?}"
-        );
-        assert_eq!(rt;
-            held(field.listeners().first()),
-            first,
-            "{both} {fates:?} {id:?}"
-        );
-        assert_eq!(rt;
-            held(field.listeners().get(1)),
-            second,
-            "{both} {fates:?} {id:?}"
-        );
+        let outcome = write(rt.alloc(), &mut field, id, &MESSAGE)?;
+        let tags = field.listeners();
+        let outcome = (outcome, held(tags.first()), held(tags.get(1)));
+        assert_eq!(rt; outcome, (told, first, second), "{both} {fates:?} {id:?}");
     }
     Ok(())
 }

@@ -86,7 +86,7 @@ fn opens(
 
 #[test]
 fn a_link_is_opened_through_noise(rt: HostRuntime) -> Result<(), Fail> {
-    let rows: [(&[Fate], Option<EndCause>, usize); 6] = [
+    const ROWS: [(&[Fate], Option<EndCause>, usize); 6] = [
         (&[], None, 2),
         (&[Fate::Lose], None, 3),
         (&[Fate::Pass, Fate::Lose], None, 4),
@@ -94,7 +94,7 @@ fn a_link_is_opened_through_noise(rt: HostRuntime) -> Result<(), Fail> {
         (&[Fate::Pass, Fate::Break], Some(EndCause::FieldLost), 2),
         (&[Fate::Lose; 6], Some(EndCause::SixBad), 6),
     ];
-    for (fates, cause, sent) in rows {
+    for &(fates, cause, sent) in &ROWS {
         opens(&rt, rt.alloc(), fates, cause, sent)?;
     }
     Ok(())

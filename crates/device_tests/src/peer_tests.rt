@@ -65,7 +65,7 @@ const LINKED: &[Step] = &[
 
 #[test]
 fn link_to_a_peer_takes_every_frame(rt: HostRuntime) -> Result<(), Fail> {
-    let parts: [&[Step]; 8] = [
+    const PARTS: [&[Step]; 8] = [
         &[Light, Hears(ATR_REQ, 0, &[])],
         SELECTION,
         &[SLP_REQ, SENS_REQ],
@@ -76,7 +76,7 @@ fn link_to_a_peer_takes_every_frame(rt: HostRuntime) -> Result<(), Fail> {
         SELECTION,
     ];
     let mut device = peer(&[8, 1, 2, 3], 3, 128)?;
-    goes_through(&rt, rt.alloc(), &mut device, &parts)
+    goes_through(&rt, rt.alloc(), &mut device, &PARTS)
 }
 
 /// A field of a peer and a tag.

@@ -72,14 +72,11 @@ const FOUND: [(&[u8], &[Fate], Result<Fcrowd, PollFault>, usize); 9] = [
 
 #[test]
 fn what_a_search_for_type_3_tags_finds(rt: HostRuntime) -> Result<(), Fail> {
-    for (ends, fates, found, sent) in FOUND {
+    for &(ends, fates, found, sent) in &FOUND {
         let mut field = tags(rt.alloc(), ends, fates)?;
-        assert_eq!(rt; poll_f(&mut field), found, "{ends:?} {fates:?}");
-        assert_eq!(rt;
-            field.trace().len(),
-            sent.saturating_add(1),
-            "{ends:?} {fates:?}"
-        );
+        let outcome = (poll_f(&mut field), field.trace().len());
+        let wanted = (found, sent.saturating_add(1));
+        assert_eq!(rt; outcome, wanted, "{ends:?} {fates:?}");
     }
     Ok(())
 }
@@ -98,7 +95,7 @@ const SOUGHT: [(&[u8], &[Fate], Result<(), PollFault>); 8] = [
 
 #[test]
 fn what_seeking_a_type_3_tag_comes_to(rt: HostRuntime) -> Result<(), Fail> {
-    for (ends, fates, told) in SOUGHT {
+    for &(ends, fates, told) in &SOUGHT {
         let mut field = tags(rt.alloc(), ends, fates)?;
         assert_eq!(rt;
             pick_f(&mut field, [1, 2, 3, 4, 5, 6, 7, 8]),

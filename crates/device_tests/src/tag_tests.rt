@@ -123,7 +123,7 @@ fn type_4_tag_sleeps_without_a_link(rt: HostRuntime) -> Result<(), Fail> {
 #[test]
 fn link_to_a_type_4_tag_takes_every_frame(rt: HostRuntime) -> Result<(), Fail> {
     let alloc = rt.alloc();
-    let parts: [&[Step]; 5] = [
+    const PARTS: [&[Step]; 5] = [
         &[CALL_IN_THE_DARK, Light, Hears(&[0xE0, 0x80], 0, &[])],
         SELECTION,
         &[RATS, SLP_REQ, SELECT, DESELECT, SENS_REQ],
@@ -135,5 +135,5 @@ fn link_to_a_type_4_tag_takes_every_frame(rt: HostRuntime) -> Result<(), Fail> {
             CALL_IN_THE_DARK,
         ],
     ];
-    goes_through(&rt, alloc, &mut type_4_tag(alloc)?, &parts)
+    goes_through(&rt, alloc, &mut type_4_tag(alloc)?, &PARTS)
 }

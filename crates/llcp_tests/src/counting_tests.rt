@@ -77,7 +77,7 @@ fn gives_nothing(rt: &impl Abort, alloc: Global, end: Counted<Notes>) -> Result<
 fn payloads_have_the_given_numbers_and_then_as_many_as_fit(rt: HostRuntime) -> Result<(), Fail> {
     let alloc = rt.alloc();
     let mut end = counted(&rt, alloc, &[1, 2])?;
-    let rows: [(&[u8], &[u8]); 3] = [
+    const ROWS: [(&[u8], &[u8]); 3] = [
         (&FIVE, &[0x81, 0x84]),
         (
             &SYMM,
@@ -88,7 +88,7 @@ fn payloads_have_the_given_numbers_and_then_as_many_as_fit(rt: HostRuntime) -> R
             &[0x00, 0x80, 0x00, 0x02, 0x8D, 0x84, 0x00, 0x02, 0x91, 0x84],
         ),
     ];
-    replies_by(&rt, alloc, &mut end, &rows)?;
+    replies_by(&rt, alloc, &mut end, &ROWS)?;
     gives_nothing(&rt, alloc, end)
 }
 

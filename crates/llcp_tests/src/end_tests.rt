@@ -162,7 +162,7 @@ fn answers_nothing(rt: &impl Abort, alloc: Global, llc: &mut Llc<Notes>) -> Resu
 
 /// The replies of a new end at SAP 4, one after the other.
 fn replies_of(rt: &impl Abort, alloc: Global, llc: &mut Llc<Notes>) -> Result<(), Fail> {
-    let rows: [(&[u8], &[u8]); 8] = [
+    const ROWS: [(&[u8], &[u8]); 8] = [
         (&[0x11, 0x20, 0x05], &[0, 0]),
         (&[0x11], &[0, 0]),
         (
@@ -178,7 +178,7 @@ fn replies_of(rt: &impl Abort, alloc: Global, llc: &mut Llc<Notes>) -> Result<()
         (&[0x13, 0x21, 0x00, 0xBB], &[0x87, 0x44, 0x01]),
         (&[0x13, 0x60, 0x01], &[0x81, 0xC4, 0x01]),
     ];
-    replies_by(rt, alloc, llc, &rows)?;
+    replies_by(rt, alloc, llc, &ROWS)?;
     answers_nothing(rt, alloc, llc)
 }
 
@@ -191,7 +191,7 @@ fn replies(rt: HostRuntime) -> Result<(), Fail> {
 #[test]
 fn units_of_three_clients_and_their_windows(rt: HostRuntime) -> Result<(), Fail> {
     let alloc = rt.alloc();
-    let rows: [(&[u8], &[u8]); 3] = [
+    const ROWS: [(&[u8], &[u8]); 3] = [
         (
             &[
                 0x00, 0x80, 0x00, 0x02, 0x11, 0x20, 0x00, 0x02, 0x11, 0x21, 0x00, 0x02, 0x11, 0x22,
@@ -215,7 +215,7 @@ fn units_of_three_clients_and_their_windows(rt: HostRuntime) -> Result<(), Fail>
         // the service has no unit left: an acknowledgement is owed
         (&[0x13, 0x20, 0x01, 0xAA], &[0x83, 0x44, 0x01]),
     ];
-    replies_by(&rt, alloc, &mut sending_server(&rt, alloc, 5)?, &rows)
+    replies_by(&rt, alloc, &mut sending_server(&rt, alloc, 5)?, &ROWS)
 }
 
 /// An AGF of seventeen PDUs, each of which a DM answers.

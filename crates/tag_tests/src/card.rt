@@ -2,12 +2,14 @@
 
 ghost use Rattle.std.specs.Prelude.{◌≡◌, ℕ, List, Bool, Option, [], None, Some, true, false};
 ghost use Rattle.nfc_base.specs.Signal.{Signal};
-ghost use Rattle.nfc_base.specs.TagLinks.{TagKind, Type2, Type4, Type5, TagState, TagStep, plain_state};
+ghost use Rattle.nfc_base.specs.TagLinks.{TagKind, Type2, Type3, Type4, Type5, TagState, TagStep, plain_state};
+ghost use Rattle.t3t_tag.specs.Linked.{t3_step};
 ghost use Rattle.tag_reader.specs.Files.{shown, t4_link_step};
 ghost use Rattle.tag_reader.specs.Kinds.{t2_step, t5_step};
 
 use nfc_base::{Frame, Tech};
 use t2t_tag::T2Tag;
+use t3t_tag::T3Tag;
 use t4t_tag::T4Tag;
 use t5t_tag::T5Tag;
 
@@ -39,6 +41,20 @@ impl Card for T2Tag {
     ghost step = { λ t. t2_step t.locked };
 
     #[tactic(auto, using(tag_reader::proofs::Cards::t2_same))]
+    fn hear(&mut self, command: &Frame) -> Option<Frame> {
+        self.obey(command)
+    }
+}
+
+impl Card for T3Tag {
+    ghost kind = { λ _. Type3 };
+
+    ghost identifier = { λ t. t.id };
+
+    ghost state = { λ t. plain_state t.store };
+
+    ghost step = { λ t. t3_step t.id t.locked };
+
     fn hear(&mut self, command: &Frame) -> Option<Frame> {
         self.obey(command)
     }

@@ -114,13 +114,13 @@ fn an_update_brings_255_bytes_at_most(rt: HostRuntime) -> Result<(), Fail> {
 #[test]
 fn an_update_that_changes_no_length_is_left_out(rt: HostRuntime) -> Result<(), Fail> {
     // the old message, the new one, and how many updates stand for it
-    let cases: [(&[u8], &[u8], usize); 4] = [
+    const CASES: [(&[u8], &[u8], usize); 4] = [
         (&[0, 0], &[], 0),
         (&OLD, &[], 1),
         (&[0, 0], &[1, 2, 3], 2),
         (&OLD, &[1, 2, 3], 3),
     ];
-    for (old, message, updates) in cases {
+    for &(old, message, updates) in &CASES {
         let row = Row {
             message,
             told: Ok(()),

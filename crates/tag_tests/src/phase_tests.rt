@@ -57,7 +57,7 @@ fn leaves(
 #[test]
 fn a_caller_may_stop_behind_each_phase(rt: HostRuntime) -> Result<(), Fail> {
     // the phases, the commands that are answered, what the tag holds then, and its blocks from the length's on
-    let rows: [(u8, usize, &[u8], [u8; 12]); 4] = [
+    const ROWS: [(u8, usize, &[u8], [u8; 12]); 4] = [
         (
             0,
             4,
@@ -68,7 +68,7 @@ fn a_caller_may_stop_behind_each_phase(rt: HostRuntime) -> Result<(), Fail> {
         (2, 7, &[], [3, 0, 0xD0, 0, 9, 9, 9, 9, 9, 9, 9, 0xFE]),
         (3, 8, &NEW, [3, 9, 9, 9, 9, 9, 9, 9, 9, 9, 9, 0xFE]),
     ];
-    for (phases, answered, message, blocks) in &rows {
+    for (phases, answered, message, blocks) in &ROWS {
         leaves(&rt, rt.alloc(), (*phases, *answered), message, blocks)?;
     }
     Ok(())
@@ -93,14 +93,14 @@ fn stops(
 #[test]
 fn a_stop_tells_the_last_phase_that_was_reached(rt: HostRuntime) -> Result<(), Fail> {
     // after how many commands the link is lost, and what the tag holds then
-    let rows: [(u16, Phase, &[u8]); 5] = [
+    const ROWS: [(u16, Phase, &[u8]); 5] = [
         (3, Phase::Prepared, &[0xD0, 0, 0]),
         (4, Phase::Prepared, &[0xD0, 0, 0]),
         (5, Phase::Emptied, &[]),
         (6, Phase::Emptied, &[]),
         (7, Phase::Filled, &[]),
     ];
-    for (left, phase, message) in rows {
+    for &(left, phase, message) in &ROWS {
         stops(&rt, rt.alloc(), left, phase, message)?;
     }
     Ok(())

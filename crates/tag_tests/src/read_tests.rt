@@ -137,7 +137,7 @@ fn row_of<'a>(zeros: usize, (size, head, fault, message, asks): Case<'a>) -> Row
 
 #[test]
 fn reads_type_2_tags(rt: HostRuntime) -> Result<(), Fail> {
-    let cases: [Case; 16] = [
+    const CASES: [Case; 16] = [
         (
             64,
             &[0xE1, 0x10, 6, 0, 3, 3, 0xD0, 0, 0, 0xFE],
@@ -207,7 +207,7 @@ fn reads_type_2_tags(rt: HostRuntime) -> Result<(), Fail> {
         (64, &[0xE1, 0x10, 6, 0, 3, 0x30], 7, &[], 2),
         (64, &[0xE1, 0x10, 6, 0, 3, 0xFF, 0xFF, 0xFF], 7, &[], 2),
     ];
-    for case in cases {
+    for &case in &CASES {
         reads_t2(&rt, rt.alloc(), &row_of(12, case), 1000)?;
     }
     Ok(())
@@ -233,7 +233,7 @@ const NARROW: [u8; 14] = [0xE1, 0x40, 0, 0, 0, 0, 0, 0xFF, 3, 3, 0xD0, 0, 0, 0xF
 #[test]
 fn reads_type_5_tags(rt: HostRuntime) -> Result<(), Fail> {
     // the size of a block, and the case
-    let cases: [(u8, Case); 25] = [
+    const CASES: [(u8, Case); 25] = [
         (4, (128, &WHOLE, 0, &THREE, 3)),
         (4, (16, &CUT, 0, &THREE, 3)),
         (32, (32, &CUT, 0, &THREE, 1)),
@@ -302,7 +302,7 @@ fn reads_type_5_tags(rt: HostRuntime) -> Result<(), Fail> {
             ),
         ),
     ];
-    for (block, case) in cases {
+    for &(block, case) in &CASES {
         reads_t5(&rt, rt.alloc(), block, &row_of(0, case))?;
     }
     Ok(())
@@ -381,7 +381,7 @@ const PLAIN: [u8; 17] = *b"\x00\x0F\xD1\x01\x0B\x54\x02enNFC TEST";
 #[test]
 fn reads_type_4_tags(rt: HostRuntime) -> Result<(), Fail> {
     // how the container differs, and the case, whose size the container says
-    let cases: [(&[(usize, u8)], Case); 17] = [
+    const CASES: [(&[(usize, u8)], Case); 17] = [
         (&[], (0, &PLAIN, 0, &MESSAGE, 6)),
         (&[], (0, &[0, 0], 0, &[], 5)),
         (&[(2, 0x30)], (0, &[0, 0], 0, &[], 5)),
@@ -402,7 +402,7 @@ fn reads_type_4_tags(rt: HostRuntime) -> Result<(), Fail> {
         (&[(11, 0), (12, 1)], (0, &[], 5, &[], 3)),
         (&[(7, 5), (2, 0x10)], (0, &[], 1, &[], 3)),
     ];
-    for (changes, case) in cases {
+    for &(changes, case) in &CASES {
         reads_t4(&rt, rt.alloc(), changes, &row_of(0, case), 1000)?;
     }
     Ok(())
@@ -438,7 +438,7 @@ fn no_tag_has_a_file_that_is_shorter_than_its_container_says(rt: HostRuntime) ->
 #[test]
 fn a_tag_tells_the_same_to_another_reader(rt: HostRuntime) -> Result<(), Fail> {
     let mut tag = tag_t4(rt.alloc(), &CONTAINER, &PLAIN)?;
-    let rows: [(&[u8], &[u8]); 6] = [
+    const ROWS: [(&[u8], &[u8]); 6] = [
         (
             b"\x00\xA4\x04\x00\x07\xD2\x76\x00\x00\x85\x01\x01",
             &[0x90, 0],
@@ -455,7 +455,7 @@ fn a_tag_tells_the_same_to_another_reader(rt: HostRuntime) -> Result<(), Fail> {
             b"\xD1\x01\x0B\x54\x02enNFC TEST\x90\x00",
         ),
     ];
-    for (command, answer) in rows {
+    for &(command, answer) in &ROWS {
         assert_eq!(rt; tag.obey(command).as_slice(), answer, "at {command:?}");
     }
     let row = row_of(0, (0, &PLAIN, 0, &MESSAGE, 6));
@@ -494,14 +494,14 @@ where
 
 #[test]
 fn tells_what_other_type_2_tags_answer(rt: HostRuntime) -> Result<(), Fail> {
-    let cases: [OddCase; 5] = [
+    const CASES: [OddCase; 5] = [
         (&[0x0], 4, ReadFault::Refused(0), 1),
         (&[0xA], 4, ReadFault::Protocol, 1),
         (&[0; 15], 0, ReadFault::Protocol, 1),
         (&[0; 17], 0, ReadFault::Protocol, 1),
         (&[0; 16], 0, ReadFault::NotNdef, 1),
     ];
-    for case in cases {
+    for &case in &CASES {
         let tag = T2Tag::new(store_of(rt.alloc(), 12, 64, &[])?)?;
         is_odd(&rt, rt.alloc(), case, Tech::A, tag, How::T2)?;
     }
@@ -510,7 +510,7 @@ fn tells_what_other_type_2_tags_answer(rt: HostRuntime) -> Result<(), Fail> {
 
 #[test]
 fn tells_what_other_type_4_tags_answer(rt: HostRuntime) -> Result<(), Fail> {
-    let cases: [OddCase; 5] = [
+    const CASES: [OddCase; 5] = [
         (&[0x6A, 0x82], 0, ReadFault::Refused(0x6A82), 1),
         (&[0x90], 0, ReadFault::Protocol, 1),
         // SELECT of the application may bring bytes, SELECT of a file none, a read as many as it asks for
@@ -518,7 +518,7 @@ fn tells_what_other_type_4_tags_answer(rt: HostRuntime) -> Result<(), Fail> {
         (&[0x90, 0x00], 0, ReadFault::Protocol, 3),
         (&[0x90, 0x00], 5, ReadFault::Protocol, 1),
     ];
-    for case in cases {
+    for &case in &CASES {
         let tag = tag_t4(rt.alloc(), &CONTAINER, &[])?;
         is_odd(&rt, rt.alloc(), case, Tech::A, tag, How::T4)?;
     }
@@ -527,7 +527,7 @@ fn tells_what_other_type_4_tags_answer(rt: HostRuntime) -> Result<(), Fail> {
 
 #[test]
 fn tells_what_other_type_5_tags_answer(rt: HostRuntime) -> Result<(), Fail> {
-    let cases: [OddCase; 5] = [
+    const CASES: [OddCase; 5] = [
         (&[0x01, 0x0F], 0, ReadFault::Refused(0x0F), 1),
         (&[0x01, 0x10], 0, ReadFault::Refused(0x10), 1),
         // no block, and one too short for the container
@@ -535,7 +535,7 @@ fn tells_what_other_type_5_tags_answer(rt: HostRuntime) -> Result<(), Fail> {
         (&[0; 4], 0, ReadFault::Protocol, 1),
         (&[0; 5], 0, ReadFault::NotNdef, 1),
     ];
-    for case in cases {
+    for &case in &CASES {
         let tag = T5Tag::new(ID, store_of(rt.alloc(), 0, 16, &[])?, 4)?;
         let _shape = tag.store();
         is_odd(&rt, rt.alloc(), case, Tech::V, Awake { tag }, How::T5(ID))?;

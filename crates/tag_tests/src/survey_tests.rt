@@ -107,7 +107,7 @@ fn surveys_t5(rt: &impl Abort, alloc: Global, row: &AreaRow) -> Result<(), Fail>
 
 #[test]
 fn surveys_type_2_tags(rt: HostRuntime) -> Result<(), Fail> {
-    let cases: [AreaCase; 6] = [
+    const CASES: [AreaCase; 6] = [
         (64, &[0xE1, 0x10, 6, 0, 3, 0, 0xFE], 4, 64, 46, 4),
         // what stands behind the message is read too, and a faulty TLV there says nothing
         (64, &[0xE1, 0x10, 6, 0, 3, 0, 3, 0xFF, 0xFF], 4, 64, 46, 4),
@@ -132,7 +132,7 @@ fn surveys_type_2_tags(rt: HostRuntime) -> Result<(), Fail> {
         ),
         (1024, &[0xE1, 0x10, 0x7E, 0, 3, 0], 4, 1024, 1004, 64),
     ];
-    for case in cases {
+    for &case in &CASES {
         surveys_t2(&rt, rt.alloc(), &row_of(case))?;
     }
     Ok(())
@@ -140,7 +140,7 @@ fn surveys_type_2_tags(rt: HostRuntime) -> Result<(), Fail> {
 
 #[test]
 fn surveys_type_5_tags(rt: HostRuntime) -> Result<(), Fail> {
-    let cases: [AreaCase; 7] = [
+    const CASES: [AreaCase; 7] = [
         // the tag ends before its area, and the last command tells it
         (16, &[0xE1, 0x40, 6, 0, 3, 0, 0xFE], 4, 16, 10, 5),
         (16, &[0xE1, 0x40, 6, 1, 3, 0, 0xFE], 4, 16, 10, 6),
@@ -173,7 +173,7 @@ fn surveys_type_5_tags(rt: HostRuntime) -> Result<(), Fail> {
             256,
         ),
     ];
-    for case in cases {
+    for &case in &CASES {
         surveys_t5(&rt, rt.alloc(), &row_of(case))?;
     }
     Ok(())
@@ -247,7 +247,7 @@ where
 #[test]
 fn a_survey_tells_each_fault_of_a_type_2_tag(rt: HostRuntime) -> Result<(), Fail> {
     // the store, and its fault with the commands that it takes
-    let rows: [(&[u8], u8, usize); 7] = [
+    const ROWS: [(&[u8], u8, usize); 7] = [
         (&[0, 0, 0, 0], 1, 1),
         (&[0xE1, 0x20, 6, 0], 2, 1),
         (&[0xE1, 0x10, 6, 0xF0], 3, 1),
@@ -257,7 +257,7 @@ fn a_survey_tells_each_fault_of_a_type_2_tag(rt: HostRuntime) -> Result<(), Fail
         (&[0xE1, 0x10, 6, 0, 0xFE], 6, 4),
         (&[0xE1, 0x10, 6, 0, 3, 0x30], 7, 4),
     ];
-    for (head, fault, asks) in rows {
+    for &(head, fault, asks) in &ROWS {
         let tag = tag_t2(rt.alloc(), 64, head)?;
         tells_fault(&rt, rt.alloc(), tag, How::T2, 1000, (fault, asks));
     }
@@ -266,7 +266,7 @@ fn a_survey_tells_each_fault_of_a_type_2_tag(rt: HostRuntime) -> Result<(), Fail
 
 #[test]
 fn a_survey_tells_each_fault_of_a_type_5_tag(rt: HostRuntime) -> Result<(), Fail> {
-    let rows: [(&[u8], u8, usize); 7] = [
+    const ROWS: [(&[u8], u8, usize); 7] = [
         (&[0, 0, 0, 0], 1, 1),
         (&[0xE1, 0x80, 6, 0], 2, 1),
         (&[0xE1, 0x4C, 6, 0], 3, 1),
@@ -275,7 +275,7 @@ fn a_survey_tells_each_fault_of_a_type_5_tag(rt: HostRuntime) -> Result<(), Fail
         (&[0xE1, 0x40, 6, 0, 0xFE], 6, 5),
         (&[0xE1, 0x40, 6, 0, 3, 0x20], 7, 5),
     ];
-    for (head, fault, asks) in rows {
+    for &(head, fault, asks) in &ROWS {
         let card = tag_t5(rt.alloc(), 16, 4, head)?;
         let _shape = card.tag.store();
         tells_fault(&rt, rt.alloc(), card, How::T5(ID), 1000, (fault, asks));

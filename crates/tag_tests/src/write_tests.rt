@@ -178,13 +178,13 @@ fn declines(rt: &impl Abort, alloc: Global, head: &[u8], fault: WriteFault) -> R
 
 #[test]
 fn what_a_store_declines_changes_nothing(rt: HostRuntime) -> Result<(), Fail> {
-    let rows: [(&[u8], WriteFault); 4] = [
+    const ROWS: [(&[u8], WriteFault); 4] = [
         (&[0xE1, 0x10, 6, 0x0F, 3, 0, 0xFE], WriteFault::ReadOnly),
         (&[0xE1, 0x10, 6, 0, 0xFE], WriteFault::NoMessageTlv),
         (&[0xE1, 0x10, 6, 0, 3, 0x60], WriteFault::BadTlv),
         (&[0xE0, 0x10, 6, 0, 3, 0], WriteFault::NotNdef),
     ];
-    for (head, fault) in rows {
+    for &(head, fault) in &ROWS {
         declines(&rt, rt.alloc(), head, fault)?;
     }
     Ok(())

@@ -1,6 +1,6 @@
 //! The tags of the tests, and what is read of them.
 
-use crate::mem_link::MemLink;
+use crate::MemLink;
 use std::alloc::Global;
 use std::test::Fail;
 use t3t_access::{Found3, T3Fault, read3};
@@ -25,6 +25,14 @@ pub fn attributes(most: u8, blocks: u16, flag: u8, access: u8, length: u16) -> [
     block
 }
 
+/// The same with another byte there, where there is one.
+pub fn changed(mut block: [u8; 16], at: usize, byte: u8) -> [u8; 16] {
+    if at < 16 {
+        block[at] = byte;
+    }
+    block
+}
+
 /// A tag of so many blocks with this attribute block, and then numbers from 1 on.
 pub fn link_to(
     alloc: Global,
@@ -32,7 +40,7 @@ pub fn link_to(
     block: &[u8],
     left: u16,
     behind: bool,
-) -> Result<MemLink, Fail> {
+) -> Result<MemLink<T3Tag>, Fail> {
     let mut store = block.to_vec(alloc)?;
     let mut next: u8 = 0;
     for _ in 1..blocks.min(256) {
@@ -45,13 +53,13 @@ pub fn link_to(
 }
 
 /// Reads the tag, by its identifier.
-pub fn read(alloc: Global, link: &mut MemLink) -> Result<Found3, T3Fault> {
-    let id = link.tag.id();
+pub fn read(alloc: Global, link: &mut MemLink<T3Tag>) -> Result<Found3, T3Fault> {
+    let id = link.card.id();
     read3(alloc, link, id)
 }
 
 /// The number of what a reading tells, 0 for a message.
-pub fn told(alloc: Global, link: &mut MemLink) -> u8 {
+pub fn told(alloc: Global, link: &mut MemLink<T3Tag>) -> u8 {
     match read(alloc, link) {
         Ok(_) => 0,
         Err(fault) => fault.number(),

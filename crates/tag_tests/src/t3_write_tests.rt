@@ -1,10 +1,12 @@
 //! What is written to tags over a link in memory, what is asked for it, and what a stop leaves.
 
-use crate::mem_link::{ENOUGH, MemLink};
-use crate::tags::{attributes, link_to, read, told};
+use crate::t3_tags::{attributes, changed, link_to, read, told};
+use crate::{ENOUGH, MemLink};
 use std::alloc::Global;
+use std::process::Abort;
 use std::test::Fail;
 use t3t_access::{T3Fault, write3};
+use t3t_tag::T3Tag;
 
 /// How many bytes are written to a tag of fourteen blocks.
 const LENGTHS: [usize; 5] = [0, 1, 16, 17, 208];
@@ -22,8 +24,8 @@ fn message(alloc: Global, size: usize) -> Result<Vec<u8>, Fail> {
 }
 
 /// The number of what a write tells, 0 where the message is written.
-fn write(alloc: Global, link: &mut MemLink, message: &[u8]) -> u8 {
-    let id = link.tag.id();
+fn write(alloc: Global, link: &mut MemLink<T3Tag>, message: &[u8]) -> u8 {
+    let id = link.card.id();
     match write3(alloc, link, id, message) {
         Ok(()) => 0,
         Err(fault) => fault.number(),
@@ -39,7 +41,7 @@ enum Left {
     Other,
 }
 
-fn reads_as(alloc: Global, link: &mut MemLink, message: &[u8]) -> Left {
+fn reads_as(alloc: Global, link: &mut MemLink<T3Tag>, message: &[u8]) -> Left {
     match read(alloc, link) {
         Err(T3Fault::Unfinished) => Left::Unfinished,
         Err(_) => Left::Other,
@@ -81,7 +83,7 @@ fn a_message_is_written_and_read(rt: HostRuntime) -> Result<(), Fail> {
             let commands = size.div_ceil(16).saturating_add(3);
             assert_eq!(rt; link.answered.len(), commands, "at {size} {flag}");
             let fresh = attributes(4, 13, 0, 1, size as u16);
-            assert!(rt; link.tag.store().starts_with(&fresh), "at {size} {flag}");
+            assert!(rt; link.card.store().starts_with(&fresh), "at {size} {flag}");
             assert_eq!(rt;
                 reads_as(rt.alloc(), &mut link, &message),
                 Left::New,
@@ -92,33 +94,44 @@ fn a_message_is_written_and_read(rt: HostRuntime) -> Result<(), Fail> {
     Ok(())
 }
 
+/// A write of so many bytes is lost before the command behind so many, or behind that one: what the tag reads as then.
+fn stops(
+    rt: &impl Abort,
+    alloc: Global,
+    (size, flag): (usize, u8),
+    (commands, behind): (u16, bool),
+) -> Result<(), Fail> {
+    let block = attributes(4, 13, flag, 1, 3);
+    let mut link = link_to(alloc, 14, &block, commands, behind)?;
+    let message = message(alloc, size)?;
+    let number = write(alloc, &mut link, &message);
+    let blocks = size.div_ceil(16);
+    let obeyed = (commands as usize)
+        .saturating_add(behind as usize)
+        .saturating_sub(1);
+    link.light();
+    let left = reads_as(alloc, &mut link, &message);
+    let told = if commands as usize >= blocks.saturating_add(3) {
+        0
+    } else {
+        9
+    };
+    assert_eq!(rt;
+        (number, left),
+        (told, expected(flag, obeyed, blocks)),
+        "at {size} {flag} {commands} {behind}"
+    );
+    Ok(())
+}
+
 /// A link that is lost before or behind each command.
 #[test]
 fn a_stop_leaves_the_old_message_or_the_new_one_or_says_so(rt: HostRuntime) -> Result<(), Fail> {
-    for size in LENGTHS {
-        for flag in FLAGS {
-            let blocks = size.div_ceil(16);
-            for commands in 0..blocks.saturating_add(4).min(20) {
-                for behind in [false, true] {
-                    let block = attributes(4, 13, flag, 1, 3);
-                    let mut link = link_to(rt.alloc(), 14, &block, commands as u16, behind)?;
-                    let message = message(rt.alloc(), size)?;
-                    let number = write(rt.alloc(), &mut link, &message);
-                    let all = commands >= blocks.saturating_add(3);
-                    assert_eq!(rt;
-                        number,
-                        if all { 0 } else { 9 },
-                        "at {size} {flag} {commands} {behind}"
-                    );
-                    let obeyed = commands.saturating_add(behind as usize).saturating_sub(1);
-                    let mut link = link.again(rt.alloc());
-                    let left = reads_as(rt.alloc(), &mut link, &message);
-                    assert_eq!(rt;
-                        left,
-                        expected(flag, obeyed, blocks),
-                        "at {size} {flag} {commands} {behind}"
-                    );
-                }
+    for &size in &LENGTHS {
+        for &flag in &FLAGS {
+            for commands in 0..size.div_ceil(16).saturating_add(4).min(20) {
+                stops(&rt, rt.alloc(), (size, flag), (commands as u16, false))?;
+                stops(&rt, rt.alloc(), (size, flag), (commands as u16, true))?;
             }
         }
     }
@@ -130,11 +143,11 @@ fn a_locked_block_is_told(rt: HostRuntime) -> Result<(), Fail> {
     for size in LENGTHS {
         for locked in 0..14u16 {
             let mut link = link_to(rt.alloc(), 14, &attributes(4, 13, 0, 1, 3), ENOUGH, false)?;
-            if locked < link.tag.blocks() {
-                link.tag.lock(locked);
+            if locked < link.card.blocks() {
+                link.card.lock(locked);
             }
             let message = message(rt.alloc(), size)?;
-            let id = link.tag.id();
+            let id = link.card.id();
             let result = write3(rt.alloc(), &mut link, id, &message);
             let blocks = size.div_ceil(16);
             let refused = locked as usize <= blocks;
@@ -167,22 +180,28 @@ const REFUSED: [(u8, u16, u8, u8, u16, usize, u8, usize, u8); 10] = [
     (4, 13, 0x0F, 1, 3, 16, 0, 209, 13),
 ];
 
+/// A write of so many bytes to a tag with this attribute block asks for that block, tells the fault with this number, and
+/// the block stays.
+fn is_declined(
+    rt: &impl Abort,
+    alloc: Global,
+    block: &[u8],
+    size: usize,
+    number: u8,
+) -> Result<(), Fail> {
+    let mut link = link_to(alloc, 14, block, ENOUGH, false)?;
+    let message = message(alloc, size)?;
+    let told = (write(alloc, &mut link, &message), link.answered.len());
+    assert_eq!(rt; told, (number, 1), "at {block:?} {size}");
+    assert!(rt; link.card.store().starts_with(block));
+    Ok(())
+}
+
 #[test]
 fn what_takes_no_message_stays(rt: HostRuntime) -> Result<(), Fail> {
-    for (most, named, flag, access, length, at, byte, size, number) in REFUSED {
-        let mut block = attributes(most, named, flag, access, length);
-        if at < 16 {
-            block[at] = byte;
-        }
-        let mut link = link_to(rt.alloc(), 14, &block, ENOUGH, false)?;
-        let message = message(rt.alloc(), size)?;
-        assert_eq!(rt;
-            write(rt.alloc(), &mut link, &message),
-            number,
-            "at {block:?} {size}"
-        );
-        assert_eq!(rt; link.answered.len(), 1, "at {block:?} {size}");
-        assert!(rt; link.tag.store().starts_with(&block), "at {block:?} {size}");
+    for &(most, named, flag, access, length, at, byte, size, number) in &REFUSED {
+        let block = changed(attributes(most, named, flag, access, length), at, byte);
+        is_declined(&rt, rt.alloc(), &block, size, number)?;
     }
     Ok(())
 }
@@ -191,7 +210,7 @@ fn what_takes_no_message_stays(rt: HostRuntime) -> Result<(), Fail> {
 fn the_place_is_told(rt: HostRuntime) -> Result<(), Fail> {
     let mut link = link_to(rt.alloc(), 14, &attributes(4, 13, 0, 1, 3), ENOUGH, false)?;
     let message = message(rt.alloc(), 209)?;
-    let id = link.tag.id();
+    let id = link.card.id();
     let result = write3(rt.alloc(), &mut link, id, &message);
     assert!(rt; result.is_err_and(|fault| fault == T3Fault::TooLong(208)));
     assert_eq!(rt; told(rt.alloc(), &mut link), 0);
