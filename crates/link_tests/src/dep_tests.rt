@@ -172,7 +172,7 @@ fn a_busy_target_asks_for_more_time(rt: HostRuntime) -> Result<(), Fail> {
 /// Its one piece waits for the time to be granted, and comes behind information that goes on, which asks for no more time.
 #[test]
 fn an_empty_reply_has_one_piece(rt: HostRuntime) -> Result<(), Fail> {
-    let rows: [Row<'_>; 7] = [
+    const ROWS: [Row; 7] = [
         (&[0xF0, 6, 0xD4, 6, 0, 0, 0], b'd', &[0, 0]),
         (&[], b'=', &MORE),
         (&[0xF0, 4, 0xD4, 6, 0x41], b'q', &[]),
@@ -187,7 +187,7 @@ fn an_empty_reply_has_one_piece(rt: HostRuntime) -> Result<(), Fail> {
     ];
     let mut target = Target::new(ID, 3, ArrayVec::new());
     target.set_busy(1, 5);
-    walk_target(&rt, &mut target, &rows)
+    walk_target(&rt, &mut target, &ROWS)
 }
 
 /// Sixteen times it grants more time.
@@ -240,7 +240,7 @@ fn refused<R: Abort>(rt: &R, frame: &[u8]) -> Result<(), Fail> {
 
 #[test]
 fn whole_frames_that_are_not_allowed(rt: HostRuntime) -> Result<(), Fail> {
-    let rows: [&[u8]; 7] = [
+    const ROWS: [&[u8]; 7] = [
         &[0xF0, 4, 0xD5, 7, 0x40],
         &[0xF0, 4, 0xD5, 7, 1],
         &[0xF0, 4, 0xD5, 7, 0x10],
@@ -249,7 +249,7 @@ fn whole_frames_that_are_not_allowed(rt: HostRuntime) -> Result<(), Fail> {
         &[0xF0, 5, 0xD5, 7, 0x90, 60],
         &[0xAA, 0xBB],
     ];
-    for frame in rows {
+    for &frame in &ROWS {
         refused(&rt, frame)?;
     }
     Ok(())

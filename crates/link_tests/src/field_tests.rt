@@ -120,7 +120,7 @@ fn payloads_come_through_noise(rt: HostRuntime) -> Result<(), Fail> {
     let alloc = rt.alloc();
     let mut field = met(alloc, PHONES, &[Lose, Pass, Pass, Pass, Pass, Pass, Damage])?;
     talk(&rt, alloc, &mut field, &mut new_desk())?;
-    let frames: [&[u8]; 13] = [
+    const FRAMES: [&[u8]; 13] = [
         ATR_REQ,
         ATR_RES,
         &[0xF0, 0x06, 0xD4, 0x06, 0x00, 0x11, 0x20],
@@ -135,7 +135,7 @@ fn payloads_come_through_noise(rt: HostRuntime) -> Result<(), Fail> {
         &[0xF0, 0x03, 0xD4, 0x0A],
         &[0xF0, 0x03, 0xD5, 0x0B],
     ];
-    went(&rt, field.trace(), &frames);
+    went(&rt, field.trace(), &FRAMES);
     Ok(())
 }
 
@@ -148,7 +148,7 @@ fn a_lost_request_is_asked_after(rt: HostRuntime) -> Result<(), Fail> {
     let mut pair = DepPair::on(&mut field, &mut initiator);
     let reply = pair.swap(alloc, &[0, 0], &mut far)?;
     assert_eq!(rt; reply.as_slice(), [0, 0].as_slice());
-    let frames: [&[u8]; 7] = [
+    const FRAMES: [&[u8]; 7] = [
         ATR_REQ,
         ATR_RES,
         &[0xF0, 0x06, 0xD4, 0x06, 0x00, 0x00, 0x00],
@@ -157,7 +157,7 @@ fn a_lost_request_is_asked_after(rt: HostRuntime) -> Result<(), Fail> {
         &[0xF0, 0x06, 0xD4, 0x06, 0x00, 0x00, 0x00],
         &[0xF0, 0x06, 0xD5, 0x07, 0x00, 0x00, 0x00],
     ];
-    went(&rt, field.trace(), &frames);
+    went(&rt, field.trace(), &FRAMES);
     Ok(())
 }
 

@@ -132,14 +132,14 @@ fn answers_of_a_stranger(rt: HostRuntime) -> Result<(), Fail> {
         cause: EndCause::Protocol,
         answered: false,
     });
-    let rows: [(&[u8], Told, Told, usize); 5] = [
+    const ROWS: [(&[u8], Told, Told, usize); 5] = [
         (&[0xF0, 4, 0xD5, 7, 1], REFUSED, OVER, 2),
         (&[0xF0, 4, 0xD5, 7, 0x40], REFUSED, OVER, 2),
         (&[0xF0, 4, 0xD4, 6, 0], REFUSED, OVER, 2),
         (&[0xAA, 0xBB], REFUSED, OVER, 2),
         (&[0xF0, 5, 0xD5, 7, 0, 9], Ok(1), REFUSED, 4),
     ];
-    for (bytes, first, again, sent) in rows {
+    for &(bytes, first, again, sent) in &ROWS {
         let told = exchanged(rt.alloc(), bytes)?;
         assert_eq!(rt; told, (first, again, sent), "at {bytes:?}");
     }
