@@ -84,6 +84,7 @@ pub mod SensingAll
 pub mod SeekingOne
 pub mod ThreeTags
 pub mod ThreeLists
+pub mod ThreesHeard
 pub mod ThreePuts
 pub mod CalmThrees
 pub mod ThreeReading

@@ -23,7 +23,7 @@ module _ {S X : Type 0} (e : Enquiry S X) where
   fresh_end s None = tt
 
   -- by one note more one that isn't over stays fresh
-  fresh_more : (s : S) (o : Option (Result X PollFault)) (hs : List Note) (k : Note) (n : Next) → followed e s o hs ≡ polls.Asks n → IsFresh (followed e s o (hs ++ k ∷ []))
+  pub fresh_more : (s : S) (o : Option (Result X PollFault)) (hs : List Note) (k : Note) (n : Next) → followed e s o hs ≡ polls.Asks n → IsFresh (followed e s o (hs ++ k ∷ []))
   fresh_more s (Some r) hs k n q = absurd (let clash : Told r hs ≡ polls.Asks n = q in cc)
   fresh_more s None [] Lit n q = fresh_end (e.light s) (e.ended (e.light s))
   fresh_more s None [] (Got h) n q = fresh_end (e.step s h) (e.ended (e.step s h))

@@ -370,7 +370,7 @@ relit_id (Peer d) = refl
 relit_id (T5 p) = refl
 relit_id (T3 p) = refl
 
-relit_among : (before : List Device) (d : Device) (behind : List Device) → map relit (before ++ d ∷ behind) ≡ map relit before ++ relit d ∷ map relit behind
+pub relit_among : (before : List Device) (d : Device) (behind : List Device) → map relit (before ++ d ∷ behind) ≡ map relit before ++ relit d ∷ map relit behind
 relit_among [] d behind = refl
 relit_among (l ∷ ls) d behind = ap (λ xs. relit l ∷ xs) (relit_among ls d behind)
 

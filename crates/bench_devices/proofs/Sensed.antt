@@ -198,7 +198,7 @@ three_relit id (T3 p ∷ ds) = by_first (pointwise nat_eq p.tag.id id) (three_re
     by_first false e = e
 
 -- it is as the devices tell
-is_three_of : (id : List ℕ) (d : Device) → is_three id d ≡ true → IsThree id d
+pub is_three_of : (id : List ℕ) (d : Device) → is_three id d ≡ true → IsThree id d
 is_three_of id (T2 d) h = absurd cc
 is_three_of id (T4 d) h = absurd cc
 is_three_of id (Peer d) h = absurd cc

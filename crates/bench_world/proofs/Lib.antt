@@ -47,6 +47,7 @@ pub mod OneJournal
 pub mod Shapes
 pub mod Quiet
 pub mod ThreesComplete
+pub mod SoughtHeard
 pub mod QuietLinks
 pub mod OpeningKind
 pub mod CompleteLinkings

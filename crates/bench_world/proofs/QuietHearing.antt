@@ -47,6 +47,9 @@ use Rattle.bench_world.proofs.CompleteLinkings.{links_quietly}
 use Rattle.bench_world.proofs.Fronts.{on_field}
 use Rattle.bench_world.proofs.Placing.{IsWith, is_with, with_sound}
 use Rattle.bench_world.proofs.ThreesComplete.{quiet_threes_read, quiet_threes_write, quiet_threes_written}
+use Rattle.bench_world.specs.Threes.{AreWellStored}
+use Rattle.bench_world.proofs.SoughtHeard.{sought_answered}
+use Rattle.bench_world.proofs.WellStored.{stored_step}
 use Rattle.bench_world.proofs.Quiet.{quiet_stays, quiet_reads, quiet_writes, quiet_finds, quiet_tags, quiet_threes}
 use Rattle.bench_world.proofs.QuietLinks.{quiet_talks}
 use Rattle.bench_world.proofs.Written.{told_written}
@@ -80,7 +83,8 @@ spelled_id : (s : State) (r : IsReady s.world.field.listeners) (asked : List Sig
 spelled_id s r asked word (A id) sp = sp.1
 spelled_id s r asked word (V id) sp = sp.1
 
-module _ (s t : State) (g : Given) (line : List ℕ) (e : Entry) (r : IsReady s.world.field.listeners) (sp : Spells line e.command) (step : LegalStep s g e t) (pass : AllPass (changed s e.command).queue) where
+module _ (s t : State) (g : Given) (line : List ℕ) (e : Entry) (r : IsReady s.world.field.listeners) (well : AreWellStored s.world.field.listeners) (sp : Spells line e.command) (step : LegalStep s g e t)
+    (pass : AllPass (changed s e.command).queue) where
   -- a command that itself changes nothing, selects a tag and asks it what it heeds
   tag_answered : (id : DeviceId) → (UsesFars e.command → ⊥) → (changed s e.command).queue ≡ s.queue → (changed s e.command).world.field ≡ s.world.field → due s g e.command ≡ tag_due id g.asked → IsId g.asked (start s) r.tame r.tidy id → Heed g.asked (start s) r.tame r.tidy id → AnswersAll id e
   tag_answered id quiet queue same next named heeds kind since told =
@@ -172,7 +176,7 @@ module _ (s t : State) (g : Given) (line : List ℕ) (e : Entry) (r : IsReady s.
   by_command (Write i m) is id of = let same : i ≡ id = cc in write_answered id m (is ∙ ap (λ x. Write x m) same)
 
   well_heard : IsWellHeard e
-  well_heard = record { unharmed = all_unharmed e.events none; answered = λ id of. by_command e.command refl id of; talks = talked e.command step.answered step.front.each }
+  well_heard = record { unharmed = all_unharmed e.events none; answered = λ id of. by_command e.command refl id of; sought = sought_answered s t g line e r well sp step pass; talks = talked e.command step.answered step.front.each }
 
 -- Each entry is heard so from which on all passes.
 abbrev IsAny : List ℕ → Type 0
@@ -184,13 +188,14 @@ any_line (l ∷ ls) = (tt, any_line ls)
 
 pub quiet_hears : QuietHears
 quiet_hears lines numbers journal last leads =
-    subst (λ ns. AllAlong IsHeardIfQuiet first_state ns journal) leads.joins (along (λ s. IsReady s.world.field.listeners) IsAny IsHeardIfQuiet
-    (λ s t g line e r any sp step. (λ pass. well_heard s t g line e r sp step pass, ready_step s t g line e sp step r))
-    (asking_lines 1 lines) first_state last leads.given journal first_ready (asking_all IsAny 1 lines (any_line lines)) leads.numbered leads.steps)
+    subst (λ ns. AllAlong IsHeardIfQuiet first_state ns journal) leads.joins (along (λ s. IsReady s.world.field.listeners × AreWellStored s.world.field.listeners) IsAny IsHeardIfQuiet
+    (λ s t g line e r any sp step. (λ pass. well_heard s t g line e r.0 r.1 sp step pass, (ready_step s t g line e sp step r.0, stored_step s t g e step r.0.tame.sound r.1)))
+    (asking_lines 1 lines) first_state last leads.given journal (first_ready, tt) (asking_all IsAny 1 lines (any_line lines)) leads.numbered leads.steps)
 
 -- A script without noise.
 record IsCalm (s : State) : Type 0 where
   pub ready : IsReady s.world.field.listeners
+  pub well : AreWellStored s.world.field.listeners
   pub queue : AllPass s.queue
 
 join_pass : (xs ys : List Fate) → AllPass xs → AllPass ys → AllPass (xs ++ ys)
@@ -231,7 +236,7 @@ quiet_entry s t g line e calm q sp step =
     let on = quiet_stays s t g e step pass in (
       record {
         quiet = on.0;
-        hears = well_heard s t g line e calm.ready sp step pass;
+        hears = well_heard s t g line e calm.ready calm.well sp step pass;
         reads = λ id d r. quiet_reads s t g e id d step r.command r.placed r.named calm.queue;
         writes = λ id m d w. quiet_writes s t g e id m d step w.command w.placed w.named calm.queue;
         written = λ id m d w may. told_written s e id m d calm.ready w.placed (quiet_writes s t g e id m d step w.command w.placed w.named calm.queue) may;
@@ -245,9 +250,9 @@ quiet_entry s t g line e calm q sp step =
         forges = forges_quietly s t g e calm.ready step calm.queue;
         talks = quiet_talks s t g e step calm.queue;
       },
-      record { ready = ready_step s t g line e sp step calm.ready; queue = on.1 },
+      record { ready = ready_step s t g line e sp step calm.ready; well = stored_step s t g e step calm.ready.tame.sound calm.well; queue = on.1 },
     )
 
 pub quiet_script : QuietScript
 quiet_script lines numbers journal last leads quiet =
-    subst (λ ns. AllAlong IsQuietEntry first_state ns journal) leads.joins (along IsCalm IsQuietLine IsQuietEntry quiet_entry (asking_lines 1 lines) first_state last leads.given journal (record { ready = first_ready; queue = tt }) (asking_all IsQuietLine 1 lines quiet) leads.numbered leads.steps)
+    subst (λ ns. AllAlong IsQuietEntry first_state ns journal) leads.joins (along IsCalm IsQuietLine IsQuietEntry quiet_entry (asking_lines 1 lines) first_state last leads.given journal (record { ready = first_ready; well = tt; queue = tt }) (asking_all IsQuietLine 1 lines quiet) leads.numbered leads.steps)

@@ -53,7 +53,7 @@ use Rattle.bench_world.proofs.WriteLegality.{found_named}
 placed_there : (id : List ℕ) (ds : List Device) (d : Device) → device_with id ds ≡ Some d → kind_of d ≡ T3Kind → IsNoThree id ds → ⊥
 placed_there id ds d found kind none = with_all (λ x. IsThree id x → ⊥) id ds d none found (tech_three d kind, found_named id ds d found)
 
-is_there : (id : List ℕ) (ds : List Device) (d : Device) → device_with id ds ≡ Some d → kind_of d ≡ T3Kind → has_three id ds ≡ true
+pub is_there : (id : List ℕ) (ds : List Device) (d : Device) → device_with id ds ≡ Some d → kind_of d ≡ T3Kind → has_three id ds ≡ true
 is_there id ds d found kind = by_value (has_three id ds) refl
   where
     by_value : (v : Bool) → has_three id ds ≡ v → has_three id ds ≡ true

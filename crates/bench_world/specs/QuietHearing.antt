@@ -22,7 +22,7 @@ use Rattle.bench_devices.specs.Polling.{Told, selecting}
 use Rattle.bench_world.specs.declared.entry.Answer.TheVariants as answers
 use Rattle.bench_world.specs.declared.entry.Entry.{Entry}
 use Rattle.bench_world.specs.Asked.{IsOnLink}
-use Rattle.bench_devices.specs.Sensing.{sensed_of}
+use Rattle.bench_devices.specs.Sensing.{seeking, sensed_of}
 use Rattle.bench_world.specs.Answering.{three_told}
 use Rattle.bench_world.specs.Completing.{MayBeWritten, TellsTags, whole_field}
 use Rattle.bench_world.specs.Journal.{LeadsTo}
@@ -58,11 +58,22 @@ AnswersAll id e =
     (kind : SeenKind) (behind : List Note) → selecting id (receptions e.events) ≡ Told (Ok kind) behind
     → AllByRecursion IsAnswered behind
 
+-- the Type 3 tag that a command finds and then asks, if it does
+abbrev pub sought_by : Command → Option (List ℕ)
+sought_by (Read3 id) = Some id
+sought_by (Write3 id m) = Some id
+sought_by c = None
+
+-- Behind the search for a Type 3 tag each note of an entry is a whole answer.
+abbrev pub AnswersSought : List ℕ → Entry → Type 0
+AnswersSought id e = (behind : List Note) → seeking id (receptions e.events) ≡ Told (Ok tt) behind → AllByRecursion IsAnswered behind
+
 -- In an entry nothing was damaged or lost: no reception is bad but silences. Behind the selection of its device each is
 -- a whole answer, and so is each of what is asked on a link, so those silences are polling's.
 pub record IsWellHeard (e : Entry) : Type 0 where
   pub unharmed : AllByRecursion IsUnharmed (receptions e.events)
   pub answered : (id : DeviceId) → selected_by e.command ≡ Some id → AnswersAll id e
+  pub sought : (id : List ℕ) → sought_by e.command ≡ Some id → AnswersSought id e
   pub talks : IsOnLink e.command → AllByRecursion IsAnswered (receptions e.events)
 
 abbrev pub IsHeardIfQuiet : State → Entry → State → Type 0
