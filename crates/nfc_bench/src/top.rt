@@ -34,8 +34,6 @@ mod text;
 mod words;
 #[cfg(test)]
 mod world_tests;
-#[cfg(test)]
-mod write_tests;
 mod writing;
 
 use arrayvec::ArrayVec;

@@ -1,56 +1,11 @@
 //! Whole runs over workloads.
 
-use super::program::program;
 use super::runs::{report, words_of};
 use super::*;
 use nfc_io::{Failed, MemSink, MemSource};
 use std::process::Abort;
 use std::test::Fail;
 use workload::Workload;
-
-/// Words, the status, and what is written.
-const RUNS: [(&str, u8, &str); 12] = [
-    (
-        "make 5 3",
-        0,
-        "made 5 3 writes 3 reads 3 puts 3 bytes 756\n",
-    ),
-    (
-        "make 65535 1",
-        0,
-        "made 65535 1 writes 1 reads 1 puts 1 bytes 993\n",
-    ),
-    ("make", 6, "fault 6 words\n"),
-    ("make 5", 6, "fault 6 words\n"),
-    ("make 05 3", 6, "fault 6 words\n"),
-    ("make 5 03", 6, "fault 6 words\n"),
-    ("make +5 3", 6, "fault 6 words\n"),
-    ("make 5 0", 6, "fault 6 words\n"),
-    ("make 5 151", 6, "fault 6 words\n"),
-    ("make 5 259", 6, "fault 6 words\n"),
-    ("make 65536 1", 6, "fault 6 words\n"),
-    ("make 5 3 3", 6, "fault 6 words\n"),
-];
-
-/// A run of these words has this status, writes this line, and reads nothing.
-fn makes(rt: &impl Abort, alloc: Global, text: &str, wanted: (u8, &str)) -> Result<(), Fail> {
-    let words = words_of(alloc, text)?;
-    let mut source = MemSource::new(Vec::from_slice(alloc, b"find\n")?, vec![in alloc; 1]?);
-    let mut sink = MemSink::new(alloc, 1 << 8, Vec::new(alloc))?;
-    let status = program(alloc, Ok(words), &mut source, &mut sink);
-    assert_eq!(rt; (status, str::from_utf8(sink.content())?), wanted, "{text}");
-    assert!(rt; source.read(&mut [0; 8]).is_err(), "{text}");
-    Ok(())
-}
-
-/// One line is all that is written, and nothing is read.
-#[test]
-fn what_a_run_over_a_workload_tells(rt: HostRuntime) -> Result<(), Fail> {
-    for (text, status, line) in RUNS {
-        makes(&rt, rt.alloc(), text, (status, line))?;
-    }
-    Ok(())
-}
 
 /// A sink that takes at most five bytes a call, while it has room. It tells nothing of them.
 #[derive(Drop)]

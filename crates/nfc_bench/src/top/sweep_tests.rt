@@ -39,27 +39,28 @@ fn ends_so(rt: &impl Abort, alloc: Global, row: Ends) -> Result<(), Fail> {
     Ok(())
 }
 
+const ENDS: [Ends; 5] = [
+    (
+        "neither does",
+        (9, 9),
+        99,
+        (0, "sweep 14 old 11 empty 2 new 1\n", 15),
+    ),
+    ("the source at once", (1, 9), 99, (3, "fault 3 read\n", 0)),
+    (
+        "the source behind the last line",
+        (2, 9),
+        99,
+        (3, "fault 3 read\n", 0),
+    ),
+    ("the sink at once", (9, 1), 99, (4, "", 15)),
+    ("a sink with room for ten bytes", (9, 9), 10, (4, "", 15)),
+];
+
 #[test]
 fn ends_that_fail(rt: HostRuntime) -> Result<(), Fail> {
-    let rows: [Ends; 5] = [
-        (
-            "neither does",
-            (9, 9),
-            99,
-            (0, "sweep 14 old 11 empty 2 new 1\n", 15),
-        ),
-        ("the source at once", (1, 9), 99, (3, "fault 3 read\n", 0)),
-        (
-            "the source behind the last line",
-            (2, 9),
-            99,
-            (3, "fault 3 read\n", 0),
-        ),
-        ("the sink at once", (9, 1), 99, (4, "", 15)),
-        ("a sink with room for ten bytes", (9, 9), 10, (4, "", 15)),
-    ];
-    for row in rows {
-        ends_so(&rt, rt.alloc(), row)?;
+    for row in &ENDS {
+        ends_so(&rt, rt.alloc(), *row)?;
     }
     Ok(())
 }
@@ -121,26 +122,28 @@ fn same_as_runs(rt: &impl Abort, alloc: Global, parts: (&str, &str, &str)) -> Re
     Ok(())
 }
 
+/// The lines before a write, the write, and a read of its tag.
+const WRITES: [(&str, &str, &str); 3] = [
+    (
+        "place t5 E004010203040506 4 32 E1400F000303D00000FE\n",
+        "write E004010203040506 D101\n",
+        "read E004010203040506\n",
+    ),
+    (
+        "place t2 01020304 16 000000000000000000000000E110060002032004040300FE0000000000000000AABBCCDD\n",
+        "write 01020304 gen:12:1\n",
+        "read 01020304\n",
+    ),
+    (
+        "place t4 02030405 8 000F20003B000D0406E10402000000 0003D00000\nbusy 02030405 2 3\n",
+        "write 02030405 D1\n",
+        "read 02030405\n",
+    ),
+];
+
 #[test]
 fn journals_of_runs(rt: HostRuntime) -> Result<(), Fail> {
-    let scripts = [
-        (
-            "place t5 E004010203040506 4 32 E1400F000303D00000FE\n",
-            "write E004010203040506 D101\n",
-            "read E004010203040506\n",
-        ),
-        (
-            "place t2 01020304 16 000000000000000000000000E110060002032004040300FE0000000000000000AABBCCDD\n",
-            "write 01020304 gen:12:1\n",
-            "read 01020304\n",
-        ),
-        (
-            "place t4 02030405 8 000F20003B000D0406E10402000000 0003D00000\nbusy 02030405 2 3\n",
-            "write 02030405 D1\n",
-            "read 02030405\n",
-        ),
-    ];
-    for parts in scripts {
+    for &parts in &WRITES {
         same_as_runs(&rt, rt.alloc(), parts)?;
     }
     Ok(())

@@ -160,7 +160,7 @@ fn row(
 
 #[test]
 fn runs(rt: HostRuntime) -> Result<(), Fail> {
-    for (shows, words, script, read, write, status, report) in RUNS {
+    for &(shows, words, script, read, write, status, report) in &RUNS {
         row(
             &rt,
             rt.alloc(),
@@ -169,133 +169,6 @@ fn runs(rt: HostRuntime) -> Result<(), Fail> {
             (read, write),
             (status, report),
         )?;
-    }
-    Ok(())
-}
-
-/// So many times the same text, and another one behind it.
-fn repeated(alloc: Global, text: &str, times: u32, last: &str) -> Result<Vec<u8>, AllocError> {
-    let mut script = Vec::new(alloc);
-    for _ in 0..times {
-        script.extend_from_slice(text.as_bytes())?;
-    }
-    script.extend_from_slice(last.as_bytes())?;
-    Ok(script)
-}
-
-/// What a run shows; a text, how many times it stands in the script, and what stands behind it; what it comes to.
-type Long<'a> = (&'a str, &'a str, u32, &'a str, Wanted<'a>);
-
-fn long_run(rt: &impl Abort, alloc: Global, run: Long) -> Result<(), Fail> {
-    let (shows, text, times, last, wanted) = run;
-    let script = repeated(alloc, text, times, last)?;
-    comes_to(rt, alloc, (shows, "run"), script, (0, 0), wanted)
-}
-
-#[test]
-fn numbers_of_lines(rt: HostRuntime) -> Result<(), Fail> {
-    let rows: [Long; 6] = [
-        ("a thousand lines", "#\n", 1000, "", (0, "", 0)),
-        ("without the last LF", "#\n", 999, "#", (0, "", 0)),
-        ("a thousand empty lines", "\n", 1000, "", (0, "", 0)),
-        ("one more", "#\n", 1000, "#", (2, "fault 2 line 1001\n", 0)),
-        (
-            "one more that is empty",
-            "\n",
-            1001,
-            "",
-            (2, "fault 2 line 1001\n", 0),
-        ),
-        (
-            "a refused line counts first",
-            "#\n",
-            999,
-            "fly\n#",
-            (2, "fault 2 line 1000\n", 0),
-        ),
-    ];
-    for row in rows {
-        long_run(&rt, rt.alloc(), row)?;
-    }
-    Ok(())
-}
-
-#[test]
-fn lengths_of_lines(rt: HostRuntime) -> Result<(), Fail> {
-    let rows: [Long; 5] = [
-        ("4,096 bytes", "#", 4096, "", (0, "", 0)),
-        ("with an LF", "#", 4096, "\n", (0, "", 0)),
-        ("4,097 bytes", "#", 4097, "", (2, "fault 2 line 1\n", 0)),
-        (
-            "4,097 bytes and an LF",
-            "#",
-            4097,
-            "\n",
-            (2, "fault 2 line 1\n", 1),
-        ),
-        (
-            "no more is read than that line",
-            "#",
-            20_000,
-            "",
-            (2, "fault 2 line 1\n", 8),
-        ),
-    ];
-    for row in rows {
-        long_run(&rt, rt.alloc(), row)?;
-    }
-    Ok(())
-}
-
-#[test]
-fn a_thousand_lines_are_obeyed(rt: HostRuntime) -> Result<(), Fail> {
-    let mut script = repeated(rt.alloc(), PLACE, 1, "")?;
-    script.extend_from_slice(repeated(rt.alloc(), "read 01020304\n", 999, "")?.as_slice())?;
-    let (status, written, _) = outcome(rt.alloc(), "run", script, (0, 0))?;
-    let lines = written.as_slice().split(|b| *b == b'\n').count();
-    assert_eq!(rt; (status, lines), (0, 1 + 999 * 12 + 1));
-    Ok(())
-}
-
-/// A source that gives at most so many bytes a call. It tells nothing of them.
-#[derive(Drop)]
-struct Sips {
-    inner: MemSource,
-    most: usize,
-}
-
-impl Source for Sips {
-    ghost use Rattle.std.specs.Prelude.{None};
-
-    ghost left = { λ _. None };
-
-    ghost faults = { λ s. s.inner.plan.faults };
-
-    fn read(&mut self, buf: &mut [u8]) -> Result<usize, Failed> {
-        let size = buf.len().min(self.most);
-        self.inner.read(&mut buf[..size])
-    }
-}
-
-/// A source of at most so many bytes a call tells the same.
-fn tells_the_same(rt: &impl Abort, alloc: Global, most: usize) -> Result<(), Fail> {
-    let words = words_of(alloc, "run")?;
-    let script = joined(alloc, [PLACE, "#\nread 01020304\nfly"])?;
-    let inner = MemSource::new(script, Vec::new(alloc));
-    let mut source = Sips { inner, most };
-    let mut sink = MemSink::new(alloc, 1000, Vec::new(alloc))?;
-    let mut bench = Bench::new(alloc);
-    let status = run_bench(alloc, &words, &mut source, &mut sink, &mut bench);
-    assert_eq!(rt; (status, bench.journal().len()), (2, 2), "{most}");
-    let end = b"3 message D00000 writable\nfault 2 line 4\n";
-    assert!(rt; sink.content().ends_with(end), "{most}");
-    Ok(())
-}
-
-#[test]
-fn reads_of_a_few_bytes(rt: HostRuntime) -> Result<(), Fail> {
-    for most in [1, 7, 4096] {
-        tells_the_same(&rt, rt.alloc(), most)?;
     }
     Ok(())
 }

@@ -20,7 +20,7 @@ const ROWS: [(u32, &str, &str); 4] = [
 
 /// Each line is obeyed.
 fn obey_all(rt: &impl Abort, alloc: Global, bench: &mut Bench) -> Result<(), Fail> {
-    for (line, text, _) in ROWS {
+    for &(line, text, _) in &ROWS {
         let command = parse_line(alloc, text.as_bytes())?;
         assert_eq!(rt; bench.obey(line, &command), Ok(()), "at {text}");
     }
@@ -48,7 +48,7 @@ fn tells_message(journal: &[Entry], place: usize, wanted: &[u8]) -> bool {
 /// Each entry has its line of the report.
 fn reports(rt: &impl Abort, alloc: Global, journal: &[Entry]) -> Result<(), Fail> {
     assert_eq!(rt; journal.len(), ROWS.len());
-    for (entry, (_, _, report)) in journal.iter().zip(ROWS) {
+    for (entry, &(_, _, report)) in journal.iter().zip(&ROWS) {
         let text = render(alloc, entry, true)?;
         assert_eq!(rt; str::from_utf8(&text)?, report);
     }
