@@ -203,7 +203,7 @@ fn lines(rt: HostRuntime) {
 
 #[test]
 fn lines_with_a_message(rt: HostRuntime) {
-    const ROWS: [(&str, u8); 21] = [
+    const ROWS: [(&str, u8); 27] = [
         ("write 01020304 -", 0),
         ("write e004010203040506 D00000", 0),
         ("write 01020304 gen:0:0", 0),
