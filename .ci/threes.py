@@ -213,12 +213,14 @@ def with_sum(head):
 
 
 def random_tag(chance):
-    blocks = chance.choice((2, 3, 6, 14, 40))
+    blocks = chance.choice((1, 2, 3, 6, 6, 14, 14, 40, 256))
     most = blocks - 1
-    content = chance.randbytes(16 * most)
-    fields = dict(nbr=chance.choice((1, 2, 4, 15, 16, 255)), nbw=1, blocks=most, flag=chance.choice((0, 0, 0, 0, 15)), access=chance.choice((1, 1, 1, 0)), length=chance.randrange(16 * most + 1))
+    # A line has room for a hundred blocks; those behind hold zeros.
+    content = chance.randbytes(16 * min(most, 100))
+    fields = {"nbr": chance.choice((1, 2, 4, 15, 16, 255)), "nbw": 1, "blocks": most, "flag": chance.choice((0, 0, 0, 0, 15)),
+              "access": chance.choice((1, 1, 1, 0)), "length": chance.randrange(16 * most + 1)}
     if chance.random() < 0.15:
-        fields |= chance.choice((dict(version=0x20), dict(nbr=0), dict(length=16 * most + 1), dict(off=1), dict(nbw=0), dict(version=0x1F)))
+        fields |= chance.choice(({"version": 0x20}, {"nbr": 0}, {"length": 16 * most + 1}, {"off": 1}, {"nbw": 0}, {"version": 0x1F}))
     return blocks, attributes(**fields) + content
 
 
