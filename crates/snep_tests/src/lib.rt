@@ -14,6 +14,8 @@ mod get_tests;
 #[cfg(test)]
 mod link_tests;
 #[cfg(test)]
+mod loss_tests;
+#[cfg(test)]
 mod put_tests;
 #[cfg(test)]
 mod run_tests;
