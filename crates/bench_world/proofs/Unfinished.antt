@@ -19,8 +19,8 @@ use Rattle.bench_devices.specs.Placed.{device_with, IfPlaced}
 use Rattle.bench_devices.proofs.ImagesJoin.{law_start}
 use Rattle.bench_devices.proofs.TagOrPeer.{if_read}
 use Rattle.bench_world.specs.World.{Stable, WholeWorld}
-use Rattle.snep_core.specs.Talk.{Puts, Gets, Finds}
-use Rattle.link_calls.specs.Asking.{LinkAsking, Does, Closes}
+use Rattle.snep_core.specs.Talk.{client_sap}
+use Rattle.link_calls.specs.Asking.{LinkAsking, Does, Closes, Finding, Getting, put_from}
 use Rattle.bench_world.specs.Asked.{IsOnLink}
 use Rattle.bench_world.specs.Calls.{IfLinked}
 use Rattle.bench_world.specs.Links.{OpenLink}
@@ -141,9 +141,9 @@ front_left s t g (Read3 id) cut front stores = front_stays s t g (Read3 id) cut 
 front_left s t g (Write3 id m) cut front stores = front_written_three s t g id m cut front stores
 front_left s t g (Link id miu window) cut front stores = front_stays s t g (Link id miu window) cut front (ap (λ (z : Stable). z.devices) stores)
 front_left s t g (Forge id payloads) cut front stores = front_stays s t g (Forge id payloads) cut front (cut_devices (opens_link id payloads cut) s g.joins id payloads cut stores)
-front_left s t g (Put m) cut front stores = front_stays s t g (Put m) cut front (call_stays s g.joins (Does (Puts (message_of m))) (Put m) cut s.link refl stores)
-front_left s t g (Get most key) cut front stores = front_stays s t g (Get most key) cut front (call_stays s g.joins (Does (Gets most key)) (Get most key) cut s.link refl stores)
-front_left s t g (Lookup name) cut front stores = front_stays s t g (Lookup name) cut front (call_stays s g.joins (Does (Finds name)) (Lookup name) cut s.link refl stores)
+front_left s t g (Put m) cut front stores = front_stays s t g (Put m) cut front (call_stays s g.joins (Does (put_from 0 (message_of m))) (Put m) cut s.link refl stores)
+front_left s t g (Get most key) cut front stores = front_stays s t g (Get most key) cut front (call_stays s g.joins (Does (Getting client_sap most key)) (Get most key) cut s.link refl stores)
+front_left s t g (Lookup name) cut front stores = front_stays s t g (Lookup name) cut front (call_stays s g.joins (Does (Finding name)) (Lookup name) cut s.link refl stores)
 front_left s t g Unlink cut front stores = front_stays s t g Unlink cut front (call_stays s g.joins Closes Unlink cut s.link refl stores)
 front_left s t g c cut front stores = absurd stores
 

@@ -10,8 +10,8 @@ use Rattle.nfca_poll.proofs.OneLevel.{pointwise_self}
 use Rattle.t5t_tag.proofs.Bytes.{equal_bytes}
 use Rattle.t3t_access.specs.OwnWriting.{IsBegun, IsNew}
 use Rattle.tag_writer.specs.Law.{Ending}
-use Rattle.snep_core.specs.Talk.{Puts, Gets, Finds}
-use Rattle.link_calls.specs.Asking.{LinkAsking, Does, Closes}
+use Rattle.snep_core.specs.Talk.{client_sap}
+use Rattle.link_calls.specs.Asking.{LinkAsking, Does, Closes, Finding, Getting, put_from}
 use Rattle.bench_script.specs.declared.command.Command.{Command}
 use Rattle.bench_script.specs.declared.command.Command.TheVariants.{Skip, Fates, PlaceT2, PlaceT3, PlaceT4, PlaceT5, PlacePeer, Lock, Busy, Offer, Remove, Dump, Inbox, Find, Crowd, Poll3, Read, Read3, Write, Write3, Link, Forge, Put, Get, Lookup, Unlink}
 use Rattle.bench_script.specs.DeviceIds.{bytes_of}
@@ -276,9 +276,9 @@ module _ (s t : State) (g : Given) (e : Entry) (step : LegalStep s g e t) (sound
   by_command (Forge i payloads) is =
       let law : ForgeLaw s g.joins i payloads e.events e.answer = law_of (Forge i payloads) is in
       asked_well (Forge i payloads) is refl (forge_devices (opens_link i payloads e.events) s g.joins i payloads e.events law.leaves)
-  by_command (Put m) is = talk_well (Does (Puts (message_of m))) (Put m) is refl (law_of (Put m) is)
-  by_command (Get most key) is = talk_well (Does (Gets most key)) (Get most key) is refl (law_of (Get most key) is)
-  by_command (Lookup name) is = talk_well (Does (Finds name)) (Lookup name) is refl (law_of (Lookup name) is)
+  by_command (Put m) is = talk_well (Does (put_from 0 (message_of m))) (Put m) is refl (law_of (Put m) is)
+  by_command (Get most key) is = talk_well (Does (Getting client_sap most key)) (Get most key) is refl (law_of (Get most key) is)
+  by_command (Lookup name) is = talk_well (Does (Finding name)) (Lookup name) is refl (law_of (Lookup name) is)
   by_command Unlink is = talk_well Closes Unlink is refl (law_of Unlink is)
 
   pub stored_step : AreWellStored t.world.field.listeners

@@ -28,6 +28,13 @@ pub enum Loss {
     SixBad,
 }
 
+/// What a client was told of its put, by the number of its slot: the peer's server took the message, or refused it.
+#[derive(Clone, Copy, Debug, PartialEq, Eq)]
+pub struct SlotDone {
+    pub slot: u8,
+    pub success: bool,
+}
+
 /// The bench's answer to a command.
 #[derive(Debug, Drop, PartialEq)]
 pub enum Answer {
@@ -97,6 +104,8 @@ pub enum Answer {
     /// The reply of a peer to each payload that was written by hand.
     Replies(Items<Items<u8>>),
     /// The link was closed.
+    /// What each client was told of its put, in the order of the line.
+    Puts(Items<SlotDone>),
     Unlinked,
     /// No link is open.
     NoLink,

@@ -92,6 +92,7 @@ pub fn answer_pieces(entry: &Entry) -> AnswerPieces<'_>
         Answer::Sap(sap) => numbered(line, b"sap ", *sap as u64),
         Answer::LinkEnded(loss) => in_words(line, ended_by(*loss)),
         Answer::Replies(replies) => heard(line, replies.as_slice()),
+        Answer::Puts(_) => in_words(line, b"puts"),
         Answer::Unlinked => in_words(line, b"unlinked"),
         Answer::NoLink => in_words(line, b"no link"),
     }
