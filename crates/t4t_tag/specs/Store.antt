@@ -80,5 +80,9 @@ fresh code container file = record { code = code; container = container; file = 
 abbrev pub darkened : T4State → T4State
 darkened t = record t { selected = false; current = NoFile }
 
+-- the tag between two commands: its application selected or not, and this file the current one
+abbrev pub resumed : T4State → Bool → CurrentFile → T4State
+resumed t selected current = record t { selected = selected; current = current }
+
 abbrev pub store_fault_number : StoreFault → ℕ
 store_fault_number BadStore = 1

@@ -1,7 +1,7 @@
 //! A Type 4 tag.
 
 ghost use Rattle.std.specs.Prelude.{◌≡◌, ◌≢◌, ◌+◌, ◌<◌, ◌≤◌, ◌↔◌, length, IfOk, IsOk, MatchOption};
-ghost use Rattle.t4t_tag.specs.Store.{T4State, IsT4Store, IsT4State, IsSameTag, least_container, file_size, fresh, darkened, store_fault_number};
+ghost use Rattle.t4t_tag.specs.Store.{T4State, IsT4Store, IsT4State, IsSameTag, least_container, file_size, fresh, darkened, resumed, store_fault_number};
 ghost use Rattle.nfc_base.specs.Words.{word};
 ghost use Rattle.t4t_tag.specs.Step.{done, select_application, select_file, select_known, select_turn, read_bytes, read_file, read_turn, update_file, update_turn, t4_answer, t4_after};
 ghost use Rattle.t4t_tag.specs.declared.current.CurrentFile.{CurrentFile};
@@ -159,6 +159,28 @@ impl T4Tag {
     {
         self.selected = false;
         self.current = CurrentFile::NoFile;
+    }
+
+    /// Whether its application is selected.
+    pub fn is_selected(&self) -> bool
+        ensures { result ≡ self.now.selected }
+    {
+        self.selected
+    }
+
+    /// The file that it has open.
+    pub fn current(&self) -> CurrentFile
+        ensures { result ≡ self.now.current }
+    {
+        self.current
+    }
+
+    /// It stands where it stood between two commands, for an owner that keeps a tag as numbers and bytes.
+    pub fn resume(&mut self, selected: bool, current: CurrentFile)
+        ensures { self.new ≡ resumed self.old selected current }
+    {
+        self.selected = selected;
+        self.current = current;
     }
 
     /// One step: it obeys a command or refuses it, and answers with two status bytes at the end. It takes no memory.

@@ -72,5 +72,9 @@ fresh id size store =
 abbrev pub darkened : T5State → T5State
 darkened t = record t { quiet = false; round = None }
 
+-- the tag between two frames: told to stay quiet or not, and in this round or in none
+abbrev pub resumed : T5State → Bool → Option Round → T5State
+resumed t quiet round = record t { quiet = quiet; round = round }
+
 abbrev pub store_fault_number : StoreFault → ℕ
 store_fault_number BadStore = 1

@@ -13,4 +13,5 @@ mod tag;
 
 pub use answer::T5Answer;
 pub use command::T5Command;
+pub use round::Round;
 pub use tag::{NO_BLOCK, StoreFault, T5Tag};

@@ -21,6 +21,27 @@ impl Round {
         Round { slot, current: 0 }
     }
 
+    /// A round that stands in one slot, of a tag that answers in another, or in the same.
+    pub fn at(slot: u8, current: u8) -> Round
+        ensures { result ≡ record { slot = slot; current = current } }
+    {
+        Round { slot, current }
+    }
+
+    /// The slot in which the tag answers.
+    pub fn slot(&self) -> u8
+        ensures { result ≡ self.now.slot }
+    {
+        self.slot
+    }
+
+    /// The slot in which the round stands.
+    pub fn current(&self) -> u8
+        ensures { result ≡ self.now.current }
+    {
+        self.current
+    }
+
     /// The round in its next slot; there is none behind the last.
     pub(crate) fn next(&self) -> Option<Round>
         ensures { result ≡ moved_on self.now }

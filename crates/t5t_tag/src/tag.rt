@@ -2,7 +2,7 @@
 
 ghost use Rattle.std.specs.Prelude.{◌≡◌, ◌<◌, ◌≤◌, ◌+◌, ◌*◌, ◌↔◌, ◌∷◌, length, not, nat_le, IfOk, IsOk, Some};
 ghost use Rattle.t5t_tag.specs.Spelling.{inventory_code};
-ghost use Rattle.t5t_tag.specs.Store.{IsT5Store, IsT5State, block_count, fresh, darkened, locked_too, store_fault_number};
+ghost use Rattle.t5t_tag.specs.Store.{IsT5Store, IsT5State, block_count, fresh, darkened, resumed, locked_too, store_fault_number};
 ghost use Rattle.t5t_tag.specs.Step.{blocks_of, read_turn, read_many_turn, write_turn, obeyed, addressed, plain, inventory, in_slot, slots, bytes_turn, t5_answer, t5_after};
 ghost use Rattle.t5t_tag.specs.declared.answer.T5Answer.TheVariants.{Content};
 
@@ -140,6 +140,28 @@ impl T5Tag {
     {
         self.quiet = false;
         self.round = None;
+    }
+
+    /// Whether it was told to stay quiet.
+    pub fn is_quiet(&self) -> bool
+        ensures { result ≡ self.now.quiet }
+    {
+        self.quiet
+    }
+
+    /// The round of sixteen slots in which it is, if it is in one.
+    pub fn round(&self) -> Option<Round>
+        ensures { result ≡ self.now.round }
+    {
+        self.round
+    }
+
+    /// It stands where it stood between two frames, for an owner that keeps a tag as numbers and bytes.
+    pub fn resume(&mut self, quiet: bool, round: Option<Round>)
+        ensures { self.new ≡ resumed self.old quiet round }
+    {
+        self.quiet = quiet;
+        self.round = round;
     }
 
     /// One step: it obeys what is said to it, and is silent to every other frame. It takes no memory.
