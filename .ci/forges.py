@@ -227,26 +227,27 @@ class End:
         return None
 
 
-def replies(payloads, accepted):
-    """The reply to each payload. An end joins as many PDUs as fit; one that doesn't fit waits for the next payload."""
-    end, kept, told = End(accepted), [], []
-    for payload in payloads:
-        end.take(payload)
+class Replies:
+    """The replies of an end, which joins as many PDUs as fit; one that doesn't fit waits for the next payload."""
+
+    def __init__(self, accepted):
+        self.end, self.kept = End(accepted), []
+
+    def reply(self, payload):
+        self.end.take(payload)
         joined, size = [], 0
         while True:
-            pdu = kept.pop(0) if kept else end.next()
+            pdu = self.kept.pop(0) if self.kept else self.end.next()
             if pdu is None:
                 break
             if joined and size + 2 + len(pdu) > MIU:
-                kept.append(pdu)
+                self.kept.append(pdu)
                 break
             joined.append(pdu)
             size += 2 + len(pdu)
         if len(joined) > 1:
-            told.append(b"\0\x80" + b"".join(len(pdu).to_bytes(2, "big") + pdu for pdu in joined))
-        else:
-            told.append(joined[0] if joined else b"\0\0")
-    return told
+            return b"\0\x80" + b"".join(len(pdu).to_bytes(2, "big") + pdu for pdu in joined)
+        return joined[0] if joined else b"\0\0"
 
 
 def usual(chance):
@@ -284,8 +285,8 @@ def compare(program, seed, count):
     for link in range(1, count + 1):
         payloads = [changed(chance, payload) for payload in usual(chance)]
         lines.append(f"forge {ID} " + " ".join(payload.hex().upper() for payload in payloads))
-        told = replies(payloads, lambda sap, message: accepted.append((link, sap, message.hex().upper() or "-")))
-        wanted.append("heard " + " ".join(reply.hex().upper() for reply in told))
+        end = Replies(lambda sap, message: accepted.append((link, sap, message.hex().upper() or "-")))
+        wanted.append("heard " + " ".join(end.reply(payload).hex().upper() for payload in payloads))
     lines.append(f"inbox {ID}")
     texts = [f"{link}:{text}" if sap == 32 else f"{link}.{sap}:{text}" for link, sap, text in accepted]
     wanted.append(" ".join([f"inbox {len(accepted)}", *texts]))

@@ -5,15 +5,15 @@ use Rattle.std.proofs.lemmas.List.{append-nil, length-map}
 use Rattle.nfc_base.specs.declared.event.Event.{Event}
 use Rattle.nfc_base.specs.declared.event.Fate.{Fate}
 use Rattle.bench_script.specs.declared.command.Command.{Command}
-use Rattle.bench_script.specs.declared.command.Command.TheVariants.{Find, Crowd, Poll3, Read, Read3, Write, Write3, Link, Forge, Put, Get, Lookup, Unlink}
+use Rattle.bench_script.specs.declared.command.Command.TheVariants.{Find, Crowd, Poll3, Read, Read3, Write, Write3, Link, Forge, Put, Get, Lookup, Unlink, OnPut, OnGet, Puts}
 use Rattle.bench_devices.specs.declared.device.Device.{Device}
 use Rattle.bench_devices.specs.Keeping.{Kept, AllStayDevices, IsSound, StaysDevice, kept}
 use Rattle.bench_world.specs.World.{WholeWorld, Stable}
 use Rattle.bench_world.specs.ByPayloads.{IsFrontOfPayloads}
-use Rattle.link_calls.specs.Asking.{LinkAsking, Does, Closes, Finding, Getting, put_from}
-use Rattle.snep_core.specs.Talk.{client_sap}
+use Rattle.link_calls.specs.Asking.{LinkAsking, Does, Closes, Finding, Getting, put_from, Putting}
+use Rattle.snep_core.specs.Talk.{client_sap, sap_of_slot}
 use Rattle.bench_script.specs.Messages.{message_of}
-use Rattle.bench_world.specs.Asked.{IsOnLink, asked_on_link}
+use Rattle.bench_world.specs.Asked.{IsOnLink, asked_on_link, slot_messages}
 use Rattle.bench_world.specs.Calls.{OfEnd, PeerMayAdd}
 use Rattle.bench_world.specs.Legal.{State, Given, Joins, Accepts, CutFront, CutLeft, CutShort, EachLegal, CutStores, ForgeCutLeaves, ForgeHalts, FrontOf, HaltAdded, HaltLeaves, Halts, PeerHalts, end_of, first_state, state_after, world_after}
 use Rattle.bench_world.specs.LinkLaw.{CutArrivalLaw, CutLinkLaw, KeepsLinkLaw, cut_stretch}
@@ -91,6 +91,9 @@ module _ (w : WholeWorld) (q : List Fate) (p : Peers) (ys : List Story) (g : Giv
   front_by o (Put m) es t stand front stores = talk_by o (Does (put_from 0 (message_of m))) (Put m) refl es t stand front stores
   front_by o (Get most key) es t stand front stores = talk_by o (Does (Getting client_sap most key)) (Get most key) refl es t stand front stores
   front_by o (Lookup name) es t stand front stores = talk_by o (Does (Finding name)) (Lookup name) refl es t stand front stores
+  front_by o (OnPut slot m) es t stand front stores = talk_by o (Does (put_from slot (message_of m))) (OnPut slot m) refl es t stand front stores
+  front_by o (OnGet slot most key) es t stand front stores = talk_by o (Does (Getting (sap_of_slot slot) most key)) (OnGet slot most key) refl es t stand front stores
+  front_by o (Puts puts) es t stand front stores = talk_by o (Does (Putting (slot_messages puts))) (Puts puts) refl es t stand front stores
   front_by o Unlink es t stand front stores = talk_by o Closes Unlink refl es t stand front stores
   front_by o c es t stand front stores = absurd stores
 

@@ -7,9 +7,10 @@ use Rattle.nfc_base.specs.declared.event.Fate.{Fate}
 use Rattle.air_core.specs.Conversation.{queue_after, Over, replay}
 use Rattle.llcp_link.specs.State.{restarted}
 use Rattle.snep_core.specs.Server.{Received as Accepted, serving}
-use Rattle.snep_core.specs.Talk.{client_sap}
+use Rattle.snep_core.specs.Talk.{client_sap, sap_of_slot}
 use Rattle.bench_script.specs.declared.command.Command.{Command}
-use Rattle.bench_script.specs.declared.command.Command.TheVariants.{Skip, Fates, PlaceT2, PlaceT3, PlaceT4, PlaceT5, PlacePeer, Lock, Busy, Offer, Remove, Dump, Inbox, Find, Crowd, Poll3, Read, Read3, Write, Write3, Link, Forge, Put, Get, Lookup, Unlink}
+use Rattle.bench_script.specs.declared.command.Command.TheVariants as commands
+use Rattle.bench_script.specs.declared.command.Command.TheVariants.{Skip, Fates, PlaceT2, PlaceT3, PlaceT4, PlaceT5, PlacePeer, Lock, Busy, Offer, Remove, Dump, Inbox, Find, Crowd, Poll3, Read, Read3, Write, Write3, Link, Forge, Raw, Put, Get, Lookup, OnPut, OnGet, Unlink}
 use Rattle.bench_script.specs.declared.command.DeviceId.{DeviceId}
 use Rattle.bench_script.specs.DeviceIds.{bytes_of}
 use Rattle.bench_script.specs.Messages.{message_of}
@@ -23,7 +24,7 @@ use Rattle.bench_world.specs.declared.entry.Entry.{Entry}
 use Rattle.bench_world.specs.declared.inbox.LinkRange.{LinkRange}
 use Rattle.bench_world.specs.World.{FarEnd, WholeWorld, Stable, bench_air, stable}
 use Rattle.bench_world.specs.Forging.{forged_general, opens_link}
-use Rattle.link_calls.specs.Asking.{LinkAsking, Does, Closes, Finding, Getting, put_from}
+use Rattle.link_calls.specs.Asking.{LinkAsking, Does, Closes, Finding, Getting, put_from, Putting}
 use Rattle.bench_world.specs.Calls.{AllAdd, OfEnd, asked_behind, told_asked, with_accepted}
 use Rattle.bench_world.specs.Inbox.{inbox_at, inbox_of}
 use Rattle.bench_world.specs.Legal.{State, Given, Joins, Accepts, IsPeerPlaced, AnswerBy, AnswerLaw, ForgeLeaves, FrontOf, LegalStep, EachLegal, begun, changed, due, due_by, end_of, first_state, inbox_now, link_after, link_left, peers_after, peers_forged, peers_left, world_after, state_after}
@@ -42,7 +43,7 @@ use Rattle.snep_core.specs.Links.{Told}
 use Rattle.link_calls.specs.declared.request.SlotMessage.{SlotMessage}
 use Rattle.far_air.specs.FarWorld.{with_numbers}
 use Rattle.air_core.specs.Turning.{due_weaker}
-use Rattle.bench_world.specs.Asked.{asked_on_link}
+use Rattle.bench_world.specs.Asked.{asked_on_link, slot_messages}
 use Rattle.bench_world.proofs.CompleteLinks.{over_end}
 use Rattle.bench_world.proofs.PutsTold.{AreTold}
 use Rattle.bench_world.proofs.Talked.{AddsBy, adds_all, apart_of, none_behind, puts_asked, talk_begins}
@@ -390,9 +391,13 @@ module _ (w : WholeWorld) (q : List Fate) (p : Peers) (ys : List Story) (g : Giv
       by : (v : Bool) → opens_link id payloads es ≡ v → ForgeLeaves v (from o) g.joins id payloads es → so o (Forge id payloads) es (state_after (from o) g.joins (Forge id payloads) es (Some a))
       by true opened sends = forge_sent w q p ys o stand g (Some a) id payloads es opened sends.peer sends.placed sends.more sends.ends
       by false unopened stays = forge_unsent w q p ys o stand g (Some a) id payloads es unopened stays
+  step_by o (Raw id frames) es t stand front law = absurd law
   step_by o (Put m) es t stand front law = talk_by o (Does (put_from 0 (message_of m))) (Put m) refl es t stand front law
   step_by o (Get most key) es t stand front law = talk_by o (Does (Getting client_sap most key)) (Get most key) refl es t stand front law
   step_by o (Lookup name) es t stand front law = talk_by o (Does (Finding name)) (Lookup name) refl es t stand front law
+  step_by o (OnPut slot m) es t stand front law = talk_by o (Does (put_from slot (message_of m))) (OnPut slot m) refl es t stand front law
+  step_by o (OnGet slot most key) es t stand front law = talk_by o (Does (Getting (sap_of_slot slot) most key)) (OnGet slot most key) refl es t stand front law
+  step_by o (commands.Puts puts) es t stand front law = talk_by o (Does (Putting (slot_messages puts))) (commands.Puts puts) refl es t stand front law
   step_by o Unlink es t stand front law = talk_by o Closes Unlink refl es t stand front law
 
 pub step : (s t : State) (g : Given) (e : Entry) (ys : List Story) → Stand s ys → LegalStep s g e t → Stand t (stories_behind s (stretch_of g.joins e) t ys)

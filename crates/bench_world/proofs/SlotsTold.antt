@@ -1,5 +1,9 @@
 -- What slots tell of messages that were put at once is what their jobs do.
-use Rattle.std.proofs.Common.{◌≡◌, ℕ, Bool, true, false, List, [], ◌∷◌, map, length, get_or, if◌then◌else◌, Option, Some, None, refl, sym, ◌∙◌, ap, subst, arith}
+use Rattle.std.proofs.Common.{◌≡◌, ◌<◌, ◌+◌, ◌++◌, ℕ, Bool, true, false, List, [], ◌∷◌, append_assoc, drop, map, length, get_or, set, take, if◌then◌else◌, Option, Some, None, refl, sym, ◌∙◌, ap, subst, arith}
+use Rattle.std.specs.List.{All}
+use Rattle.std.proofs.Math.Seq.{take-append_seam}
+use Rattle.std.proofs.lemmas.List.{drop-set-lt, drop_more, take_more_set}
+use Rattle.std.proofs.lemmas.List.Elements.{All-cons, All-nil, All-tail}
 use Rattle.snep_core.specs.declared.slot.Outcome.{Outcome}
 use Rattle.snep_core.specs.declared.slot.Outcome.TheVariants as outcomes
 use Rattle.snep_core.specs.declared.slot.Slot.{Slot}
@@ -70,3 +74,29 @@ pub several_by_slot : (ws : List SlotMessage) (ds : List SlotDone) (slots : List
 several_by_slot [] ds slots many is = ap (λ xs. answers.Puts (map (marked_done slots) xs)) (sym is)
 several_by_slot (x ∷ []) ds slots many is = absurd (many refl)
 several_by_slot (x ∷ y ∷ ws) ds slots many is = ap answers.Puts (sym (marked_all slots (x ∷ y ∷ ws)) ∙ ap (map (marked_done slots)) (sym is))
+
+-- A list that is changed one by one.
+pub map_next : {X : Type 0} (f : X → X) (i : ℕ) (xs : List X) (y d : X) → i < length xs → y ≡ f (get_or xs i d)
+    → take i xs ++ map f (drop i xs) ≡ take (i + 1) (set xs i y) ++ map f (drop (i + 1) (set xs i y))
+map_next f i xs y d l e =
+    let less : i < i + 1 = omega arith in
+    ap (λ zs. take i xs ++ map f zs) (drop_more xs i d l)
+    ∙ ap (λ z. take i xs ++ z ∷ map f (drop (i + 1) xs)) (sym e)
+    ∙ sym (append_assoc (take i xs) (y ∷ []) (map f (drop (i + 1) xs)))
+    ∙ ap (λ zs. zs ++ map f (drop (i + 1) xs)) (sym (take_more_set xs i y l))
+    ∙ ap (λ zs. take (i + 1) (set xs i y) ++ map f zs) (sym (drop-set-lt (i + 1) xs i y less))
+
+pub rest_next : {X : Type 0} (P : X → Type 0) (i : ℕ) (xs : List X) (y d : X) → i < length xs → All P (drop i xs) → All P (drop (i + 1) (set xs i y))
+rest_next P i xs y d l h =
+    let less : i < i + 1 = omega arith in
+    subst (All P) (sym (drop-set-lt (i + 1) xs i y less)) (All-tail P (get_or xs i d) (drop (i + 1) xs) (subst (All P) (drop_more xs i d l) h))
+
+-- each of these is told by a slot
+pub done_within : (ws : List SlotMessage) → AreApart ws → All (λ (d : SlotDone). d.slot < slot_count) (map not_yet ws)
+done_within [] apart = All-nil (λ (d : SlotDone). d.slot < slot_count)
+done_within (w ∷ ws) apart = All-cons (λ (d : SlotDone). d.slot < slot_count) (not_yet w) (map not_yet ws) apart.0 (done_within ws apart.3)
+
+-- what is written to a slice of all of a list is the list then
+pub written_all : {X : Type 0} (n : ℕ) (xs ys : List X) → n ≡ length ys → length xs ≡ length ys → take n (xs ++ drop (length xs) ys) ≡ xs
+written_all n xs ys many same =
+    ap (λ k. take k (xs ++ drop (length xs) ys)) (many ∙ sym same) ∙ take-append_seam xs (drop (length xs) ys)

@@ -24,7 +24,8 @@ use Rattle.link_calls.specs.declared.request.LinkRequest.TheVariants as requests
 use Rattle.link_calls.specs.declared.request.SlotMessage.{SlotMessage}
 use Rattle.link_calls.specs.Calls.{CallFails, IsCutOff, IsMade}
 use Rattle.bench_script.specs.declared.command.Command.{Command}
-use Rattle.bench_script.specs.declared.command.Command.TheVariants.{Put, Get, Lookup, Unlink}
+use Rattle.bench_script.specs.declared.command.Command.TheVariants.{Put, Get, Lookup, OnPut, OnGet, Unlink}
+use Rattle.bench_script.specs.declared.command.Command.TheVariants as commands
 use Rattle.bench_devices.specs.declared.device.Device.{Device}
 use Rattle.bench_devices.specs.Device.{device_end}
 use Rattle.bench_devices.specs.Keeping.{ghosts}
@@ -75,6 +76,9 @@ module _ (air : Air Device) (ends : FarEnds) (peers : Peers) (settled : IsSettle
   none_open (Put m) on may = none_so (Put m) may refl refl refl (λ ns. refl) (λ es. refl)
   none_open (Get most key) on may = none_so (Get most key) may refl refl refl (λ ns. refl) (λ es. refl)
   none_open (Lookup name) on may = none_so (Lookup name) may refl refl refl (λ ns. refl) (λ es. refl)
+  none_open (OnPut slot m) on may = none_so (OnPut slot m) may refl refl refl (λ ns. refl) (λ es. refl)
+  none_open (OnGet slot most key) on may = none_so (OnGet slot most key) may refl refl refl (λ ns. refl) (λ es. refl)
+  none_open (commands.Puts puts) on may = none_so (commands.Puts puts) may refl refl refl (λ ns. refl) (λ es. refl)
   none_open Unlink on may = none_so Unlink may refl refl refl (λ ns. refl) (λ es. refl)
   none_open c on may = off on
 

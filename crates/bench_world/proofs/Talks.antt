@@ -6,7 +6,7 @@ use Rattle.snep_core.specs.Server.{Received}
 use Rattle.snep_core.specs.Talk.{closes}
 use Rattle.link_calls.specs.Asking.{LinkAsking, Does, Closes, call_begins}
 use Rattle.bench_script.specs.declared.command.Command.{Command}
-use Rattle.bench_script.specs.declared.command.Command.TheVariants.{Put, Get, Lookup, Unlink, Read, Read3, Write, Write3}
+use Rattle.bench_script.specs.declared.command.Command.TheVariants.{Put, Get, Lookup, OnPut, OnGet, Puts, Unlink, Read, Read3, Write, Write3}
 use Rattle.bench_world.specs.Asked.{IsOnLink, asked_on_link}
 use Rattle.bench_world.specs.Calls.{OfEnd, accepting_if, due_asked, with_accepted}
 use Rattle.bench_world.specs.Legal.{State, CutFront, CutShort, IsAskedBy, Joins, changed, end_of}
@@ -26,6 +26,9 @@ pub still_on : (s : State) (c : Command) → IsOnLink c → changed s c ≡ s
 still_on s (Put m) on = refl
 still_on s (Get most key) on = refl
 still_on s (Lookup name) on = refl
+still_on s (OnPut slot m) on = refl
+still_on s (OnGet slot most key) on = refl
+still_on s (Puts puts) on = refl
 still_on s Unlink on = refl
 still_on s c on = off on
 

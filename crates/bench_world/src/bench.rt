@@ -10,6 +10,7 @@ ghost use Rattle.bench_devices.specs.Phases.{IsIdle};
 ghost use Rattle.snep_core.specs.Calling.{ClientState};
 
 use crate::asking::{find, find_tags, read_tag, write_message};
+use crate::at_once::{on_get, on_put, puts};
 use crate::calling::{get, lookup, put, unlink};
 use crate::entry::{Answer, Entry};
 use crate::forging::forge;
@@ -378,9 +379,17 @@ fn run_command(
         Command::Forge { id, payloads } => {
             forge(alloc, machines, joins, id, payloads.as_slice())
         }
+        Command::Raw { .. } => Err(ObeyFault::Refused),
         Command::Put { message } => put(alloc, machines, joins, message),
         Command::Get { acceptable, key } => get(machines, joins, *acceptable, key.as_slice()),
         Command::Lookup { name } => lookup(machines, joins, name.as_slice()),
+        Command::OnPut { slot, message } => on_put(alloc, machines, joins, *slot, message),
+        Command::OnGet {
+            slot,
+            acceptable,
+            key,
+        } => on_get(machines, joins, *slot, *acceptable, key.as_slice()),
+        Command::Puts(all) => puts(alloc, machines, joins, all.as_slice()),
         Command::Unlink => unlink(machines, joins),
     }
 }

@@ -27,7 +27,7 @@ use snep_core::{Client, Ending, Refusal, Server, SnepFault};
 use std::alloc::Global;
 
 /// The longest message (NFC Forum SNEP 1.0 has no limit; this one is this project's own).
-const LONGEST_MESSAGE: usize = 65536;
+pub(crate) const LONGEST_MESSAGE: usize = 65536;
 
 /// The longest name of a service (this project's limit).
 const LONGEST_NAME: usize = 64;
@@ -134,7 +134,7 @@ pub(crate) fn fault_told(fault: SnepFault) -> Result<Answer, ObeyFault>
 }
 
 /// Asks something on the open link, where there is one: the link stays open behind a call that came to its end.
-fn talk(
+pub(crate) fn talk(
     machines: &mut Machines,
     joins: Joins,
     request: &LinkRequest<'_>,
