@@ -1,5 +1,5 @@
 -- What begins a log of an end is one thing, and leaves less; and what is told of an end behind the whole log.
-use Rattle.std.proofs.Common.{◌≡◌, ℕ, List, [], ◌∷◌, ◌++◌, length, drop, slice_index, Option, Some, None, ap, sym, refl, ◌∙◌, arith, length-append}
+use Rattle.std.proofs.Common.{◌≡◌, ℕ, List, [], ◌∷◌, ◌++◌, length, drop, slice_index, Option, None, ap, sym, refl, ◌∙◌, arith, length-append}
 use Rattle.zevlodek_c.specs.declared.showing.Told.{Told}
 use Rattle.zevlodek_c.specs.Log.{counted}
 use Rattle.zevlodek_c.specs.Showing.{Seen}

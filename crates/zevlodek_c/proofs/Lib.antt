@@ -8,3 +8,7 @@ pub mod Chunks
 pub mod Telling
 pub mod NamedAreas
 pub mod EntryLogs
+pub mod NearNames
+pub mod NearWalks
+pub mod NearReplays
+pub mod Nears

@@ -9,7 +9,7 @@ use Rattle.zevlodek_c.specs.declared.showing.Told.{Told}
 use Rattle.zevlodek_c.specs.declared.t5_tags.T5Standing.{T5Standing}
 use Rattle.zevlodek_c.specs.Codes.{done}
 use Rattle.zevlodek_c.specs.Showing.{Seen, shows}
-use Rattle.zevlodek_c.specs.Tags.{Stepped, answered, answered_with, locked_from}
+use Rattle.zevlodek_c.specs.Tags.{answered, locked_from}
 use Rattle.zevlodek_c.specs.T5Tags.{t5_held}
 
 pick : {K : Type 0} (b : Bool) (x y : K) → b ≡ true → x ≡ (if b then x else y)

@@ -1,6 +1,6 @@
 -- Both ends of NFC-DEP by what came on a link, as C asks for them, and the frames by which a link begins (NFCIP-1, ISO/IEC
 -- 18092; NFC Forum Digital Protocol; how C keeps what came, and the numbers of faults, are this project's own).
-use Rattle.std.specs.Prelude.{◌≡◌, ◌≤◌, ◌<◌, ℕ, ◌==◌, nat_le, if◌then◌else◌, List, length, Option, Some, None}
+use Rattle.std.specs.Prelude.{◌≡◌, ◌≤◌, ◌<◌, ℕ, ◌==◌, ◌&&◌, nat_le, if◌then◌else◌, List, length, Option, Some, None}
 use Rattle.nfc_base.specs.Signal.{whole_a}
 use Rattle.nfc_base.specs.declared.event.Heard.{Heard}
 use Rattle.dep_pdu.specs.declared.frame.DepFrame.{DepFrame}
@@ -17,6 +17,10 @@ use Rattle.zevlodek_c.specs.declared.showing.Told.{Told}
 use Rattle.zevlodek_c.specs.Codes.{done, send, silent, asleep, opened, released, bad_argument, dep_six_bad, dep_no_answer}
 use Rattle.zevlodek_c.specs.Entries.{Entry, EndTells, a_frame, a_reply, begins_with, heard_of, most_frame}
 use Rattle.zevlodek_c.specs.Showing.{Seen, shows, answers}
+
+-- the most bytes of a payload, and of a reply
+abbrev pub most_payload : ℕ
+most_payload = 2178
 
 -- An initiator, and what it does behind what came; nothing before the first payload.
 pub record InitiatorNow : Type 0 where
@@ -39,7 +43,9 @@ initiator_hears s (Some h) = Some (initiator_took (init_table s h))
 -- In the initiator's log stand payloads, and what was heard of the frame that was sent last.
 abbrev pub initiator_takes : InitiatorNow → Entry → Option InitiatorNow
 initiator_takes n e =
-    if e.kind == begins_with then Some (initiator_asks (begun n.state e.content)) else initiator_hears n.state (heard_of e)
+    if e.kind == begins_with
+    then (if nat_le (length e.content) most_payload then Some (initiator_asks (begun n.state e.content)) else None)
+    else initiator_hears n.state (heard_of e)
 
 -- the frame that is to be sent, the reply to the payload, or how the exchange ended
 abbrev pub initiator_step_shown : Option InitStep → List ℕ → Told → Seen
@@ -73,7 +79,7 @@ target_replied t content _ = None
 abbrev pub target_takes : TargetTurn → Entry → Option TargetTurn
 target_takes n e =
     if e.kind == a_frame then (if nat_le (length e.content) most_frame then Some (target_table n.state (whole_a e.content)) else None)
-    else if e.kind == a_reply then target_replied n.state e.content n.does
+    else if (e.kind == a_reply) && nat_le (length e.content) most_payload then target_replied n.state e.content n.does
     else None
 
 -- the frame that is to be sent, or the payload that is to be replied to

@@ -1,6 +1,6 @@
 -- What stands in the log of an end of a link, one entry behind the other, and an end behind all of them (how C keeps them
 -- is this project's own).
-use Rattle.std.specs.Prelude.{◌≡◌, ◌≤◌, ℕ, ◌==◌, nat_le, not, if◌then◌else◌, List, [], ◌∷◌, ◌++◌, length, Option, Some, None}
+use Rattle.std.specs.Prelude.{◌≡◌, ◌<◌, ℕ, ◌==◌, nat_le, not, if◌then◌else◌, List, [], ◌∷◌, ◌++◌, length, Option, Some, None}
 use Rattle.nfc_base.specs.Signal.{whole_a}
 use Rattle.nfc_base.specs.declared.event.Heard.{Heard}
 use Rattle.nfc_base.specs.declared.event.Heard.TheVariants as hears
@@ -15,10 +15,10 @@ pub record Entry : Type 0 where
   pub kind : ℕ
   pub content : List ℕ
 
--- an entry that begins a log: the longest is a payload of NFC-DEP
+-- an entry that begins a log
 pub record SpellsEntry (e : Entry) (log rest : List ℕ) : Type 0 where
   pub bytes : log ≡ e.kind ∷ counted e.content ++ rest
-  pub short : length e.content ≤ 2178
+  pub short : length e.content < 65536
 
 abbrev pub SpellsEntries : List Entry → List ℕ → Type 0
 SpellsEntries es log = Spelled SpellsEntry es log

@@ -13,3 +13,5 @@ pub mod Replaying
 pub mod Entries
 pub mod Iso
 pub mod Dep
+pub mod Near
+pub mod NearReplaying

@@ -1,5 +1,5 @@
 -- One step of a Type 4 tag whose files C keeps (this project's own; the table is that of the tag's crate).
-use Rattle.std.specs.Prelude.{◌≡◌, ℕ, ℤ, ◌≤◌, ◌==◌, ◌⊎◌, not, List, Bool, Option, Some, None, if◌then◌else◌}
+use Rattle.std.specs.Prelude.{◌≡◌, ℕ, ℤ, ◌≤◌, ◌==◌, ◌⊎◌, List, Option, Some, None, if◌then◌else◌}
 use Rattle.t4t_tag.specs.declared.current.CurrentFile.{CurrentFile}
 use Rattle.t4t_tag.specs.declared.current.CurrentFile.TheVariants.{NoFile, Container, Ndef}
 use Rattle.t4t_tag.specs.Store.{T4State, IsT4Store, most_code, fresh, resumed}

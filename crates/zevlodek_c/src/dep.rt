@@ -26,6 +26,9 @@ const MOST_ASKED: usize = 48;
 
 const MOST_ANSWERED: usize = 47;
 
+/// The longest payload, and the longest reply.
+const LONGEST: usize = 2178;
+
 /// An initiator, and what it does behind what came; nothing before the first payload.
 #[derive(Drop)]
 struct InitiatorSide {
@@ -50,6 +53,9 @@ impl Replayed for InitiatorSide {
     fn take(self, kind: u8, content: &[u8]) -> Option<InitiatorSide> {
         let InitiatorSide { mut end, step: _ } = self;
         if kind == BEGUN {
+            if content.len() > LONGEST {
+                return None;
+            }
             let step = Some(InitStep::Send(end.begin(content)));
             return Some(InitiatorSide { end, step });
         }
@@ -75,12 +81,7 @@ fn show_initiator(side: InitiatorSide, out: &mut [u8], told: &mut Told) -> i32
 /// `DONE` where the reply to the last payload stands there.
 #[tactic(auto, using(crate::proofs::EntryLogs::tells_replayed))]
 #[unsafe(no_mangle)]
-pub extern "C" fn zev_dep_initiator_next(
-    lr: u8,
-    log: &[u8],
-    out: &mut [u8],
-    told: &mut Told,
-) -> i32
+pub extern "C" fn zev_dep_initiator_next(lr: u8, log: &[u8], out: &mut [u8], told: &mut Told) -> i32
     ensures { InitiatorTells lr log.now out.old told.old (record { answer = result; out = out.new; told = told.new }) }
 {
     if lr >= LR_CODES {
@@ -126,7 +127,7 @@ impl Replayed for TargetSide {
             let step = end.hear(&frame);
             return Some(TargetSide { end, step });
         }
-        if kind != REPLY {
+        if kind != REPLY || content.len() > LONGEST {
             return None;
         }
         match step {
@@ -215,12 +216,14 @@ pub extern "C" fn zev_dep_general(frame: &[u8], out: &mut [u8], told: &mut Told)
             told.code = lr as u16;
             show(DONE, general.as_slice(), out, told)
         }
-        Ok(DepFrame::AtrRes {
-            id: _,
-            timeout: _,
-            lr,
-            general,
-        }) => {
+        Ok(
+            DepFrame::AtrRes {
+                id: _,
+                timeout: _,
+                lr,
+                general,
+            },
+        ) => {
             told.code = lr as u16;
             show(DONE, general.as_slice(), out, told)
         }

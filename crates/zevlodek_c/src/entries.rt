@@ -18,21 +18,17 @@ const NOTHING: u8 = 3;
 
 pub const REPLY: u8 = 4;
 
-/// The longest entry: a payload of NFC-DEP.
-const LONGEST: usize = 2178;
-
 /// An end of a link, and what it does behind the entries so far.
 pub trait Replayed {
     /// The end behind one entry more, where it takes that.
     ghost takes: { Self → Entry → Option Self };
 
     fn take(self, kind: u8, content: &[u8]) -> Option<Self>
-        requires short { length content.now ≤ 2178 }
         ensures taken { result ≡ takes self (record { kind = kind; content = content.now }) };
 }
 
 /// The entry that a log begins with, and what stands behind it.
-fn entry_of(log: &[u8]) -> Option<(u8, &[u8], &[u8])>
+pub fn entry_of(log: &[u8]) -> Option<(u8, &[u8], &[u8])>
     ensures some { IfSome result (λ p. SpellsEntry (record { kind = p.0; content = p.1.now }) log.now p.2.now) }
     ensures none { result ≡ None → (e : Entry) (rest : List ℕ) → SpellsEntry e log.now rest → ⊥ }
 {
@@ -40,9 +36,6 @@ fn entry_of(log: &[u8]) -> Option<(u8, &[u8], &[u8])>
         return None;
     };
     let (content, rest) = counted(rest)?;
-    if content.len() > LONGEST {
-        return None;
-    }
     Some((*kind, content, rest))
 }
 

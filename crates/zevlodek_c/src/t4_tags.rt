@@ -50,12 +50,7 @@ fn standing_of(tag: &T4Tag) -> T4Standing
 }
 
 /// The tag that these files and this standing make, or the answer to who hands in what makes none.
-fn tag_of(
-    alloc: Global,
-    container: &[u8],
-    file: &[u8],
-    standing: &T4Standing,
-) -> Result<T4Tag, i32>
+fn tag_of(alloc: Global, container: &[u8], file: &[u8], standing: &T4Standing) -> Result<T4Tag, i32>
     ensures ok { IfOk result (λ t. IsT4Asked container.now file.now standing.now
         × (t ≡ t4_held container.now file.now standing.now)) }
     ensures err { IfErr result (NoTag (IsT4Asked container.now file.now standing.now)) }

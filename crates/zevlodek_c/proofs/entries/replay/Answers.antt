@@ -1,5 +1,5 @@
 use Rattle.std.proofs.Common.{rules, ◌≡◌, List, [], ◌∷◌, length, Option, Some, None, ap, sym, refl, ◌∙◌}
-use Rattle.zevlodek_c.specs.Entries.{Entry, IsEntryLog, SpellsEntries, SpellsEntry, takes_all}
+use Rattle.zevlodek_c.specs.Entries.{Entry, SpellsEntries, SpellsEntry, takes_all}
 use Rattle.zevlodek_c.proofs.Chains.{IsLeft, left_behind, none_begins, nothing_left}
 use Rattle.zevlodek_c.proofs.EntryLogs.{less_entry, none_takes, one_entry}
 use Rattle.zevlodek_c.proofs.Spelled.{no_bytes}
@@ -10,7 +10,7 @@ pub returns-in_default : goal.returns-in_default
 returns-in_default g c = record {
   same = λ es s.
       let all : (more : List Entry) × SpellsEntries more c.loop-rest.rest.now
-          × (takes_all g.E.Replayed.takes (Some c.args.end) es ≡ takes_all g.E.Replayed.takes (Some c.loop-rest.now) more)
+      × (takes_all g.E.Replayed.takes (Some c.args.end) es ≡ takes_all g.E.Replayed.takes (Some c.loop-rest.now) more)
       = c.loop-rest.invariant.goes es s in
       absurd (none_begins SpellsEntry c.loop-rest.rest.now (c.in_default.ensures.none (search rules)) (search rules) all.0 all.1);
   none = λ no. refl;
@@ -22,7 +22,7 @@ returns-in-None g c = record {
   same = λ es s.
       let d : Entry = record { kind = c.in-Some.kind; content = c.in-Some.content.now } in
       let all : (more : List Entry) × SpellsEntries more c.loop-rest.rest.now
-          × (takes_all g.E.Replayed.takes (Some c.args.end) es ≡ takes_all g.E.Replayed.takes (Some c.loop-rest.now) more)
+      × (takes_all g.E.Replayed.takes (Some c.args.end) es ≡ takes_all g.E.Replayed.takes (Some c.loop-rest.now) more)
       = c.loop-rest.invariant.goes es s in
       let left : IsLeft SpellsEntry d c.in-Some.left.now all.0 =
       left_behind SpellsEntry less_entry one_entry d c.loop-rest.rest.now c.in-Some.left.now (search rules) all.0 all.1 in
@@ -42,12 +42,15 @@ loop-rest-preserved g c =
       whole = λ log. c.loop-rest.invariant.whole (d ∷ log.0, (c.in-Some.left.now, spelled, log.1));
       goes = λ es s.
           let all : (more : List Entry) × SpellsEntries more c.loop-rest.rest.now
-              × (takes_all g.E.Replayed.takes (Some c.args.end) es ≡ takes_all g.E.Replayed.takes (Some c.loop-rest.now) more)
+          × (takes_all g.E.Replayed.takes (Some c.args.end) es ≡ takes_all g.E.Replayed.takes (Some c.loop-rest.now) more)
           = c.loop-rest.invariant.goes es s in
           let left : IsLeft SpellsEntry d c.in-Some.left.now all.0 =
-          left_behind SpellsEntry less_entry one_entry d c.loop-rest.rest.now c.in-Some.left.now spelled all.0 all.1 in
-          (left.more, left.spelled, all.2 ∙ (ap (λ (xs : List Entry). takes_all g.E.Replayed.takes (Some c.loop-rest.now) xs) left.all_are
-          ∙ ap (λ (o : Option g.row.E.Denot). takes_all g.E.Replayed.takes o left.more) (sym took)));
+          left_behind SpellsEntry less_entry one_entry d c.loop-rest.rest.now c.in-Some.left.now spelled all.0 all.1 in (
+            left.more,
+            left.spelled,
+            all.2 ∙ (ap (λ (xs : List Entry). takes_all g.E.Replayed.takes (Some c.loop-rest.now) xs) left.all_are
+                ∙ ap (λ (o : Option g.row.E.Denot). takes_all g.E.Replayed.takes o left.more) (sym took)),
+          );
     }
 
 -- src/entries.rt:70:1
@@ -57,7 +60,7 @@ returns g c =
     record {
       same = λ es s.
           let all : (more : List Entry) × SpellsEntries more c.loop-rest.rest.now
-              × (takes_all g.E.Replayed.takes (Some c.args.end) es ≡ takes_all g.E.Replayed.takes (Some c.loop-rest.now) more)
+          × (takes_all g.E.Replayed.takes (Some c.args.end) es ≡ takes_all g.E.Replayed.takes (Some c.loop-rest.now) more)
           = c.loop-rest.invariant.goes es s in
           sym (all.2 ∙ ap (λ (xs : List Entry). takes_all g.E.Replayed.takes (Some c.loop-rest.now) xs)
           (nothing_left SpellsEntry less_entry c.loop-rest.rest.now end all.0 all.1));
