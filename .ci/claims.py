@@ -2,7 +2,7 @@
 """Checks what the documents claim against the contracts of the code; `.ci/run` runs it.
 
 Each table in README.md and docs/*.md with the columns `Call` and `Clause` is read. A call of a row has to exist, and each clause
-of the row has to be one of every call of that row (a row without a clause stands for a contract without names). In docs/proved.md a
+of the row has to be one of every call of that row (a row without a clause stands for a contract without names). In one of docs/proved*.md a
 section `## NAME` stands for each crate of crates.txt, and its tables have to name each public call of that crate with all its
 clauses. A name `CLAUSE.FIELD` is a field of a record that the clause says, or that a definition it says is made of.
 Then each clause is changed by a letter in turn, which has to be refused: so the check itself is checked.
@@ -225,7 +225,7 @@ def check_row(code, crate, cell, clauses):
 def check_tables(code):
     wrong, rows = [], 0
     for file in [ROOT / "README.md", *sorted((ROOT / "docs").glob("*.md"))]:
-        proved = file.name == "proved.md"
+        proved = file.name.startswith("proved")
         for section, number, cell, clause in tables(file.read_text()):
             crate = section if section in code.crates else None
             clauses = NAMES.findall(clause)
@@ -241,10 +241,10 @@ def check_tables(code):
 
 
 def check_proved(code):
-    """That docs/proved.md has each crate, and each public call of it with all its clauses; a row of a trait counts for its methods.
+    """That docs/proved*.md have each crate, and each public call of it with all its clauses; a row of a trait counts for its methods.
     Libraries without public calls, as crates of tests are, stand in the heading of a section, one or several."""
     told = {}
-    text = (ROOT / "docs" / "proved.md").read_text()
+    text = "\n".join(file.read_text() for file in sorted((ROOT / "docs").glob("proved*.md")))
     sections = {name for line in text.split("\n") if line.startswith("## ") for name in line[3:].strip().split(", ")}
     for section, _, cell, clause in tables(text):
         for _, name in names_in(cell):
@@ -254,16 +254,16 @@ def check_proved(code):
         if crate not in told and crate in sections and exported_names(crate) and not code.public_calls(crate):
             continue
         if crate not in told:
-            wrong.append(f"docs/proved.md: crate {crate} isn't there")
+            wrong.append(f"docs/proved*.md: crate {crate} isn't there")
             continue
         for call in code.public_calls(crate):
             if call.full() not in told[crate]:
-                wrong.append(f"docs/proved.md: the public call `{call.full()}` of {crate} isn't named")
+                wrong.append(f"docs/proved*.md: the public call `{call.full()}` of {crate} isn't named")
                 continue
             has = told[crate][call.full()] | told[crate].get(call.owner, set())
             for clause in code.clauses(call):
                 if clause not in has:
-                    wrong.append(f"docs/proved.md: the clause `{clause}` of `{call.full()}` of {crate} isn't named")
+                    wrong.append(f"docs/proved*.md: the clause `{clause}` of `{call.full()}` of {crate} isn't named")
     return wrong
 
 

@@ -16,6 +16,7 @@ pub mod TagFive
 pub mod TagThree
 pub mod CardKept
 pub mod EveryFrame
+pub mod AnyFrame
 pub mod StoresFollow
 pub mod ImagesJoin
 pub mod Alone

@@ -30,3 +30,4 @@ pub mod Crowding
 pub mod Sensing
 pub mod Threes
 pub mod ThreeAsking
+pub mod AnyFrame

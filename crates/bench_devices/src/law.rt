@@ -1,6 +1,7 @@
 //! Laws of the devices. The calls do nothing: they stand for these laws.
 
 ghost use Rattle.bench_devices.specs.Keeping.{DevicesStay, ImagesStay, AsideKeeps, OthersKeep};
+ghost use Rattle.bench_devices.specs.AnyFrame.{DevicesTidy, OnePeerHands, PeersStay, TagsHandNothing};
 ghost use Rattle.bench_devices.specs.Calm.{DevicesLink, CalmFinding, CalmCrowding, CalmSensing, CalmSelecting, CalmReading, CalmWriting, CalmUnasked, CalmReadingThree, CalmWritingThree, CalmUnaskedThree};
 ghost use Rattle.nfc_base.specs.Choosing.{Choosing};
 ghost use Rattle.far_air.specs.FarEnds.{FarTable};
@@ -8,19 +9,25 @@ ghost use Rattle.bench_devices.specs.LinkLaws.{LinkAsks, PeerStands, OthersAside
 
 use nfc_base::Answerer;
 
-/// Events change of a device its state and its store alone, which is one of its kind still; and of the others, where
-/// one that they are aside of is asked, their state alone.
+/// Events change of a device its state and its store alone, which is one of its kind still, and it has a link at most
+/// while it is active; and of the others, where one that they are aside of is asked, their state alone. Each peer stays
+/// at its place.
 pub fn devices_stay()
     ensures stay { DevicesStay }
     ensures images { ImagesStay }
+    ensures tidy { DevicesTidy }
+    ensures peers { PeersStay }
     ensures aside { AsideKeeps }
     ensures others { OthersKeep }
 {}
 
 /// Peers alone have links to far ends, and nothing that is due while devices are found, selected, read or written
-/// begins one: a peer without a link hands nothing over there.
+/// begins one: a peer without a link hands nothing over there. No other device hands anything over at all, whatever it
+/// hears.
 pub fn peers_stay_unlinked()
     ensures links { DevicesLink }
+    ensures tags { TagsHandNothing }
+    ensures one { OnePeerHands }
     ensures find { CalmFinding }
     ensures crowd { CalmCrowding }
     ensures sense { CalmSensing }

@@ -1,4 +1,6 @@
+use Rattle.bench_devices.proofs.AnyFrame as any
 use Rattle.bench_devices.proofs.EveryFrame as laws
+use Rattle.bench_devices.proofs.Tidy.{events_tidy}
 use Rattle.bench_devices.proofs.law.devices_stay.Goals as goal
 
 pub returns-clause-stay : goal.returns-clause-stay
@@ -12,3 +14,9 @@ returns-clause-aside c = laws.aside_keeps
 
 pub returns-clause-others : goal.returns-clause-others
 returns-clause-others c = λ own t w es named beside asked. laws.others_keep own t named w es beside asked
+
+pub returns-clause-tidy : goal.returns-clause-tidy
+returns-clause-tidy c = λ w es. events_tidy es w
+
+pub returns-clause-peers : goal.returns-clause-peers
+returns-clause-peers c = any.peers_stay

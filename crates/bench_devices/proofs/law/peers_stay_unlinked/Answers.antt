@@ -1,3 +1,4 @@
+use Rattle.bench_devices.proofs.AnyFrame as any
 use Rattle.bench_devices.proofs.CalmDues as laws
 use Rattle.bench_devices.proofs.CalmThrees as threes
 use Rattle.bench_devices.proofs.PeerLinks as links
@@ -35,3 +36,9 @@ returns-clause-write_three c = threes.calm_writing_three
 
 pub returns-clause-no_three : goal.returns-clause-no_three
 returns-clause-no_three c = threes.calm_unasked_three
+
+pub returns-clause-tags : goal.returns-clause-tags
+returns-clause-tags c = any.tags_hand_nothing
+
+pub returns-clause-one : goal.returns-clause-one
+returns-clause-one c = any.one_peer_hands
