@@ -12,7 +12,8 @@ use Rattle.air_core.specs.Conversation.{Note, Over, LightUp, Asks, AreTurns, Eac
 use Rattle.air_core.proofs.Following.{trace_first}
 use Rattle.t5t_tag.proofs.Bytes.{equal_bytes}
 use Rattle.bench_script.specs.declared.command.Command.{Command}
-use Rattle.bench_script.specs.declared.command.Command.TheVariants.{Skip, Fates, PlaceT2, PlaceT3, PlaceT4, PlaceT5, PlacePeer, Lock, Busy, Offer, Remove, Dump, Inbox, Find, Crowd, Poll3, Read, Read3, Write, Write3, Link, Forge, Put, Get, Lookup, Unlink}
+use Rattle.bench_script.specs.declared.command.Command.TheVariants as commands
+use Rattle.bench_script.specs.declared.command.Command.TheVariants.{Skip, Fates, PlaceT2, PlaceT3, PlaceT4, PlaceT5, PlacePeer, Lock, Busy, Offer, Remove, Dump, Inbox, Find, Crowd, Poll3, Read, Read3, Write, Write3, Link, Forge, Raw, Put, Get, Lookup, OnPut, OnGet, Unlink}
 use Rattle.bench_script.specs.declared.command.DeviceId.{DeviceId}
 use Rattle.bench_script.specs.DeviceIds.{bytes_of}
 use Rattle.bench_devices.specs.declared.device.Device.{Device}
@@ -280,9 +281,13 @@ module _ (id : DeviceId) (s t : State) (g : Given) (e : Entry) (d : Device) (ste
   by_command (Forge i payloads) is alone =
       let law : ForgeLaw s g.joins i payloads e.events e.answer = law_of (Forge i payloads) is in
       asking_step (Forge i payloads) is refl (forge_devices (opens_link i payloads e.events) s g.joins i payloads e.events law.leaves)
+  by_command (Raw i frames) is alone = absurd (law_of (Raw i frames) is)
   by_command (Put m) is alone = talk_step (Does (Puts (message_of m))) (Put m) is refl (law_of (Put m) is)
   by_command (Get most key) is alone = talk_step (Does (Gets most key)) (Get most key) is refl (law_of (Get most key) is)
   by_command (Lookup name) is alone = talk_step (Does (Finds name)) (Lookup name) is refl (law_of (Lookup name) is)
+  by_command (OnPut slot m) is alone = absurd (law_of (OnPut slot m) is)
+  by_command (OnGet slot most key) is alone = absurd (law_of (OnGet slot most key) is)
+  by_command (commands.Puts puts) is alone = absurd (law_of (commands.Puts puts) is)
   by_command Unlink is alone = talk_step Closes Unlink is refl (law_of Unlink is)
 
   pub step_alike : (Touches id e.command → ⊥) → IsAlike (bytes_of id) d t.world.field.listeners

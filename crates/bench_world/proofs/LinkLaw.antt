@@ -9,7 +9,8 @@ use Rattle.llcp_link.specs.State.{restarted}
 use Rattle.snep_core.specs.Server.{Received as Accepted, serving}
 use Rattle.snep_core.specs.Talk.{Puts, Gets, Finds}
 use Rattle.bench_script.specs.declared.command.Command.{Command}
-use Rattle.bench_script.specs.declared.command.Command.TheVariants.{Skip, Fates, PlaceT2, PlaceT3, PlaceT4, PlaceT5, PlacePeer, Lock, Busy, Offer, Remove, Dump, Inbox, Find, Crowd, Poll3, Read, Read3, Write, Write3, Link, Forge, Put, Get, Lookup, Unlink}
+use Rattle.bench_script.specs.declared.command.Command.TheVariants as commands
+use Rattle.bench_script.specs.declared.command.Command.TheVariants.{Skip, Fates, PlaceT2, PlaceT3, PlaceT4, PlaceT5, PlacePeer, Lock, Busy, Offer, Remove, Dump, Inbox, Find, Crowd, Poll3, Read, Read3, Write, Write3, Link, Forge, Raw, Put, Get, Lookup, OnPut, OnGet, Unlink}
 use Rattle.bench_script.specs.declared.command.DeviceId.{DeviceId}
 use Rattle.bench_script.specs.DeviceIds.{bytes_of}
 use Rattle.bench_script.specs.Messages.{message_of}
@@ -372,6 +373,10 @@ module _ (w : WholeWorld) (q : List Fate) (p : Peers) (ys : List Story) (g : Giv
       by : (v : Bool) → opens_link id payloads es ≡ v → ForgeLeaves v (from o) g.joins id payloads es → so o (Forge id payloads) es (state_after (from o) g.joins (Forge id payloads) es (Some a))
       by true opened sends = forge_sent w q p ys o stand g (Some a) id payloads es opened sends.peer sends.placed sends.more sends.ends
       by false unopened stays = forge_unsent w q p ys o stand g (Some a) id payloads es unopened stays
+  step_by o (Raw id frames) es t stand front law = absurd law
+  step_by o (OnPut slot m) es t stand front law = absurd law
+  step_by o (OnGet slot most key) es t stand front law = absurd law
+  step_by o (commands.Puts puts) es t stand front law = absurd law
   step_by None (Put m) es t stand front law =
       quietly w q p ys None stand g (Some a) (Put m) es t front (nothing_sent (begun (from None) g.joins (Put m)) es front.turns front.each)
       (no_link (from None) (state_after (from None) g.joins (Put m) [] (Some a)) (record { command = Put m; joins = g.joins; events = es; told = Some a }) ys refl refl refl stand.places stand.stand)

@@ -5,7 +5,8 @@ use Rattle.nfc_base.specs.Signal.{Signal}
 use Rattle.nfc_base.specs.declared.event.Event.{Event}
 use Rattle.air_core.specs.Conversation.{Over, receptions}
 use Rattle.bench_script.specs.declared.command.Command.{Command}
-use Rattle.bench_script.specs.declared.command.Command.TheVariants.{Skip, Fates, PlaceT2, PlaceT3, PlaceT4, PlaceT5, PlacePeer, Lock, Busy, Offer, Remove, Dump, Inbox, Find, Crowd, Poll3, Read, Read3, Write, Write3, Link, Forge, Put, Get, Lookup, Unlink}
+use Rattle.bench_script.specs.declared.command.Command.TheVariants as commands
+use Rattle.bench_script.specs.declared.command.Command.TheVariants.{Skip, Fates, PlaceT2, PlaceT3, PlaceT4, PlaceT5, PlacePeer, Lock, Busy, Offer, Remove, Dump, Inbox, Find, Crowd, Poll3, Read, Read3, Write, Write3, Link, Forge, Raw, Put, Get, Lookup, OnPut, OnGet, Unlink}
 use Rattle.bench_devices.specs.declared.device.Device.{Device}
 use Rattle.bench_world.specs.declared.entry.Answer.{Answer}
 use Rattle.bench_world.specs.declared.entry.Answer.TheVariants.{Store}
@@ -127,6 +128,10 @@ one_answer s (Read id) g events a b p q = one_read id s.world.field.listeners g.
 one_answer s (Write id m) g events a b p q = one_write id s.world.field.listeners (message_of m) g.asked events a b p.tells q.tells
 one_answer s (Link id miu window) g events a b p q = one_link (A id) s.world.field.listeners (length s.peers.links + 1) (own_general miu) events a b p.tells q.tells
 one_answer s (Forge id payloads) g events a b p q = one_forge id s.world.field.listeners payloads events a b p.tells q.tells
+one_answer s (Raw id frames) g events a b p q = absurd p
+one_answer s (OnPut slot m) g events a b p q = absurd p
+one_answer s (OnGet slot most key) g events a b p q = absurd p
+one_answer s (commands.Puts puts) g events a b p q = absurd p
 one_answer s (Put m) g events a b p q = one_called (Does (Puts (message_of m))) s (Put m) g events a b p q
 one_answer s (Get most key) g events a b p q = one_called (Does (Gets most key)) s (Get most key) g events a b p q
 one_answer s (Lookup name) g events a b p q = one_called (Does (Finds name)) s (Lookup name) g events a b p q

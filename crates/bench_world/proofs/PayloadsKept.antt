@@ -11,7 +11,8 @@ use Rattle.snep_core.specs.Server.{offered}
 use Rattle.snep_core.specs.Talk.{Ends as Finishes, Finds, Gets, GivesUp, Goes, Puts}
 use Rattle.link_calls.specs.CallDue.{CallStanding, Carries, Comes, BrokenBy, Strays}
 use Rattle.bench_script.specs.declared.command.Command.{Command}
-use Rattle.bench_script.specs.declared.command.Command.TheVariants.{Skip, Fates, PlaceT2, PlaceT3, PlaceT4, PlaceT5, PlacePeer, Lock, Busy, Offer, Remove, Dump, Inbox, Find, Crowd, Poll3, Read, Read3, Write, Write3, Link, Forge, Put, Get, Lookup, Unlink}
+use Rattle.bench_script.specs.declared.command.Command.TheVariants as commands
+use Rattle.bench_script.specs.declared.command.Command.TheVariants.{Skip, Fates, PlaceT2, PlaceT3, PlaceT4, PlaceT5, PlacePeer, Lock, Busy, Offer, Remove, Dump, Inbox, Find, Crowd, Poll3, Read, Read3, Write, Write3, Link, Forge, Raw, Put, Get, Lookup, OnPut, OnGet, Unlink}
 use Rattle.bench_script.specs.declared.command.DeviceId.{DeviceId}
 use Rattle.bench_script.specs.declared.command.DeviceId.TheVariants.{A}
 use Rattle.bench_script.specs.DeviceIds.{bytes_of}
@@ -322,6 +323,10 @@ module _ (s : State) (g : Given) (ys : List Story) (h : KeptIn s ys) where
           (begun_payloads s t (stretch c es answer) ByForge (length s.peers.links + 1) sends.peer forged_general (forged_numbers (opens_link id payloads es) s (A id) (world_after s g.joins c es).fars) id
           (ap (λ v. if v then BeginsAndEnds ByForge id forged_general else NothingBegins) opened) sends.placed refl sends.came)
       by false unopened stays = none_open (Forge id payloads) es answer refl refl (ap (λ v. if v then BeginsAndEnds ByForge id forged_general else NothingBegins) unopened)
+  step_kept (Raw id frames) es answer turns each law = absurd law
+  step_kept (OnPut slot m) es answer turns each law = absurd law
+  step_kept (OnGet slot most key) es answer turns each law = absurd law
+  step_kept (commands.Puts puts) es answer turns each law = absurd law
   step_kept (Put m) es answer turns each law = plain (Put m) es answer refl (talk_kept (Does (Puts (message_of m))) (Put m) es answer refl law)
   step_kept (Get most key) es answer turns each law = plain (Get most key) es answer refl (talk_kept (Does (Gets most key)) (Get most key) es answer refl law)
   step_kept (Lookup name) es answer turns each law = plain (Lookup name) es answer refl (talk_kept (Does (Finds name)) (Lookup name) es answer refl law)

@@ -14,7 +14,7 @@ use Rattle.t4t_tag.specs.Store.{IsT4Store, file_size}
 use Rattle.t5t_tag.specs.Store.{IsT5Store}
 use Rattle.t3t_access.specs.declared.fault.T3Fault.TheVariants as three_fault
 use Rattle.bench_script.specs.declared.command.Command.{Command}
-use Rattle.bench_script.specs.declared.command.Command.TheVariants.{Skip, Fates, PlaceT2, PlaceT3, PlaceT4, PlaceT5, PlacePeer, Lock, Busy, Offer, Remove, Dump, Inbox, Find, Crowd, Poll3, Read, Read3, Write, Write3, Link, Forge, Put, Get, Lookup, Unlink}
+use Rattle.bench_script.specs.declared.command.Command.TheVariants.{Skip, Fates, PlaceT2, PlaceT3, PlaceT4, PlaceT5, PlacePeer, Lock, Busy, Offer, Remove, Dump, Inbox, Find, Crowd, Poll3, Read, Read3, Write, Write3, Link, Forge, Raw, Put, Get, Lookup, OnPut, OnGet, Puts, Unlink}
 use Rattle.bench_script.specs.declared.command.DeviceId.{DeviceId}
 use Rattle.bench_devices.specs.Crowding.{crowding}
 use Rattle.bench_devices.specs.declared.device.Device.{Device}
@@ -202,9 +202,13 @@ Accepts s (Write id message) = Unit {0}
 Accepts s (Write3 id message) = Unit {0}
 Accepts s (Link id miu window) = MayLink miu window
 Accepts s (Forge id payloads) = MayForge payloads
+Accepts s (Raw id frames) = ⊥
 Accepts s (Put message) = length (message_of message) ≤ longest_message
 Accepts s (Get most key) = MayGet most key
 Accepts s (Lookup name) = SpellsName name name
+Accepts s (OnPut slot message) = ⊥
+Accepts s (OnGet slot most key) = ⊥
+Accepts s (Puts puts) = ⊥
 Accepts s Unlink = Unit {0}
 
 -- the state with one more tag, which has no far end

@@ -32,6 +32,7 @@ pub mod QuietHearing
 pub mod Taking
 pub mod SameCommands
 pub mod Report
+pub mod Listing
 pub mod ReadBack
 pub mod Digits
 pub mod Stories

@@ -378,6 +378,8 @@ fn run_command(
         Command::Forge { id, payloads } => {
             forge(alloc, machines, joins, id, payloads.as_slice())
         }
+        Command::Raw { .. } | Command::OnPut { .. } | Command::OnGet { .. } | Command::Puts(_) =>
+            Err(ObeyFault::Refused),
         Command::Put { message } => put(alloc, machines, joins, message),
         Command::Get { acceptable, key } => get(machines, joins, *acceptable, key.as_slice()),
         Command::Lookup { name } => lookup(machines, joins, name.as_slice()),
