@@ -103,3 +103,4 @@ pub mod Unfinished
 pub mod CutArrivals
 pub mod CutLinks
 pub mod PeersNumbered
+pub mod Gained

@@ -38,3 +38,4 @@ pub mod Digits
 pub mod Stories
 pub mod ByPayloads
 pub mod LinkLaw
+pub mod Gains

@@ -20,6 +20,7 @@ mod entry;
 mod event_lines;
 mod fixed_text;
 mod forging;
+mod gains;
 mod inbox;
 mod joins;
 mod law;

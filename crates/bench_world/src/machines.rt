@@ -150,7 +150,7 @@ pub struct Machines {
     pub(crate) field: Field<Device>,
     pub(crate) ends: Vec<Option<Llc<Server>>>,
     pub(crate) numbers: Vec<Option<u64>>,
-    gone: Vec<Option<Llc<Server>>>,
+    pub(crate) gone: Vec<Option<Llc<Server>>>,
     pub(crate) links: Vec<LinkRange>,
     pub(crate) link: Option<Link>,
 }
