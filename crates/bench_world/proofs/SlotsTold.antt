@@ -56,9 +56,11 @@ told_by_slots ws slots now jobs apart rest is still =
     (each_waits (SlotSays jobs now) ws slots apart rest.eight
     (λ k m few waits.
     let final : List Slot = all_staged ws slots in
-    let s : ℕ = sap_of_slot k in
-    (ap (λ xs. slot_at xs k) is ∙ sym (slot_there (noted jobs final) client_sap k s refl) ∙ noted_there jobs final client_sap s
-    ∙ ap (marked (job_from s jobs)) (slot_there final client_sap k s refl ∙ waits), none_at now still.none k)))
+    let s : ℕ = sap_of_slot k in (
+      ap (λ xs. slot_at xs k) is ∙ sym (slot_there (noted jobs final) client_sap k s refl) ∙ noted_there jobs final client_sap s
+          ∙ ap (marked (job_from s jobs)) (slot_there final client_sap k s refl ∙ waits),
+      none_at now still.none k,
+    )))
 
 -- one alone is told of by its slot, and several each
 pub one_by_slot : (ws : List SlotMessage) (w : SlotMessage) (slots : List Slot) → length ws ≡ 1 → w ≡ get_or ws 0 w → told_slots ws slots ≡ (if is_taken slots w.slot then answers.Success else answers.Reject)

@@ -11,7 +11,9 @@ ghost use Rattle.bench_world.specs.LinkTaken.{is_success, marked_done, not_yet, 
 ghost use Rattle.bench_world.specs.Obeying.{IsSettled, ObeyedBy, IsCutOffBy, RefusedOnly, state_at};
 
 use crate::bench::ObeyFault;
-use crate::calling::{LONGEST_MESSAGE, fault_told, is_too_long, put_back, put_down, take_link, talk};
+use crate::calling::{
+    LONGEST_MESSAGE, fault_told, is_too_long, put_back, put_down, take_link, talk,
+};
 use crate::entry::{Answer, SlotDone};
 use crate::joins::Joins;
 use crate::machines::Machines;
@@ -26,6 +28,7 @@ const LAST_SLOT: u8 = 7;
 
 /// How few and how many messages are put at once.
 const LEAST_PUTS: usize = 2;
+
 const MOST_PUTS: usize = 8;
 
 /// Whether a message was told to be taken.
