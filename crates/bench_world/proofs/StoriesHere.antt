@@ -17,7 +17,7 @@ use Rattle.bench_world.specs.Legal.{State}
 use Rattle.bench_world.specs.Links.{OpenLink, accepted_by, end_numbered, accepted_at, ended, with_last_ended}
 use Rattle.bench_world.specs.LinkLaw.{AcceptsPuts, KeepsLinkLaw}
 use Rattle.bench_world.specs.Peers.{Peers, next_number}
-use Rattle.bench_world.specs.Stories.{Opener, ByLink, ByForge, LinkPut, Story, Stretch, arrived_by, told_put, puts_in, last_goes_on, open_goes_on}
+use Rattle.bench_world.specs.Stories.{Opener, ByLink, ByForge, ByRaw, LinkPut, Story, Stretch, arrived_by, told_put, puts_in, last_goes_on, open_goes_on}
 use Rattle.bench_world.proofs.AtNumbers.{Held, held, held_at}
 use Rattle.bench_world.proofs.PeersNumbered.{HavePlaces}
 use Rattle.bench_world.proofs.PutsTold.{InStep, in_step_accepts, taken_more, refused_more, none_more, one_more, with_none, with_one}
@@ -138,12 +138,14 @@ module _ (y : Story) (step : IsInStep y) (es : List Event) (arrivals : List Arri
 
   unanswered_none : (o : Opener) → AcceptsPuts o (put_to y es arrivals m Unanswered [])
   unanswered_none ByForge = tt
+  unanswered_none ByRaw = tt
   unanswered_none ByLink =
       with_none Step (LinkAccepts y.begun.service.limit) (in_step_accepts y.begun.service.limit) y.puts y.gained step (record { message = m; told = Unanswered })
       (λ ps xs s. none_more y.begun.service.limit ps xs s m)
 
   unanswered_one : length m ≤ y.begun.service.limit → (o : Opener) → AcceptsPuts o (put_to y es arrivals m Unanswered (from_client m ∷ []))
   unanswered_one within ByForge = tt
+  unanswered_one within ByRaw = tt
   unanswered_one within ByLink =
       with_one Step (LinkAccepts y.begun.service.limit) (in_step_accepts y.begun.service.limit) y.puts y.gained step (record { message = m; told = Unanswered }) m
       (λ ps xs s. one_more y.begun.service.limit ps xs s m within)

@@ -1,4 +1,5 @@
 use Rattle.bench_world.proofs.CompleteForging.{forged_kinds, forgings_complete}
+use Rattle.bench_world.proofs.CompleteRaws.{raws_complete}
 use Rattle.snep_core.specs.Talk.{Puts, Gets, Finds}
 use Rattle.link_calls.specs.Asking.{Does, Closes}
 use Rattle.bench_world.proofs.CompleteLinks.{asked_complete, valid_is_ok}
@@ -34,3 +35,6 @@ returns-clause-forgings c = forgings_complete
 
 pub returns-clause-forged : goal.returns-clause-forged
 returns-clause-forged c = forged_kinds
+
+pub returns-clause-raws : goal.returns-clause-raws
+returns-clause-raws c = raws_complete
