@@ -28,8 +28,15 @@ const char *zev_fault_text(int32_t fault)
     case ZEV_NO_VERSION: return "the general bytes have no version";
     case ZEV_OTHER_MAJOR: return "the general bytes have a version of another major number";
     case ZEV_MALFORMED: return "the general bytes have a malformed parameter";
+    case ZEV_DEP_SIX_BAD:
     case ZEV_SIX_BAD: return "six bad receptions in one wait";
+    case ZEV_DEP_NO_ANSWER:
     case ZEV_NO_ANSWER: return "the other end sent a frame that is no allowed answer";
+    case ZEV_REJECT: return "the server rejected the message";
+    case ZEV_NOT_FOUND: return "the server has no value under the key";
+    case ZEV_EXCESS: return "the value is longer than acceptable";
+    case ZEV_NOT_IMPLEMENTED: return "the server has no values";
+    case ZEV_BAD_PEER: return "the far end doesn't answer as a server";
     default: return fault < 0 ? "another fault" : "no fault";
     }
 }

@@ -1,4 +1,5 @@
-"""The C library of this repository, from Python: readings, surveys and writings of tags as generators, a Type 2 tag, and the far end of a link.
+"""The C library of this repository, from Python: readings, surveys and writings of tags as generators, the message of a dump, tags of Types 2, 4 and
+5, both ends of ISO-DEP and NFC-DEP, and both ends of a link of LLCP and SNEP.
 
 A job yields a command (bytes) and is sent the tag's answer: a pair of its bytes and of how many low bits of the last byte came (0: all). It
 returns what it came to, or raises `Fault`. Where no answer comes the job is left as it is: `drive` raises `Gone` then, and sends nothing twice.
@@ -15,9 +16,11 @@ from typing import Callable, Generator, Iterator, Optional
 
 ROOT = Path(__file__).resolve().parent.parent
 PLACES = ("crates/zevlodek_c/out/x86_64-unknown-linux-gnu/c/libzevlodek.so", "c/out/libzevlodek.so")
-DONE, SEND, SILENT, BAD_ARGUMENT, SHORT, REFUSED, TOO_LONG = 0, 1, 2, -2, -3, -108, -113
+DONE, SEND, SILENT, ASLEEP, OPENED, RELEASED = range(6)
+BAD_LOG, BAD_ARGUMENT, SHORT, REFUSED, TOO_LONG = -1, -2, -3, -108, -113
+WHOLE, FRAME, DAMAGED, NOTHING, REPLY, PUT, GET, LOOKUP, CLOSE = range(9)
 FIRST_ROOM = 4096
-MOST_PAYLOAD, MOST_OFFER = 2178, 65535
+MOST_PAYLOAD, MOST_OFFER, MOST_ENTRY, MOST_ANSWER = 2178, 65535, 65535, 288
 
 Answer = tuple[bytes, int]
 Transceive = Callable[[bytes], Optional[Answer]]
@@ -45,6 +48,30 @@ class Sizes(ctypes.Structure):
     """`zev_peer`: the sizes of a far end."""
 
     _fields_ = [("limit", ctypes.c_uint32), ("miu", ctypes.c_uint16), ("window", ctypes.c_uint8)]
+
+
+class Standing4(ctypes.Structure):
+    """`zev_t4_state`: where a Type 4 tag stands between two commands."""
+
+    _fields_ = [("selected", ctypes.c_uint8), ("current", ctypes.c_uint8)]
+
+
+class Standing5(ctypes.Structure):
+    """`zev_t5_state`: where a Type 5 tag stands between two frames."""
+
+    _fields_ = [(name, ctypes.c_uint8) for name in ("quiet", "in_round", "slot", "current")]
+
+
+class NearSizes(ctypes.Structure):
+    """`zev_near`: the sizes of a near end."""
+
+    _fields_ = [("miu", ctypes.c_uint16), ("window", ctypes.c_uint8)]
+
+
+class NamedFile(ctypes.Structure):
+    """`zev_t4_file`: the file that a Type 4 tag's container names."""
+
+    _fields_ = [(name, ctypes.c_uint16) for name in ("id", "size", "mle", "mlc")] + [("writable", ctypes.c_uint8)]
 
 
 class Fault(Exception):
@@ -188,6 +215,17 @@ def drive(job: Iterator, transceive: Transceive, tries: int = 1):
         return end.value
 
 
+def step_of(call: str, *words) -> Optional[Answer]:
+    """A tag's answer to a command, or none where it is silent."""
+    out, told = (ctypes.c_uint8 * MOST_ANSWER)(), Told()
+    said = getattr(library(), call)(*words, out, ctypes.c_size_t(MOST_ANSWER), ctypes.byref(told))
+    if said == SILENT:
+        return None
+    if said != DONE:
+        raise fault(said, told)
+    return bytes(out[: told.length]), told.bits
+
+
 class Type2Tag:
     """A Type 2 tag in memory, whose steps the library makes."""
 
@@ -198,16 +236,47 @@ class Type2Tag:
     def obey(self, command: bytes, bits: int = 0) -> Optional[Answer]:
         """Its answer to a command, or none where it is silent."""
         held, size = lent(bytes(self.memory))
-        out, told = (ctypes.c_uint8 * 32)(), Told()
-        said = library().zev_t2_tag(
-            held, size, *lent(self.locks), *lent(command), ctypes.c_uint8(bits), out, ctypes.c_size_t(32), ctypes.byref(told)
-        )
-        if said == SILENT:
-            return None
-        if said != DONE:
-            raise fault(said, told)
+        answer = step_of("zev_t2_tag", held, size, *lent(self.locks), *lent(command), ctypes.c_uint8(bits))
         self.memory = bytearray(held[: len(self.memory)])
-        return bytes(out[: told.length]), told.bits
+        return answer
+
+
+class Type4Tag:
+    """A Type 4 tag in memory: its capability container and its NDEF file, one behind the other in `memory`."""
+
+    def __init__(self, memory: bytes):
+        size = int.from_bytes(memory[:2], "big")
+        self.container, self.file, self.standing = memory[:size], bytearray(memory[size:]), Standing4()
+
+    @property
+    def memory(self) -> bytes:
+        return self.container + bytes(self.file)
+
+    def obey(self, command: bytes, bits: int = 0) -> Optional[Answer]:
+        """Its answer to the bytes of a command."""
+        held, size = lent(bytes(self.file))
+        answer = step_of("zev_t4_tag", *lent(self.container), held, size, ctypes.byref(self.standing), *lent(command))
+        self.file = bytearray(held[: len(self.file)])
+        return answer
+
+
+class Type5Tag:
+    """A Type 5 tag in memory, in blocks of so many bytes, with an identifier, high byte first."""
+
+    def __init__(self, ident: bytes, memory: bytes, block: int = 4, locked: tuple[int, ...] = ()):
+        self.ident, self.memory, self.block, self.standing = ident, bytearray(memory), block, Standing5()
+        self.locks = bytes(number in locked for number in range(len(memory) // block))
+
+    def obey(self, command: bytes, bits: int = 0) -> Optional[Answer]:
+        """Its answer to a frame, or none where it is silent."""
+        if bits:
+            return None
+        held, size = lent(bytes(self.memory))
+        name = (ctypes.c_uint8 * 8).from_buffer_copy(self.ident)
+        words = name, ctypes.c_uint32(self.block), held, size, *lent(self.locks), ctypes.byref(self.standing), *lent(command)
+        answer = step_of("zev_t5_tag", *words)
+        self.memory = bytearray(held[: len(self.memory)])
+        return answer
 
 
 def made(kind: type[ctypes.Structure], **numbers: int) -> ctypes.Structure:
@@ -287,3 +356,181 @@ class FarEnd:
         if said != DONE:
             raise fault(said, told)
         return Received(told.code, message)
+
+
+def dumped(kind: int, memory: bytes, block: int = 4) -> Found:
+    """The message of a Type 2 or Type 5 tag's memory that was read out, from its first byte on."""
+    size = () if kind == 2 else (ctypes.c_uint32(block),)
+    message, told = filled(f"zev_t{kind}_message", *size, *lent(memory))
+    return Found(message, told.writable == 1)
+
+
+def ground_of(kind: int, memory: bytes, block: int = 4) -> Ground:
+    """How long the message of such a memory is and how long one may be; the tag ends where its memory does."""
+    size, told = () if kind == 2 else (ctypes.c_uint32(block),), Told()
+    said = getattr(library(), f"zev_t{kind}_find")(*size, *lent(memory), ctypes.byref(told))
+    if said != DONE:
+        raise fault(said, told)
+    return Ground(told.length, told.capacity, told.writable == 1)
+
+
+def file_of(container: bytes) -> NamedFile:
+    """The file that a Type 4 tag's capability container names."""
+    named = NamedFile()
+    said = library().zev_t4_container(*lent(container), ctypes.byref(named))
+    if said != DONE:
+        raise fault(said, Told())
+    return named
+
+
+def kept(kind: int, content: bytes) -> bytes:
+    """What an entry adds to the log of an end of a link."""
+    return bytes([kind]) + counted(content, MOST_ENTRY)
+
+
+class Log:
+    """An end of a link: a call of the library over the entries so far. An entry that the library doesn't take isn't kept."""
+
+    def __init__(self, call: str, *words):
+        self.call, self.more, self.log = call, words, b""
+
+    def words(self) -> tuple:
+        return (*self.more, *lent(self.log))
+
+    def after(self, *entries: tuple[int, bytes]) -> tuple[int, bytes, Told]:
+        """What the call tells behind these entries more: its answer, the bytes, and the numbers."""
+        before, self.log = self.log, self.log + b"".join(kept(*one) for one in entries)
+        room, told = FIRST_ROOM, Told()
+        while True:
+            out = (ctypes.c_uint8 * room)()
+            said = getattr(library(), self.call)(*self.words(), out, ctypes.c_size_t(room), ctypes.byref(told))
+            if said != SHORT:
+                break
+            room = told.length
+        if said in (BAD_LOG, BAD_ARGUMENT):
+            self.log = before
+        return said, bytes(out[: told.length]) if said >= 0 else b"", told
+
+
+Heard = Optional[Answer]
+Frames = Generator[bytes, Heard, bytes]
+
+
+class Asker:
+    """The end of a link that asks: a job yields a frame and is sent the answer as a pair of its bytes and 0, `None` where nothing came in time, or
+    `(b"", 1)` where what came was damaged."""
+
+    def __init__(self, call: str, code: int):
+        self.end = Log(call, ctypes.c_uint8(code))
+
+    def exchange(self, content: bytes) -> Frames:
+        """Sends a command or a payload: what is told in the end is the answer to it."""
+        said, out, told = self.end.after((WHOLE, content))
+        while said == SEND:
+            heard = yield out
+            came = (NOTHING, b"") if heard is None else (DAMAGED, b"") if heard[1] else (FRAME, heard[0])
+            said, out, told = self.end.after(came)
+        if said != DONE:
+            raise fault(said, told)
+        return out
+
+
+class IsoReader(Asker):
+    """The reader's end of ISO-DEP, with a card of this size code."""
+
+    def __init__(self, code: int):
+        super().__init__("zev_iso_reader_next", code)
+
+
+class Initiator(Asker):
+    """The initiator's end of NFC-DEP, with a target of this LR code."""
+
+    def __init__(self, lr: int):
+        super().__init__("zev_dep_initiator_next", lr)
+
+
+class Answering:
+    """The end of a link that answers: `owner` gives the reply to what it is handed."""
+
+    def __init__(self, owner: Callable[[bytes], bytes], call: str, *words):
+        self.end, self.owner, self.last = Log(call, *words), owner, SILENT
+
+    def hear(self, frame: bytes) -> Optional[bytes]:
+        """The answer to a frame that came whole, or none. `last` tells a last answer, and that a link begins."""
+        said, out, told = self.end.after((FRAME, frame))
+        if said == DONE:
+            said, out, told = self.end.after((REPLY, self.owner(out)))
+        if said < 0:
+            raise fault(said, told)
+        self.last = said
+        return out if said != SILENT else None
+
+
+class IsoCard(Answering):
+    """The card's end of ISO-DEP, of this size code."""
+
+    def __init__(self, code: int, owner: Callable[[bytes], bytes]):
+        super().__init__(owner, "zev_iso_card_next", ctypes.c_uint8(code))
+
+
+class Target(Answering):
+    """The target's end of NFC-DEP, with its NFCID3, LR code and general bytes."""
+
+    def __init__(self, ident: bytes, lr: int, general: bytes, owner: Callable[[bytes], bytes]):
+        name = (ctypes.c_uint8 * 10).from_buffer_copy(ident)
+        super().__init__(owner, "zev_dep_target_next", name, ctypes.c_uint8(lr), *lent(general))
+
+
+def atr_request(ident: bytes, general: bytes) -> bytes:
+    """The frame by which an initiator begins a link."""
+    return filled("zev_dep_request", (ctypes.c_uint8 * 10).from_buffer_copy(ident), *lent(general))[0]
+
+
+def told_by_atr(frame: bytes) -> tuple[int, bytes]:
+    """The LR code and the general bytes of the end that sent ATR_REQ or ATR_RES."""
+    general, told = filled("zev_dep_general", *lent(frame))
+    return told.code, general
+
+
+class NearEnd:
+    """The near end of a link of LLCP that began with these general bytes of the other end: a client of its SNEP server. A call is a generator: it
+    yields a payload and is sent the reply."""
+
+    def __init__(self, general: bytes, miu: int = 2175, window: int = 15):
+        self.sizes = made(NearSizes, miu=miu, window=window)
+        self.end = Log("zev_client_next", ctypes.byref(self.sizes), *lent(general))
+
+    def call(self, kind: int, content: bytes) -> Generator[bytes, bytes, tuple[bytes, Told]]:
+        said, out, told = self.end.after((kind, content))
+        while said == SEND:
+            reply = yield out
+            said, out, told = self.end.after((REPLY, reply))
+        if said != DONE:
+            raise fault(said, told)
+        return out, told
+
+    def put(self, message: bytes) -> Generator[bytes, bytes, None]:
+        """Puts a message of at most 65,535 bytes."""
+        yield from self.call(PUT, message)
+
+    def get(self, key: bytes, most: int = 65536, slot: int = 0) -> Generator[bytes, bytes, bytes]:
+        """The value of a key, of so many bytes at most, on the connection of a slot."""
+        return (yield from self.call(GET, bytes([slot]) + most.to_bytes(4, "big") + key))[0]
+
+    def lookup(self, name: str) -> Generator[bytes, bytes, int]:
+        """The SAP of a service, 0 where there is none."""
+        return (yield from self.call(LOOKUP, name.encode()))[1].code
+
+    def close(self) -> Generator[bytes, bytes, None]:
+        """Ends all connections."""
+        yield from self.call(CLOSE, b"")
+
+
+def carry(job: Iterator, swap: Callable[[bytes], object]):
+    """Runs a job over what takes each thing that it yields and gives what came of it: what the job came to."""
+    try:
+        given = next(job)
+        while True:
+            given = job.send(swap(given))
+    except StopIteration as end:
+        return end.value

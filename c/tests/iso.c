@@ -124,7 +124,10 @@ static bool rows(void)
     right = right && zev_iso_card_next(8, log.bytes, log.length, frame, sizeof frame, &told) == ZEV_BAD_LOG;
     log.length = 0;
     zev_entry_add(&log, ZEV_COMMAND, heard, 265);
-    right = right && zev_iso_reader_next(8, log.bytes, log.length, frame, sizeof frame, &told) == ZEV_BAD_LOG && !zev_entry_add(&log, ZEV_FRAME, frame, 289);
+    right = right && zev_iso_reader_next(8, log.bytes, log.length, frame, sizeof frame, &told) == ZEV_BAD_LOG;
+    log.length = 0;
+    zev_entry_add(&log, ZEV_FRAME, frame, 289);
+    right = right && zev_iso_card_next(8, log.bytes, log.length, frame, sizeof frame, &told) == ZEV_BAD_LOG;
     log.length = 0;
     zev_entry_add(&log, ZEV_COMMAND, odd, 1);
     zev_entry_add(&log, ZEV_FRAME, odd, 1);

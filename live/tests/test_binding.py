@@ -8,7 +8,7 @@ import unittest
 
 import zevlodek
 from tests.tags import Type4Tag, Type5Tag
-from zevlodek import Fault, Found, Gone, Ground, Type2Tag, drive, read, survey, write
+from zevlodek import Fault, Found, Gone, Ground, Type2Tag, drive, dumped, file_of, ground_of, read, survey, write
 
 IDENT = bytes.fromhex("E004010203040506")
 
@@ -109,6 +109,53 @@ class Faults(unittest.TestCase):
         for answer in ((bytes(289), 0), (b"", 8)):
             with self.subTest(answer), self.assertRaises(ValueError):
                 zevlodek.entry(b"\x30\x00", answer)
+
+
+class ProvedTags(unittest.TestCase):
+    """Both sides are the library: the tags of Types 4 and 5 by the proved tables."""
+
+    CONTAINER = bytes.fromhex("000F20003B00340406E10400C80000")
+
+    def test_type_4(self):
+        tag = zevlodek.Type4Tag(self.CONTAINER + bytes.fromhex("0003D00000").ljust(200, b"\0"))
+        self.assertEqual(drive(survey(4), tag.obey), Ground(3, 198, True))
+        drive(write(4, b"", bytes(range(150))), tag.obey)
+        self.assertEqual(drive(read(4), tag.obey), Found(bytes(range(150)), True))
+        self.assertEqual(tag.memory[:17], self.CONTAINER + b"\0\x96")
+
+    def test_type_5(self):
+        for block in (4, 8, 16, 32):
+            tag = zevlodek.Type5Tag(IDENT, bytes.fromhex("E140100103" + "03D00000FE").ljust(160, b"\0"), block)
+            drive(write(5, IDENT, bytes(range(60))), tag.obey)
+            self.assertEqual(drive(read(5, IDENT), tag.obey), Found(bytes(range(60)), True))
+
+    def test_what_is_no_tag(self):
+        for tag in (zevlodek.Type4Tag(self.CONTAINER), zevlodek.Type5Tag(IDENT, bytes(20), 8), Type2Tag(bytes(12))):
+            with self.subTest(type(tag)), self.assertRaises(Fault) as caught:
+                tag.obey(b"\0")
+            self.assertEqual(caught.exception.number, zevlodek.BAD_ARGUMENT)
+
+
+class Dumps(unittest.TestCase):
+    MEMORY = bytes(12) + bytes.fromhex("E11006000303D00000FE").ljust(52, b"\0")
+
+    def test_messages(self):
+        self.assertEqual(dumped(2, self.MEMORY), Found(b"\xd0\0\0", True))
+        self.assertEqual(ground_of(2, self.MEMORY), Ground(3, 46, True))
+        memory = bytes.fromhex("E14006010303D00000FE").ljust(52, b"\0")
+        self.assertEqual(dumped(5, memory), Found(b"\xd0\0\0", True))
+        self.assertEqual(ground_of(5, memory), Ground(3, 46, True))
+
+    def test_a_container(self):
+        named = file_of(ProvedTags.CONTAINER)
+        self.assertEqual((named.id, named.size, named.mle, named.mlc, named.writable), (0xE104, 200, 0x3B, 0x34, 1))
+
+    def test_faults(self):
+        rows = ((lambda: dumped(2, bytes(64)), -101), (lambda: dumped(2, self.MEMORY[:15]), -5), (lambda: ground_of(5, bytes(8)), -101), (lambda: file_of(b""), -5))
+        for call, number in rows:
+            with self.subTest(number), self.assertRaises(Fault) as caught:
+                call()
+            self.assertEqual(caught.exception.number, number)
 
 
 class BrokenOff(unittest.TestCase):

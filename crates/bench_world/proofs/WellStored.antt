@@ -10,8 +10,8 @@ use Rattle.nfca_poll.proofs.OneLevel.{pointwise_self}
 use Rattle.t5t_tag.proofs.Bytes.{equal_bytes}
 use Rattle.t3t_access.specs.OwnWriting.{IsBegun, IsNew}
 use Rattle.tag_writer.specs.Law.{Ending}
-use Rattle.snep_core.specs.Talk.{Puts, Gets, Finds}
-use Rattle.link_calls.specs.Asking.{LinkAsking, Does, Closes}
+use Rattle.snep_core.specs.Talk.{client_sap, sap_of_slot}
+use Rattle.link_calls.specs.Asking.{LinkAsking, Does, Closes, Finding, Getting, put_from, Putting}
 use Rattle.bench_script.specs.declared.command.Command.{Command}
 use Rattle.bench_script.specs.declared.command.Command.TheVariants as commands
 use Rattle.bench_script.specs.declared.command.Command.TheVariants.{Skip, Fates, PlaceT2, PlaceT3, PlaceT4, PlaceT5, PlacePeer, Lock, Busy, Offer, Remove, Dump, Inbox, Find, Crowd, Poll3, Read, Read3, Write, Write3, Link, Forge, Raw, Put, Get, Lookup, OnPut, OnGet, Unlink}
@@ -26,7 +26,7 @@ use Rattle.bench_devices.specs.Placed.{IfPlaced, device_with, with_changed, with
 use Rattle.bench_devices.specs.Threes.{KeepsWrite3Law}
 use Rattle.bench_devices.specs.Writing.{KeepsWriteLaw}
 use Rattle.bench_world.specs.declared.entry.Entry.{Entry}
-use Rattle.bench_world.specs.Asked.{asked_on_link}
+use Rattle.bench_world.specs.Asked.{asked_on_link, slot_messages}
 use Rattle.bench_world.specs.Calls.{IfLinked, due_asked, due_if}
 use Rattle.bench_world.specs.Forging.{opens_link}
 use Rattle.bench_world.specs.Links.{OpenLink}
@@ -289,12 +289,12 @@ module _ (s t : State) (g : Given) (e : Entry) (step : LegalStep s g e t) (sound
       let each : AllByRecursion IsNoF frames = frames_no_f i frames (recursion_from_All (λ (f : Signal). f.tech ≡ tech_for i) frames may.each) in
       let asked : EachAsked IsNoF e.events = each_asked IsNoF (due s g c) (raws_no_f frames each i) [] e.events front.each in
       subst Well (sym front.after) (events_well e.events (begun s g.joins c) asked well)
-  by_command (OnPut slot m) is = absurd (law_of (OnPut slot m) is)
-  by_command (OnGet slot most key) is = absurd (law_of (OnGet slot most key) is)
-  by_command (commands.Puts puts) is = absurd (law_of (commands.Puts puts) is)
-  by_command (Put m) is = talk_well (Does (Puts (message_of m))) (Put m) is refl (law_of (Put m) is)
-  by_command (Get most key) is = talk_well (Does (Gets most key)) (Get most key) is refl (law_of (Get most key) is)
-  by_command (Lookup name) is = talk_well (Does (Finds name)) (Lookup name) is refl (law_of (Lookup name) is)
+  by_command (Put m) is = talk_well (Does (put_from 0 (message_of m))) (Put m) is refl (law_of (Put m) is)
+  by_command (Get most key) is = talk_well (Does (Getting client_sap most key)) (Get most key) is refl (law_of (Get most key) is)
+  by_command (Lookup name) is = talk_well (Does (Finding name)) (Lookup name) is refl (law_of (Lookup name) is)
+  by_command (OnPut slot m) is = talk_well (Does (put_from slot (message_of m))) (OnPut slot m) is refl (law_of (OnPut slot m) is)
+  by_command (OnGet slot most key) is = talk_well (Does (Getting (sap_of_slot slot) most key)) (OnGet slot most key) is refl (law_of (OnGet slot most key) is)
+  by_command (commands.Puts puts) is = talk_well (Does (Putting (slot_messages puts))) (commands.Puts puts) is refl (law_of (commands.Puts puts) is)
   by_command Unlink is = talk_well Closes Unlink is refl (law_of Unlink is)
 
   pub stored_step : AreWellStored t.world.field.listeners

@@ -41,3 +41,4 @@ pub mod Digits
 pub mod Stories
 pub mod ByPayloads
 pub mod LinkLaw
+pub mod Gains

@@ -13,12 +13,14 @@
 
 mod answering;
 mod asking;
+mod at_once;
 mod bench;
 mod calling;
 mod entry;
 mod event_lines;
 mod fixed_text;
 mod forging;
+mod gains;
 mod inbox;
 mod joins;
 mod law;

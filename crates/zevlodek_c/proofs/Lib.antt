@@ -1,9 +1,14 @@
 pub mod Counted
 pub mod Spelled
 pub mod Locked
+pub mod Stepping
 pub mod Whole
 pub mod Chains
 pub mod Chunks
 pub mod Telling
 pub mod NamedAreas
-pub mod Entries
+pub mod EntryLogs
+pub mod NearNames
+pub mod NearWalks
+pub mod NearReplays
+pub mod Nears

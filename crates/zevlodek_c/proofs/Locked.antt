@@ -15,7 +15,7 @@ one_lock : (m : T2Memory) (block : ℕ) (free : Bool) → (if free then m else l
 one_lock m block true = refl
 one_lock m block false = refl
 
-pub same_store : (m : T2Memory) (block : ℕ) (bs : List ℕ) → (locked_from m block bs).store ≡ m.store
+pub same_store : (m : T2Memory) (block : ℕ) (bs : List ℕ) → (locked_from locked_too m block bs).store ≡ m.store
 same_store m block [] = refl
 same_store m block (b ∷ bs) = same_store (if b == 0 then m else locked_too m block) (suc block) bs ∙ one_lock m block (b == 0)
 
@@ -28,7 +28,7 @@ silent_by m (Some c) e = absurd (none-some (answer_frame (t2_reply m c)) (sym e)
 
 -- a silent tag holds what it held
 pub silent_step : (memory locks out : List ℕ) (told : Told) (f : Signal) → t2_answer (t2_held memory locks) f ≡ None
-    → record { memory = memory; seen = answers silent out told } ≡ t2_stepped memory locks f out told
+    → record { kept = memory; seen = answers silent out told } ≡ t2_stepped memory locks f out told
 silent_step memory locks out told f e =
     let stays : memory ≡ (t2_after (t2_held memory locks) f).store =
     sym (ap (λ (m : T2Memory). m.store) (silent_by (t2_held memory locks) (spelled_command f) e) ∙ held_store memory locks) in
@@ -38,9 +38,9 @@ silent_step memory locks out told f e =
 -- one that answers holds what its step leaves, where there was room for the answer
 pub answered_step : (memory locks out : List ℕ) (told : Told) (f reply : Signal) (mem : List ℕ) → t2_answer (t2_held memory locks) f ≡ Some reply
     → mem ≡ (if nat_le (length reply.bytes) (length out) then (t2_after (t2_held memory locks) f).store else memory)
-    → record { memory = mem; seen = shows done reply.bytes out (record told { bits = reply.tail }) } ≡ t2_stepped memory locks f out told
+    → record { kept = mem; seen = shows done reply.bytes out (record told { bits = reply.tail }) } ≡ t2_stepped memory locks f out told
 answered_step memory locks out told f reply mem e held =
-    ap (λ (m : List ℕ). record { memory = m; seen = shows done reply.bytes out (record told { bits = reply.tail }) }) held
+    ap (λ (m : List ℕ). record { kept = m; seen = shows done reply.bytes out (record told { bits = reply.tail }) }) held
     ∙ sym (ap (λ (o : Option Signal). answered o memory (t2_after (t2_held memory locks) f).store out told) e)
 
 pub with_room : (fits : Bool) (x y z : List ℕ) → fits ≡ true → x ≡ y → x ≡ (if fits then y else z)

@@ -17,6 +17,14 @@ silent = pos 2
 abbrev pub asleep : ℤ
 asleep = pos 3
 
+-- a target answers ATR_REQ, so that a link begins
+abbrev pub opened : ℤ
+opened = pos 4
+
+-- a target answers a last time, and is let go
+abbrev pub released : ℤ
+released = pos 5
+
 -- the bytes of a log spell no turns: minus 1
 abbrev pub bad_log : ℤ
 bad_log = negsuc 0
@@ -41,10 +49,16 @@ ends_early = negsuc 4
 abbrev pub tag_fault : ℕ → ℤ
 tag_fault number = negsuc (99 + number)
 
--- how a link of ISO-DEP ended, by its cause's number: minus 300 and that number less. Six bad receptions in one wait; and
--- a frame that is no allowed answer.
+-- How a link ended, by its cause's number: of ISO-DEP minus 300 and that number less, of NFC-DEP minus 400 and that. Six
+-- bad receptions in one wait; and a frame that is no allowed answer.
 abbrev pub six_bad : ℤ
 six_bad = negsuc 301
 
 abbrev pub no_answer : ℤ
 no_answer = negsuc 302
+
+abbrev pub dep_six_bad : ℤ
+dep_six_bad = negsuc 401
+
+abbrev pub dep_no_answer : ℤ
+dep_no_answer = negsuc 402

@@ -4,9 +4,14 @@ pub mod Log
 pub mod Reading
 pub mod Dumps
 pub mod Tags
+pub mod T4Tags
+pub mod T5Tags
 pub mod Spelled
 pub mod General
 pub mod Peer
 pub mod Replaying
+pub mod Entries
 pub mod Iso
-pub mod IsoReplaying
+pub mod Dep
+pub mod Near
+pub mod NearReplaying

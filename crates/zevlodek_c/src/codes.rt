@@ -15,6 +15,12 @@ pub const SILENT: i32 = 2;
 /// A card answers a last time, and sleeps.
 pub const ASLEEP: i32 = 3;
 
+/// A target answers ATR_REQ: a link begins.
+pub const OPENED: i32 = 4;
+
+/// A target answers a last time, and is let go.
+pub const RELEASED: i32 = 5;
+
 /// The bytes of a log spell no turns.
 pub const BAD_LOG: i32 = -1;
 
@@ -30,11 +36,15 @@ pub const NO_MEMORY: i32 = -4;
 /// A memory that was read out ends before its message does.
 pub const ENDS_EARLY: i32 = -5;
 
-/// Six bad receptions in one wait of a link.
+/// Six bad receptions in one wait of a link of ISO-DEP, and of NFC-DEP.
 pub const SIX_BAD: i32 = -302;
 
-/// A frame that is no allowed answer on a link.
+pub const DEP_SIX_BAD: i32 = -402;
+
+/// A frame that is no allowed answer on a link of ISO-DEP, and of NFC-DEP.
 pub const NO_ANSWER: i32 = -303;
+
+pub const DEP_NO_ANSWER: i32 = -403;
 
 /// A fault of reading or writing a tag, by its number.
 pub fn tag_fault(number: u8) -> i32

@@ -2,19 +2,25 @@
 //!
 //! C keeps what passed between its reader and a tag in memory of its own, a log (`log`), and hands it in each time;
 //! what comes back is the next command, or the end (`reading`). A tag's memory is C's too, where it answers as one
-//! (`tags`), and so is one that was read out (`dumps`). What came on a link of LLCP is kept likewise (`payloads`), and a
+//! (`tags`, `t4_tags`, `t5_tags`), and so is one that was read out (`dumps`). What came on a link of LLCP is kept likewise (`payloads`), and a
 //! far end of it is one behind these payloads (`peer`); `general` has the bytes with which such a link begins. Both ends
-//! of ISO-DEP are functions of the frames that came (`iso`). No call keeps anything: each is a function of what it is
+//! of ISO-DEP (`iso`) and of NFC-DEP (`dep`) are functions of the frames that came (`entries`). No call keeps anything: each is a function of what it is
 //! given. `c/zevlodek.h` declares the calls.
 #![tactic(auto)]
 
 mod codes;
+mod dep;
 mod dumps;
+mod entries;
+mod far;
 mod general;
 mod iso;
 mod log;
+mod near;
 mod payloads;
 mod peer;
 mod reading;
 mod showing;
+mod t4_tags;
+mod t5_tags;
 mod tags;

@@ -1,7 +1,7 @@
-//! Tags whose memory C keeps.
+//! Type 2 tags whose memory C keeps.
 
 ghost use Rattle.std.specs.Prelude.{◌≡◌, ◌<◌, ◌≤◌, length};
-ghost use Rattle.t2t_tag.specs.Store.{block_count};
+ghost use Rattle.t2t_tag.specs.Store.{block_count, locked_too};
 ghost use Rattle.zevlodek_c.specs.Tags.{T2Steps, locked_from};
 
 use crate::codes::{BAD_ARGUMENT, DONE, NO_MEMORY, SILENT};
@@ -14,7 +14,7 @@ use t2t_tag::T2Tag;
 fn lock_all(tag: &mut T2Tag, locks: &[u8])
     requires blocks { length locks.now ≤ block_count tag.old.store }
     requires few { length locks.now < 65536 }
-    ensures { tag.new ≡ locked_from tag.old 0 locks.now }
+    ensures { tag.new ≡ locked_from locked_too tag.old 0 locks.now }
 {
     for (block, byte) in locks.iter().enumerate() {
         if *byte != 0 {
@@ -36,7 +36,7 @@ pub extern "C" fn zev_t2_tag(
     told: &mut Told,
 ) -> i32
     ensures { T2Steps memory.old locks.now command.now bits out.old told.old
-        (record { memory = memory.new; seen = record { answer = result; out = out.new; told = told.new } }) }
+        (record { kept = memory.new; seen = record { answer = result; out = out.new; told = told.new } }) }
 {
     let Ok(frame) = Frame::part(Tech::A, command, bits) else {
         return BAD_ARGUMENT;

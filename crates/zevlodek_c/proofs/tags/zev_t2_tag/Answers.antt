@@ -46,7 +46,7 @@ returns c =
           (lt-leb (length c.in-Some.answer.bytes) (length c.args.out.now) (omega (arith, ap length c.view.ensures.bytes, w.if-view-out.false))) w.memory-is
     ] in
     let is : to_z w32 (of_z w32 c.show.result) ≡ c.show.result = search rules in
-    let answered : record { memory = c.if-view-out.memory; seen = shows done c.in-Some.answer.bytes c.args.out.now (record c.args.told.now { bits = c.in-Some.answer.tail }) }
+    let answered : record { kept = c.if-view-out.memory; seen = shows done c.in-Some.answer.bytes c.args.out.now (record c.args.told.now { bits = c.in-Some.answer.tail }) }
     ≡ t2_stepped c.args.memory.now c.args.locks.now f c.args.out.now c.args.told.now
     = answered_step c.args.memory.now c.args.locks.now c.args.out.now c.args.told.now f c.in-Some.answer c.if-view-out.memory said held in
     record {

@@ -1,0 +1,7 @@
+use Rattle.zevlodek_c.proofs.Nears.{failed_aside}
+use Rattle.zevlodek_c.proofs.near.lookup.Goals as goal
+
+pub returns-clause-does : goal.returns-clause-does
+returns-clause-does c =
+    failed_aside _ _ _ c.in-Err.fault c.lookup.new.self.llc _ _ c.args.far.now c.lookup.new.far c.most.result c.failed.result c.requires.fresh
+    c.most.ensures c.failed.ensures (c.in-Err.ensures.err c.requires.going.spent)
