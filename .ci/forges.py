@@ -69,10 +69,10 @@ def inner_of(content):
 class Session:
     """The server's side of one connection."""
 
-    def __init__(self, accepted):
-        self.accepted, self.out, self.waits, self.asked, self.got = accepted, [], [], None, b""
+    def __init__(self, accepted, limit, offers):
+        self.accepted, self.limit, self.offers, self.out, self.waits, self.asked, self.got = accepted, limit, offers, [], [], None, b""
 
-    def unit(self, unit, miu):
+    def unit(self, unit):
         if self.asked is not None:
             self.got += unit
         else:
@@ -95,7 +95,7 @@ class Session:
             self.say(0xE0)
         elif (code == 1 and length < 4) or (code in (0, 0x7F) and length):
             self.say(0xC2)
-        elif (code == 2 and length > LIMIT) or (code == 1 and length - 4 > LIMIT):
+        elif (code == 2 and length > self.limit) or (code == 1 and length - 4 > self.limit):
             self.say(0xFF)
         elif len(info) > length or code == 0:
             self.say(0xC2)
@@ -109,12 +109,22 @@ class Session:
         if len(self.got) > length:
             self.say(0xC2)
         elif len(self.got) == length:
-            self.say(0x81 if code == 2 else 0xE0)
             if code == 2:
+                self.say(0x81)
                 self.accepted(self.got)
+            else:
+                self.give(int.from_bytes(self.got[:4], "big"), self.got[4:])
         else:
             return
         self.asked = None
+
+    def give(self, most, key):
+        """The value of a key, where it is one of at most so many bytes; with its head it fits into one unit here."""
+        value = self.offers.get(key)
+        if value is None or len(value) > most:
+            self.say(0xE0 if not self.offers else 0xC0 if value is None else 0xC1)
+        else:
+            self.out.append(bytes([0x10, 0x81]) + len(value).to_bytes(4, "big") + value)
 
     def say(self, code):
         self.out.append(bytes([0x10, code, 0, 0, 0, 0]))
@@ -127,10 +137,12 @@ class Connection:
 
 
 class End:
-    """The peer's end of a link."""
+    """The peer's end of a link, with its MIU and window and the limit of its server."""
 
-    def __init__(self, accepted):
-        self.accepted, self.queue, self.open, self.last = accepted, [], {}, None
+    def __init__(self, accepted, miu=MIU, window=1, limit=LIMIT, offers=()):
+        self.accepted, self.miu, self.limit, self.offers, self.queue, self.open, self.last = accepted, miu, limit, dict(offers), [], {}, None
+        self.told = b"" if miu == 128 else b"\2\2" + (miu - 128).to_bytes(2, "big")
+        self.told += b"" if window == 1 else bytes([5, 1, window])
 
     def answer(self, pdu):
         if len(self.queue) < MOST_ANSWERS:
@@ -178,8 +190,8 @@ class End:
         elif ssap in self.open or len(self.open) == 8:
             self.answer(header(ssap, DM, SAP) + b"\x20")
         else:
-            self.open[ssap] = Connection(window, Session(lambda message: self.accepted(ssap, message)))
-            self.answer(header(ssap, CC, SAP))
+            self.open[ssap] = Connection(window, Session(lambda message: self.accepted(ssap, message), self.limit, self.offers))
+            self.answer(header(ssap, CC, SAP) + self.told)
 
     def names(self, told):
         known = {b"urn:nfc:sn:sdp": 1, NAME: SAP}
@@ -190,7 +202,7 @@ class End:
     def numbered(self, kind, ssap, content):
         c, nr, ns, unit = self.open[ssap], content[0] & 15, content[0] >> 4, content[1:]
         sequence = content[0] if kind == INFO else nr
-        if kind == INFO and len(unit) > MIU:
+        if kind == INFO and len(unit) > self.miu:
             return self.report(ssap, kind, 0x40, sequence)
         if (nr - c.vsa) % 16 > (c.vs - c.vsa) % 16:
             return self.report(ssap, kind, 0x20, sequence)
@@ -199,7 +211,7 @@ class End:
         c.vsa = nr
         if kind == INFO:
             c.vr = (c.vr + 1) % 16
-            c.session.unit(unit, MIU)
+            c.session.unit(unit)
         else:
             c.stopped = kind == RNR
 
@@ -227,26 +239,33 @@ class End:
         return None
 
 
-def replies(payloads, accepted):
-    """The reply to each payload. An end joins as many PDUs as fit; one that doesn't fit waits for the next payload."""
-    end, kept, told = End(accepted), [], []
-    for payload in payloads:
-        end.take(payload)
+class Replies:
+    """The replies of an end, which joins as many PDUs as fit; one that doesn't fit waits for the next payload."""
+
+    def __init__(self, end):
+        self.end, self.kept = end, []
+
+    def reply(self, payload):
+        self.end.take(payload)
         joined, size = [], 0
         while True:
-            pdu = kept.pop(0) if kept else end.next()
+            pdu = self.kept.pop(0) if self.kept else self.end.next()
             if pdu is None:
                 break
             if joined and size + 2 + len(pdu) > MIU:
-                kept.append(pdu)
+                self.kept.append(pdu)
                 break
             joined.append(pdu)
             size += 2 + len(pdu)
         if len(joined) > 1:
-            told.append(b"\0\x80" + b"".join(len(pdu).to_bytes(2, "big") + pdu for pdu in joined))
-        else:
-            told.append(joined[0] if joined else b"\0\0")
-    return told
+            return b"\0\x80" + b"".join(len(pdu).to_bytes(2, "big") + pdu for pdu in joined)
+        return joined[0] if joined else b"\0\0"
+
+
+def replies(payloads, accepted):
+    """The reply to each payload."""
+    end = Replies(End(accepted))
+    return [end.reply(payload) for payload in payloads]
 
 
 def usual(chance):

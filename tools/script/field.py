@@ -112,6 +112,17 @@ class Field:
     def offer(self, ident: bytes, *_entry: bytes) -> None:
         self.device(ident, "offer", ("peer",))
 
+    def raw(self, _ident: bytes, *_frames: object) -> None:
+        peers = sum(device.kind == "peer" for device in self.devices.values())
+        if peers > 1:
+            raise NotAccepted(f"{peers} peers are placed, and a raw is for a field with at most one")
+
+    def puts(self, *puts: tuple[int, bytes]) -> None:
+        slots = [slot for slot, _message in puts]
+        twice = next((slot for place, slot in enumerate(slots) if slot in slots[:place]), None)
+        if twice is not None:
+            raise NotAccepted(f"slot {twice} stands twice, and each client puts one message")
+
     def inbox(self, ident: bytes) -> None:
         self.device(ident, "inbox", ("peer",))
 

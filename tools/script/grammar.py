@@ -6,7 +6,7 @@ from dataclasses import dataclass
 from typing import Any, Callable
 
 from script.field import Field
-from script.kinds import Fates, Hexadecimal, Identifier, Kind, Message, Name, Number, Payload, Size
+from script.kinds import Fates, Frame, Hexadecimal, Identifier, Kind, Literally, Message, Name, Number, Payload, Size, SlotPut
 
 NFCA_ID = Identifier((4, 7, 10), "an identifier of NFC-A, 4, 7 or 10 bytes, two hexadecimal digits a byte")
 T3_ID = Identifier((8,), "the identifier of a Type 3 tag, 8 bytes, two hexadecimal digits a byte")
@@ -25,6 +25,7 @@ LIMIT = Number("LIMIT", 1024, 65536, "how many bytes a message may have that its
 BLOCK = Number("BLOCK", 0, 65535, "the number of a block, from 0 on")
 COUNT = Number("COUNT", 0, 5, "how often it asks for more time before an answer")
 TIMES = Number("TIMES", 1, 59, "by which value it asks for more time")
+SLOT = Number("K", 1, 7, "the slot of another client than that of put, get and lookup")
 ACCEPTED = Number("N", 0, 65536, "how many bytes a value may have that is taken")
 FREE = "fewer than 16 devices are placed and none has this ID"
 
@@ -40,8 +41,19 @@ class Command:
     most: int = 1
 
     @property
+    def first(self) -> str:
+        """What stands before the words of its kinds: of `on`, whose verb stands behind a slot, not the whole name."""
+        return "on" if self.name.startswith("on ") else self.name
+
+    @property
     def form(self) -> str:
-        return " ".join([self.name] + [kind.name for kind in self.kinds] + ([".."] if self.most > 1 else []))
+        kinds = [kind.name for kind in self.kinds]
+        return " ".join([self.first, *(kinds[:1] if self.repeats else kinds), *([".."] if self.most > 1 else [])])
+
+    @property
+    def repeats(self) -> bool:
+        """Whether all of its words are of one kind, and there are several."""
+        return self.most > 1 and len(set(self.kinds)) == 1
 
     def kinds_of(self, count: int) -> tuple[Kind, ...] | None:
         """The kinds of so many words, none where the command has another number of them."""
@@ -96,11 +108,16 @@ IN_ORDER = (
     Command("write3", (T3_ID, MSG)),
     Command("link", (NFCA_ID, MIU, RW)),
     Command("forge", (NFCA_ID, Payload()), most=16),
+    Command("raw", (ANY_ID, Frame()), Field.raw, "at most one peer is placed", most=16),
     Command("put", (MSG,)),
     Command("get", (ACCEPTED, HEX)),
     Command("lookup", (Name(),)),
+    Command("on put", (SLOT, Literally("put"), MSG)),
+    Command("on get", (SLOT, Literally("get"), ACCEPTED, HEX)),
+    Command("puts", (SlotPut(), SlotPut()), Field.puts, "no two puts are of one slot", most=7),
     Command("unlink", ()),
 )
 COMMANDS = {command.name: command for command in IN_ORDER}
 PLACES = tuple(command.name.split(" ")[1] for command in IN_ORDER if command.name.startswith("place "))
+VERBS = tuple(command.name.split(" ")[1] for command in IN_ORDER if command.name.startswith("on "))
 FIRST_WORDS = tuple(dict.fromkeys(command.name.split(" ")[0] for command in IN_ORDER))

@@ -94,6 +94,76 @@ class Payload:
         return bytes.fromhex(word)
 
 
+@dataclass(frozen=True)
+class Frame:
+    """A frame of the air, and how many bits of its last byte are sent where it isn't sent whole."""
+
+    most: int = 288
+    name: str = "FRAME"
+    told: str = "HEX of at most 288 bytes, with /1 to /7 behind it where only so many low bits of the last byte are sent, and the others are 0"
+
+    def fault(self, word: str) -> str | None:
+        digits, slash, tail = word.partition("/")
+        fault = Hexadecimal().fault(digits) if digits else "its digits are missing, and - stands for none"
+        if fault is not None:
+            return fault
+        if slash and tail not in tuple("1234567"):
+            return f"{short('/' + tail)} isn't /1 to /7, how many bits of the last byte are sent"
+        content = Hexadecimal().value(digits)
+        if len(content) > self.most:
+            return f"a frame of {len(content)} bytes is longer than {self.most}"
+        return tail_fault(content, int(tail)) if slash else None
+
+    def value(self, word: str) -> tuple[bytes, int]:
+        digits, _, tail = word.partition("/")
+        return Hexadecimal().value(digits), int(tail or "0")
+
+
+def tail_fault(content: bytes, tail: int) -> str | None:
+    """What is wrong with a frame's last byte, of which the low bits are sent."""
+    if not content:
+        return "the empty frame has no byte to send in part"
+    if content[-1] >= 1 << tail:
+        return f"its last byte, {content[-1]:02X}h, has other bits than its low {tail}"
+    return None
+
+
+@dataclass(frozen=True)
+class SlotPut:
+    """What one client puts: the number of its slot, and a message behind the first colon."""
+
+    name: str = "K:MSG"
+    told: str = "the slot of a client, 0 to 7, and a message: 0:D1 or 3:gen:300:0"
+
+    def fault(self, word: str) -> str | None:
+        slot, colon, message = word.partition(":")
+        if not colon:
+            return f"{short(word)} has no colon between a slot and a message"
+        missing = None if message else "the message is missing, and - stands for no bytes"
+        return Number("K", 0, 7).fault(slot) or missing or Message().fault(message)
+
+    def value(self, word: str) -> tuple[int, bytes]:
+        slot, _, message = word.partition(":")
+        return int(slot), Message().value(message)
+
+
+@dataclass(frozen=True)
+class Literally:
+    """A word that stands as it is between others."""
+
+    name: str
+
+    @property
+    def told(self) -> str:
+        return f"the word {self.name}"
+
+    def fault(self, word: str) -> str | None:
+        return None if word == self.name else f"{short(word)} isn't {self.name}"
+
+    def value(self, word: str) -> str:
+        return word
+
+
 def digits_fault(word: str) -> str | None:
     """What is wrong with hexadecimal digits, two for each byte."""
     if word[:2] in ("0x", "0X"):

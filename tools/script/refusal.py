@@ -8,7 +8,7 @@ from typing import Any, Iterator
 
 from frames.words import counted, either
 from script.field import Field, NotAccepted
-from script.grammar import COMMANDS, FIRST_WORDS, PLACES, Command
+from script.grammar import COMMANDS, FIRST_WORDS, PLACES, VERBS, Command
 from script.kinds import Kind, short
 
 MOST_LINES = 1000
@@ -133,10 +133,12 @@ def check_spaces(text: str) -> None:
 
 
 def command_of(words: list[str]) -> tuple[Command, list[str]]:
-    """The command that the first word names, or the first two words of a place; and the words behind."""
+    """The command that the first word names, the first two words of a place, or the first and third of `on`; and the words behind."""
     first = words[0]
     if first not in FIRST_WORDS:
         raise Refused(f"there is no command {short(first)}{likely(first, FIRST_WORDS)}")
+    if first == "on":
+        return COMMANDS[f"on {verb_of(words)}"], words[1:]
     if first != "place":
         return COMMANDS[first], words[1:]
     kind = words[1] if len(words) > 1 else ""
@@ -144,6 +146,15 @@ def command_of(words: list[str]) -> tuple[Command, list[str]]:
         what = f"{short(kind)} is no kind of device{likely(kind, PLACES)}" if kind else "the kind of device is missing"
         raise Refused(f"{what}: behind place stands {either(PLACES)}")
     return COMMANDS[f"place {kind}"], words[2:]
+
+
+def verb_of(words: list[str]) -> str:
+    """What the client of a slot does."""
+    verb = words[2] if len(words) > 2 else ""
+    if verb not in VERBS:
+        what = f"{short(verb)} is nothing that a slot does{likely(verb, VERBS)}" if verb else "what the slot does is missing"
+        raise Refused(f"{what}: behind on and a slot stands {either(VERBS)}")
+    return verb
 
 
 def likely(word: str, known: tuple[str, ...]) -> str:
@@ -159,7 +170,7 @@ def check_words(command: Command, words: list[str]) -> None:
         needs = f"needs {counted(wanted, 'word')} behind it" if wanted else "has no word behind it"
         needs = f"needs {wanted} to {wanted + command.most - 1} words behind it" if command.most > 1 else needs
         here = f"here {'is' if len(words) == 1 else 'are'} {len(words) or 'none'}"
-        raise Refused(f"{command.name} {needs}, and {here}", command)
+        raise Refused(f"{command.first} {needs}, and {here}", command)
     for kind, word in zip(kinds, words, strict=True):
         fault = kind.fault(word)
         if fault is not None:

@@ -39,9 +39,13 @@ LEGAL = {
     "write3": "write3 0102030405060708 00",
     "link": "link 02020202 128 1",
     "forge": "forge 02020202 1120",
+    "raw": "raw 02020202 3000 26/7",
     "put": "put 00",
     "get": "get 1 6B",
     "lookup": "lookup a",
+    "on put": "on 1 put 00",
+    "on get": "on 1 get 1 6B",
+    "puts": "puts 0:00 1:00",
     "unlink": "unlink",
 }
 
@@ -65,7 +69,7 @@ def lines() -> Iterator[str]:
 
 def at_limits(name: str, place: int, kind: Number) -> Iterator[str]:
     """The command with this number at its limits and just past them, and spelled as the language doesn't."""
-    at = place + len(name.split(" "))
+    at = place + len(COMMANDS[name].first.split(" "))
     for value in (kind.least - 1, kind.least, kind.most, kind.most + 1, f"0{kind.least}", f"+{kind.least}", ""):
         words = LEGAL[name].split(" ")
         words[at] = str(value)
@@ -76,7 +80,7 @@ def on_each_device() -> Iterator[str]:
     """Each command that names a device, on one of each kind; and the blocks that each has, and the one behind."""
     for name, line in LEGAL.items():
         if COMMANDS[name].kinds and COMMANDS[name].kinds[0].name == "ID":
-            at = len(name.split(" "))
+            at = len(COMMANDS[name].first.split(" "))
             words = line.split(" ")
             yield from (" ".join(words[:at] + [ident] + words[at + 1 :]) for ident in (*IDS.values(), "0F0F0F0F"))
     for kind, last in (("t2", 15), ("t3", 3), ("t5", 3), ("t4", 0), ("peer", 0)):
@@ -123,6 +127,20 @@ def contents() -> Iterator[str]:
         yield "forge 02020202" + " 1120" * length
     for payload in ("-", "0", "000", "00 -", "0G", "gen:1:1", "00" * 2033):
         yield f"forge 02020202 {payload}"
+    for length in (0, 1, 15, 16, 17):
+        yield "raw 02020202" + " 3000" * length
+    for frame in ("-", "0", "00", "-/3", "-/", "/3", "26/7", "26/0", "26/8", "26/", "26/07", "26/7/7", "A6/7", "7F/7", "01/1", "02/1", "gen:1:1"):
+        yield f"raw 02020202 {frame}"
+        yield f"raw E004010203040506 00 {frame}"
+    for count in (287, 288, 289):
+        yield f"raw 02020202 {'00' * count}"
+        yield f"raw 02020202 {'00' * count}/1"
+    for puts in ("0:D1", "0:D1 0:D2", "8:D1 0:D2", "0: 1:D2", "00:D1 1:D2", "0:D1 1", ":D1 1:D2", "1:D1 0:gen:300:0", "7:- 0:gen:0:0", "0:gen:1 1:D2"):
+        yield f"puts {puts}"
+    for count in range(1, 10):
+        yield "puts" + "".join(f" {slot}:D1" for slot in range(count))
+    for words in ("0 put D1", "8 put D1", "01 put D1", "1 put", "1", "", "1 lookup x", "1 unlink", "put D1", "7 put gen:3:0", "7 get 65536 -", "1 get 1"):
+        yield f"on {words}"
     for length in (0, 1, 63, 64, 65):
         yield f"lookup {'~' * length}"
     for length in (0, 1, 3999, 4000, 4001):
@@ -143,6 +161,8 @@ def longer_scripts() -> Iterator[str]:
         yield "#" * length
         yield "#" * length + "\nfind\n"
         yield ("put " + "0" * (length - 4)) + "\n"
+    for count in (0, 1, 2):
+        yield "".join(f"place peer 0801{number:04X} 0 128 1 1024\n" for number in range(count)) + "raw 08010000 3000\nraw E004010203040506 02\n"
     yield "remove 01020304"
     yield "\n".join([*FIELD, "remove 01020304", "place t5 E001010101010101 1 4 -", "place peer 01020304 0 128 1 1024"])
     yield "place t5 0102030405060708 4 8 -\nplace t3 0102030405060708 4 -\n"

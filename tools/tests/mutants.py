@@ -21,6 +21,10 @@ WORDS = {
                                                 ("04", 0x8000, ""), ("05", 9, "00" * 49), ("05", 9, "00" * 50))),
     "MSG": ("-", "D00000", "gen:65536:255", "gen:65537:0", "gen:0:256", "gen:1", "gen:01:2", "gen:2:2:2", "gen:3:4"),
     "NAME": ("urn:nfc:sn:sdp", "a", "~" * 64, "~" * 65, "-"),
+    "FRAME": ("-", "26/7", "9320", "3000", "A205AABBCCDD", "26/8", "26/0", "A6/7", "-/3", "300", "00" * 288, "00" * 289),
+    "K:MSG": ("0:D1", "1:gen:300:7", "7:-", "8:D1", "01:D1", "2:", "D1", "0:gen:1"),
+    "put": ("put", "put", "get"),
+    "get": ("get", "get", "lookup"),
     "FATES": ("P", "PDLB", "-", "p", "P" * 4000, "P" * 4001),
 }  # fmt: skip
 CONTAINER_PLACES = (9, 10, 11, 12, 13, 14)
@@ -155,7 +159,7 @@ def made_line(chance: random.Random, lines: Lines) -> None:
     """A line as the grammar makes it, with words at their limits, stands somewhere."""
     command = chance.choice(IN_ORDER)
     told = [one_word(chance, kind, lines) for kind in command.kinds]
-    lines.insert(chance.randrange(len(lines) + 1), " ".join([command.name] + told).encode())
+    lines.insert(chance.randrange(len(lines) + 1), " ".join([command.first] + told).encode())
 
 
 def one_word(chance: random.Random, kind: Kind, lines: Lines) -> str:

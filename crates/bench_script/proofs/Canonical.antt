@@ -17,15 +17,19 @@ use Rattle.hex.proofs.HexLemmas.{length-encode_with, decode_of-encode_upper, dec
 use Rattle.nfc_base.specs.declared.event.Fate.{Fate}
 use Rattle.nfc_base.specs.declared.event.Fate.TheVariants.{Pass, Damage, Lose, Break}
 use Rattle.bench_script.specs.declared.command.Command.{Command}
-use Rattle.bench_script.specs.declared.command.Command.TheVariants.{Skip, Fates, PlaceT2, PlaceT3, PlaceT4, PlaceT5, PlacePeer, Lock, Busy, Offer, Remove, Dump, Inbox, Find, Crowd, Poll3, Read, Read3, Write, Write3, Link, Forge, Put, Get, Lookup, Unlink}
+use Rattle.bench_script.specs.declared.command.Command.TheVariants.{Skip, Fates, PlaceT2, PlaceT3, PlaceT4, PlaceT5, PlacePeer, Lock, Busy, Offer, Remove, Dump, Inbox, Find, Crowd, Poll3, Read, Read3, Write, Write3, Link, Forge, Raw, Put, Get, Lookup, OnPut, OnGet, Puts, Unlink}
 use Rattle.bench_script.specs.declared.command.DeviceId.{DeviceId}
 use Rattle.bench_script.specs.declared.command.DeviceId.TheVariants.{A, V}
+use Rattle.nfc_base.specs.Signal.{Signal}
+use Rattle.nfc_base.specs.declared.frame.Tech.{Tech}
+use Rattle.bench_script.specs.DeviceIds.{tech_for}
+use Rattle.bench_script.specs.declared.command.SlotPut.{SlotPut}
 use Rattle.bench_script.specs.declared.message.Msg.{Msg}
 use Rattle.bench_script.specs.declared.message.Msg.TheVariants.{Hex, Gen}
-use Rattle.bench_script.specs.Script.{words_of, SpelledBy, Spells, SpellsHex, SpellsIdent, SpellsIdV, SpellsId, SpellsCounted, SpellsMsg, SpellsFates, SpellsName, SpellsPayload, SpellEach, fate_letter}
+use Rattle.bench_script.specs.Script.{words_of, SpelledBy, Spells, SpellsHex, SpellsIdent, SpellsIdV, SpellsId, SpellsCounted, SpellsMsg, SpellsFates, SpellsName, SpellsPayload, SpellEach, tail_text, SpellsFrame, SpellsSlotPut, fate_letter}
 use Rattle.std.proofs.lemmas.Bool.{ne_eqb}
 use Rattle.bench_script.proofs.Spelling.{size_small, spells_words, spells_one}
-use Rattle.bench_script.specs.Canonical.{hex_text, id_text, message_text, fates_text, payloads_text, canonical_words, canonical, IsReadAs}
+use Rattle.bench_script.specs.Canonical.{hex_text, id_text, message_text, fates_text, frame_text, slot_put_text, row_text, canonical_words, canonical, IsReadAs}
 
 -- words are parts between spaces
 words_split : (line : List ℕ) → words_of line ≡ slice_split (λ b. b == 32) line
@@ -161,6 +165,10 @@ message_too : (word : List ℕ) (message : Msg) → SpellsMsg word message
 message_too word (Hex bytes) s = hex_too word bytes s
 message_too word (Gen count start) s = counted_too word count start s
 
+tail_visible : (v : Bool) (t : ℕ) → t < 2 ^ 32 → IsWord (if v then [] else codes "/" ++ decimal t)
+tail_visible true t small = All-nil (λ b. 32 < b)
+tail_visible false t small = All-cons (λ b. 32 < b) 47 (decimal t) (omega arith) (decimal_word t small)
+
 letter_visible : (f : Fate) → 32 < fate_letter f
 letter_visible Pass = omega arith
 letter_visible Damage = omega arith
@@ -190,39 +198,66 @@ payload_too word bytes s =
     let upper = upper_too word bytes s.digits in
     record { spells = record { digits = upper.spells; some = s.some; few = s.few }; size = upper.size; is = upper.is }
 
--- Payloads in upper case are spelled too, with words of the same lengths, and stand behind any other word.
-record EachToo (vs ws ps : List (List ℕ)) : Type 0 where
-  pub spells : SpellEach ws ps
+frame_too : (tech : Tech) (word : List ℕ) (f : Signal) → SpellsFrame tech word f → SpellsToo (λ t. SpellsFrame tech t f) word (frame_text f)
+frame_too tech word f s =
+    let bytes = hex_too s.hex f.bytes s.bytes in
+    let tail = length-append s.hex (tail_text f.tail) in
+    let tail' = length-append (hex_text f.bytes) (tail_text f.tail) in
+    let small : f.tail < 8 = s.fits.small in
+    record {
+      spells = record { hex = hex_text f.bytes; bytes = bytes.spells; is = refl; fits = s.fits; technology = s.technology };
+      size = omega (arith, ap length s.is, tail, tail', bytes.size);
+      is = All-append (λ b. 32 < b) (hex_text f.bytes) (tail_text f.tail) bytes.is (tail_visible (f.tail == 0) f.tail (omega (arith, small)));
+    }
+
+slot_put_too : (word : List ℕ) (p : SlotPut) → SpellsSlotPut word p → SpellsToo (λ t. SpellsSlotPut t p) word (slot_put_text p)
+slot_put_too word p s =
+    let few : p.slot ≤ 7 = s.number.2 in
+    let slot = number_is s.slot p.slot (omega (arith, few)) s.number.0 in
+    let message = message_too s.message p.message s.text in
+    let front = length-append s.slot (58 ∷ s.message) in
+    let front' = length-append (decimal p.slot) (58 ∷ message_text p.message) in
+    record {
+      spells = record { slot = decimal p.slot; message = message_text p.message; is = refl; number = (refl, s.number.1, s.number.2); text = message.spells };
+      size = omega (arith, ap length s.is, front, front', slot.size, message.size);
+      is =
+          All-append (λ b. 32 < b) (decimal p.slot) (58 ∷ message_text p.message) slot.is
+          (All-cons (λ b. 32 < b) 58 (message_text p.message) (omega arith) message.is);
+    }
+
+-- The canonical texts of values in a row are spelled too, with words of the same lengths, and stand behind any other word.
+record EachToo {T : Type 0} (S : List ℕ → T → Type 0) (vs ws : List (List ℕ)) (xs : List T) : Type 0 where
+  pub spells : SpellEach S ws xs
   pub sizes : map length vs ≡ map length ws
   pub are : (w : List ℕ) → IsWord w → AreWords (w ∷ ws)
 
-each_too : (ws ps : List (List ℕ)) → SpellEach ws ps → EachToo ws (map encode_upper ps) ps
-each_too [] [] s = record { spells = s; sizes = refl; are = λ w is. is }
-each_too (w ∷ ws) (p ∷ ps) s =
-    let one = payload_too w p s.0 in
-    let more = each_too ws ps s.1 in
-    let first : length w ≡ length (encode_upper p) = one.size in
-    let rest : map length ws ≡ map length (map encode_upper ps) = more.sizes in
+each_too : {T : Type 0} (S : List ℕ → T → Type 0) (text : T → List ℕ) → ((w : List ℕ) (x : T) → S w x → SpellsToo (λ t. S t x) w (text x))
+    → (ws : List (List ℕ)) (xs : List T) → SpellEach S ws xs → EachToo S ws (map text xs) xs
+each_too S text too [] [] s = record { spells = s; sizes = refl; are = λ w is. is }
+each_too S text too (w ∷ ws) (x ∷ xs) s =
+    let one = too w x s.0 in
+    let more = each_too S text too ws xs s.1 in
+    let first : length w ≡ length (text x) = one.size in
+    let rest : map length ws ≡ map length (map text xs) = more.sizes in
     record {
       spells = (one.spells, more.spells);
       sizes = cc;
-      are = λ v is. (is, more.are (encode_upper p) one.is);
+      are = λ v is. (is, more.are (text x) one.is);
     }
-each_too [] (p ∷ ps) s = absurd s
-each_too (w ∷ ws) [] s = absurd s
+each_too S text too [] (x ∷ xs) s = absurd s
+each_too S text too (w ∷ ws) [] s = absurd s
 
--- a word with payloads behind it, joined
-pub joined_payloads : (w : List ℕ) (ps : List (List ℕ)) → join_with_byte 32 (w ∷ map encode_upper ps) ≡ w ++ payloads_text ps
-joined_payloads w [] = sym (append-nil w)
-joined_payloads w (p ∷ ps) = ap (λ t. w ++ 32 ∷ t) (joined_payloads (encode_upper p) ps)
+-- a word with others behind it, joined
+pub joined_row : (w : List ℕ) (ws : List (List ℕ)) → join_with_byte 32 (w ∷ ws) ≡ w ++ row_text ws
+joined_row w [] = sym (append-nil w)
+joined_row w (v ∷ ws) = ap (λ t. w ++ 32 ∷ t) (joined_row v ws)
 
--- `forge` and an identifier behind a text, and payloads behind that
-pub forge_text : (line x y id : List ℕ) (ps : List (List ℕ)) → x ≡ line ++ codes "forge" → y ≡ x ++ 32 ∷ encode_upper id
-    → y ++ payloads_text ps ≡ line ++ (codes "forge" ++ (32 ∷ join_with_byte 32 (encode_upper id ∷ map encode_upper ps)))
-forge_text line x y id ps p q =
-    let u : List ℕ = encode_upper id in
-    ap (λ t. t ++ payloads_text ps) (q ∙ ap (λ t. t ++ 32 ∷ u) p) ∙ append_assoc (line ++ codes "forge") (32 ∷ u) (payloads_text ps)
-    ∙ append_assoc line (codes "forge") ((32 ∷ u) ++ payloads_text ps) ∙ ap (λ t. line ++ (codes "forge" ++ (32 ∷ t))) (sym (joined_payloads u ps))
+-- a name and a word behind a text, and others behind that
+pub row_behind : (line x y name id : List ℕ) (ws : List (List ℕ)) → x ≡ line ++ name → y ≡ x ++ 32 ∷ id
+    → y ++ row_text ws ≡ line ++ (name ++ (32 ∷ join_with_byte 32 (id ∷ ws)))
+row_behind line x y name id ws p q =
+    ap (λ t. t ++ row_text ws) (q ∙ ap (λ t. t ++ 32 ∷ id) p) ∙ append_assoc (line ++ name) (32 ∷ id) (row_text ws)
+    ∙ append_assoc line name ((32 ∷ id) ++ row_text ws) ∙ ap (λ t. line ++ (name ++ (32 ∷ t))) (sym (joined_row id ws))
 
 -- Words that are joined are as long as others of the same lengths.
 joined_size : (vs ws : List (List ℕ)) → map length vs ≡ map length ws
@@ -469,13 +504,23 @@ all_too (Write id message) ws (i, m, e, p, q) =
 all_too (Link id miu rw) ws s = link_too id miu rw ws s
 all_too (Forge id payloads) ws (i, hs, e, p, q) =
     let x = ident_too i id p in
-    let y = each_too hs payloads q.each in
+    let y = each_too SpellsPayload encode_upper payload_too hs payloads q.each in
     let first : length i ≡ length (encode_upper id) = x.size in
     let rest : map length hs ≡ map length (map encode_upper payloads) = y.sizes in
     record {
       spells = (encode_upper id, map encode_upper payloads, refl, x.spells, record { each = y.spells; some = q.some; few = q.few });
       sizes = ap (map length) e ∙ (let h : 5 ∷ length i ∷ map length hs ≡ 5 ∷ length (encode_upper id) ∷ map length (map encode_upper payloads) = cc in h);
       are = (literal (codes "forge") refl, y.are (encode_upper id) x.is);
+    }
+all_too (Raw id frames) ws (i, fs, e, p, q) =
+    let x = id_too i id p in
+    let y = each_too (SpellsFrame (tech_for id)) frame_text (frame_too (tech_for id)) fs frames q.each in
+    let first : length i ≡ length (id_text id) = x.size in
+    let rest : map length fs ≡ map length (map frame_text frames) = y.sizes in
+    record {
+      spells = (id_text id, map frame_text frames, refl, x.spells, record { each = y.spells; some = q.some; few = q.few });
+      sizes = ap (map length) e ∙ (let h : 3 ∷ length i ∷ map length fs ≡ 3 ∷ length (id_text id) ∷ map length (map frame_text frames) = cc in h);
+      are = (literal (codes "raw") refl, y.are (id_text id) x.is);
     }
 all_too (Put message) ws (m, e, p) =
     let x = message_too m message p in
@@ -500,6 +545,35 @@ all_too (Lookup name) ws (n, e, p) =
       spells = (name, refl, x.spells);
       sizes = ap (map length) e ∙ ap (λ k. 6 ∷ k ∷ []) x.size;
       are = (literal (codes "lookup") refl, x.is);
+    }
+all_too (OnPut slot message) ws (k, m, e, p, q) =
+    let x = number_is k slot (let most : slot ≤ 7 = p.2 in omega arith) p.0 in
+    let y = message_too m message q in
+    let first : length k ≡ length (decimal slot) = x.size in
+    let second : length m ≡ length (message_text message) = y.size in
+    record {
+      spells = (decimal slot, message_text message, refl, (refl, p.1, p.2), y.spells);
+      sizes = cc;
+      are = (literal (codes "on") refl, (x.is, (literal (codes "put") refl, y.is)));
+    }
+all_too (OnGet slot acceptable key) ws (k, n, h, e, p, q, r) =
+    let x = number_is k slot (let most : slot ≤ 7 = p.2 in omega arith) p.0 in
+    let y = number_is n acceptable (let most : acceptable ≤ 65536 = q.2 in omega arith) q.0 in
+    let z = hex_too h key r in
+    let first : length k ≡ length (decimal slot) = x.size in
+    let second : length n ≡ length (decimal acceptable) = y.size in
+    let third : length h ≡ length (hex_text key) = z.size in
+    record {
+      spells = (decimal slot, decimal acceptable, hex_text key, refl, (refl, p.1, p.2), (refl, q.1, q.2), z.spells);
+      sizes = cc;
+      are = (literal (codes "on") refl, (x.is, (literal (codes "get") refl, (y.is, z.is))));
+    }
+all_too (Puts puts) ws (ps, e, p) =
+    let y = each_too SpellsSlotPut slot_put_text slot_put_too ps puts p.row.each in
+    record {
+      spells = (map slot_put_text puts, refl, record { row = record { each = y.spells; some = p.row.some; few = p.row.few }; own = p.own });
+      sizes = ap (map length) e ∙ ap (λ ns. 4 ∷ ns) y.sizes;
+      are = y.are (codes "puts") (literal (codes "puts") refl);
     }
 all_too Unlink ws e = record { spells = refl; sizes = ap (map length) e; are = literal (codes "unlink") refl }
 

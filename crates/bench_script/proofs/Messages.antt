@@ -9,7 +9,7 @@ use Rattle.std.proofs.lemmas.List.Elements.{All-head, All-tail, All-from_get_or}
 use Rattle.std.proofs.lemmas.Fmt.{decimal_is_IsNumeral, decimal_injective}
 use Rattle.std.proofs.lemmas.Str.Parse.{digit_at}
 use Rattle.hex.specs.Hex.{decode_of, is_hex_digit}
-use Rattle.hex.proofs.HexLemmas.{decode_of-ok}
+use Rattle.hex.proofs.HexLemmas.{decode_of-ok, decode_of-same}
 use Rattle.bench_script.specs.declared.message.Msg.{Msg}
 use Rattle.bench_script.specs.declared.message.Msg.TheVariants.{Hex, Gen}
 use Rattle.bench_script.specs.Script.{SpellsHex, SpellsWithin, SpellsCounted, SpellsMsg}
@@ -41,7 +41,7 @@ one_cut (x ∷ a) b (y ∷ c) d e p q =
     let behind : a ≡ c = rest.0 in
     (cc, rest.1)
 
-colon_after : (a b : List ℕ) → HasNoColon (a ++ 58 ∷ b) → ⊥
+pub colon_after : (a b : List ℕ) → HasNoColon (a ++ 58 ∷ b) → ⊥
 colon_after [] b none = All-head (λ x. x ≢ 58) 58 b none refl
 colon_after (x ∷ a) b none = colon_after a b (All-tail (λ y. y ≢ 58) x (a ++ 58 ∷ b) none)
 
@@ -113,3 +113,25 @@ start_missing word rest a b begins cut without none n s spelled =
 pub no_message : (word : List ℕ) → SpellsNoCount word → SpellsNoHex word → (message : Msg) → SpellsMsg word message → ⊥
 no_message word uncounted none (Hex bytes) s = none.none bytes s
 no_message word uncounted none (Gen n s) t = uncounted n s t
+
+-- `-` isn't an even number of digits
+pub dash_odd : (w b : List ℕ) → w ≡ codes "-" → decode_of w ≡ Ok b → ⊥
+dash_odd w b e d = let h : decode_of (codes "-") ≡ Ok b = (let P : List ℕ → Type 0 = λ t. decode_of t ≡ Ok b in subst P e d) in cc
+
+-- a word spells one list of bytes
+pub hex_one : (w a b : List ℕ) → SpellsHex w a → SpellsHex w b → a ≡ b
+hex_one w a b (inl p) (inl q) = p.1 ∙ sym q.1
+hex_one w a b (inl p) (inr q) = absurd (dash_odd w b p.0 q.1)
+hex_one w a b (inr p) (inl q) = absurd (dash_odd w a q.0 p.1)
+hex_one w a b (inr p) (inr q) = decode_of-same w a b p.1 q.1
+
+-- a word spells one message
+pub message_one : (word : List ℕ) (a b : Msg) → SpellsMsg word a → SpellsMsg word b → a ≡ b
+message_one word (Hex a) (Hex b) p q = ap (λ x. let m : Msg = Hex x in m) (hex_one word a b p q)
+message_one word (Hex a) (Gen n s) p q = absurd (counted_differs word a n s q p)
+message_one word (Gen n s) (Hex b) p q = absurd (counted_differs word b n s p q)
+message_one word (Gen m r) (Gen n s) p q =
+    let same = counted_one word m r n s p q in
+    let counts : m ≡ n = same.0 in
+    let starts : r ≡ s = same.1 in
+    cc

@@ -1,29 +1,28 @@
 -- No line spells two commands.
-use Rattle.std.proofs.Common.{◌≡◌, ◌≢◌, ℕ, zero, suc, ◌+◌, ◌==◌, ◌<◌, ◌≤◌, ◌++◌, inl, inr, List, [], ◌∷◌, drop, map, length, get_or, true, false, if◌then◌else◌, Ok, refl, sym, ◌∙◌, ap, subst, arith}
+use Rattle.std.proofs.Common.{◌≡◌, ◌≢◌, ℕ, zero, suc, ◌+◌, ◌==◌, ◌<◌, ◌≤◌, inl, inr, List, [], ◌∷◌, drop, map, length, get_or, true, false, if◌then◌else◌, refl, sym, ◌∙◌, ap, subst, arith}
 use Rattle.std.specs.List.{onto_first}
 use Rattle.std.specs.Prelude.{codes}
 use Rattle.std.proofs.lemmas.Fmt.{decimal_injective}
 use Rattle.nfc_base.specs.declared.event.Fate.{Fate}
 use Rattle.nfc_base.specs.declared.event.Fate.TheVariants.{Pass, Damage, Lose, Break}
-use Rattle.hex.specs.Hex.{decode_of}
 use Rattle.hex.proofs.HexLemmas.{decode_of-same}
 use Rattle.bench_script.specs.declared.command.Command.{Command}
-use Rattle.bench_script.specs.declared.command.Command.TheVariants.{Skip, Fates, PlaceT2, PlaceT3, PlaceT4, PlaceT5, PlacePeer, Lock, Busy, Offer, Remove, Dump, Inbox, Find, Crowd, Poll3, Read, Read3, Write, Write3, Link, Forge, Put, Get, Lookup, Unlink}
+use Rattle.bench_script.specs.declared.command.Command.TheVariants.{Skip, Fates, PlaceT2, PlaceT3, PlaceT4, PlaceT5, PlacePeer, Lock, Busy, Offer, Remove, Dump, Inbox, Find, Crowd, Poll3, Read, Read3, Write, Write3, Link, Forge, Raw, Put, Get, Lookup, OnPut, OnGet, Puts, Unlink}
 use Rattle.bench_script.specs.declared.command.DeviceId.{DeviceId}
 use Rattle.bench_script.specs.declared.command.DeviceId.TheVariants.{A, V}
-use Rattle.bench_script.specs.declared.message.Msg.{Msg}
-use Rattle.bench_script.specs.declared.message.Msg.TheVariants.{Hex, Gen}
+use Rattle.nfc_base.specs.declared.frame.Tech.{Tech}
+use Rattle.bench_script.specs.DeviceIds.{tech_for}
 use Rattle.bench_script.specs.declared.script.words.CommandName.{CommandName}
 use Rattle.bench_script.specs.declared.script.words.CommandName.TheVariants as names
-use Rattle.std.specs.Prelude.{Option, Some, None}
-use Rattle.std.proofs.lemmas.List.{length-append}
-use Rattle.bench_script.specs.Words.{CutsWord, SpellsNoHex, name_text}
-use Rattle.bench_script.specs.Script.{words_of, is_skipped, SpellsHex, SpellsIdent, SpellsIdV, SpellsId, SpellsWithin, SpellsSize, SpellsCode, SpellsBlock, fate_letter, SpellsFates, SpellsMsg, SpellsPayload, SpellEach, SpellPayloads, most_payloads, SpelledBy, Spells, least_blocks, most_blocks, least_blocks_f, most_blocks_f, least_blocks_v, most_blocks_v, least_lr, most_lr, least_miu, most_miu, least_rw, most_rw, least_limit, most_limit, least_busy, most_busy, least_times, most_times, least_acceptable, most_acceptable}
+use Rattle.bench_script.specs.Words.{SpellsNoHex, name_text}
+use Rattle.bench_script.specs.Script.{words_of, is_skipped, SpellsHex, SpellsIdent, SpellsIdV, SpellsId, SpellsWithin, SpellsSize, SpellsCode, SpellsBlock, fate_letter, SpellsFates, SpellsMsg, SpellsPayload, SpellEach, SpellsFrame, SpellsSlotPut, SpelledBy, Spells, least_blocks, most_blocks, least_blocks_f, most_blocks_f, least_blocks_v, most_blocks_v, least_lr, most_lr, least_miu, most_miu, least_rw, most_rw, least_limit, most_limit, least_busy, most_busy, least_times, most_times, least_acceptable, most_acceptable, least_named_slot, most_slot}
 use Rattle.nfca_poll.specs.Ident.{IsIdent}
 use Rattle.t5t_tag.specs.Store.{IsBlockSize}
 use Rattle.std.proofs.lemmas.Bool.{ne_eqb}
-use Rattle.bench_script.proofs.Words.{words_not_nil}
-use Rattle.bench_script.proofs.Messages.{counted_one, counted_differs}
+use Rattle.bench_script.proofs.Messages.{hex_one, message_one}
+use Rattle.bench_script.proofs.Rows.{each_one}
+use Rattle.bench_script.proofs.Frames.{frame_one}
+use Rattle.bench_script.proofs.SlotPuts.{slot_put_one}
 
 -- a word spells one identifier
 pub ident_one : (w i j : List ℕ) → SpellsIdent w i → SpellsIdent w j → i ≡ j
@@ -42,112 +41,8 @@ id_one w (A i) (V j) p q = absurd (one_kind w i j p q)
 id_one w (V i) (A j) p q = absurd (one_kind w j i q p)
 id_one w (V i) (V j) p q = ap V (decode_of-same w i j p.0 q.0)
 
--- `-` isn't an even number of digits
-pub dash_odd : (w b : List ℕ) → w ≡ codes "-" → decode_of w ≡ Ok b → ⊥
-dash_odd w b e d = let h : decode_of (codes "-") ≡ Ok b = (let P : List ℕ → Type 0 = λ t. decode_of t ≡ Ok b in subst P e d) in cc
-
--- a word spells one list of bytes
-pub hex_one : (w a b : List ℕ) → SpellsHex w a → SpellsHex w b → a ≡ b
-hex_one w a b (inl p) (inl q) = p.1 ∙ sym q.1
-hex_one w a b (inl p) (inr q) = absurd (dash_odd w b p.0 q.1)
-hex_one w a b (inr p) (inl q) = absurd (dash_odd w a q.0 p.1)
-hex_one w a b (inr p) (inr q) = decode_of-same w a b p.1 q.1
-
--- a word spells one message
-pub message_one : (word : List ℕ) (a b : Msg) → SpellsMsg word a → SpellsMsg word b → a ≡ b
-message_one word (Hex a) (Hex b) p q = ap (λ x. let m : Msg = Hex x in m) (hex_one word a b p q)
-message_one word (Hex a) (Gen n s) p q = absurd (counted_differs word a n s q p)
-message_one word (Gen n s) (Hex b) p q = absurd (counted_differs word b n s p q)
-message_one word (Gen m r) (Gen n s) p q =
-    let same = counted_one word m r n s p q in
-    let counts : m ≡ n = same.0 in
-    let starts : r ≡ s = same.1 in
-    cc
-
--- words spell one list of payloads
-pub each_one : (ws a b : List (List ℕ)) → SpellEach ws a → SpellEach ws b → a ≡ b
-each_one [] [] [] p q = refl
-each_one (w ∷ ws) (x ∷ a) (y ∷ b) p q =
-    let one : x ≡ y = decode_of-same w x y p.0.digits q.0.digits in
-    let more : a ≡ b = each_one ws a b p.1 q.1 in
-    cc
-each_one [] (x ∷ a) b p q = absurd p
-each_one [] [] (y ∷ b) p q = absurd q
-each_one (w ∷ ws) [] b p q = absurd p
-each_one (w ∷ ws) (x ∷ a) [] p q = absurd q
-
--- Words spell payloads, and so do others behind them: they all do, in a row.
-pub each_joined : (vs ws a b : List (List ℕ)) → SpellEach vs a → SpellEach ws b → SpellEach (vs ++ ws) (a ++ b)
-each_joined [] ws [] b p q = q
-each_joined (v ∷ vs) ws (x ∷ a) b p q = (p.0, each_joined vs ws a b p.1 q)
-each_joined [] ws (x ∷ a) b p q = absurd p
-each_joined (v ∷ vs) ws [] b p q = absurd p
-
--- What words in a row spell begins with what the first of them do, and the rest spell the rest.
-pub each_parted : (vs ws a b : List (List ℕ)) → SpellEach vs a → SpellEach (vs ++ ws) b → (c : List (List ℕ)) × (b ≡ a ++ c) × SpellEach ws c
-each_parted [] ws [] b p q = (b, refl, q)
-each_parted (v ∷ vs) ws (x ∷ a) (y ∷ b) p q =
-    let more = each_parted vs ws a b p.1 q.1 in
-    let one : y ≡ x = decode_of-same v y x q.0.digits p.0.digits in
-    let rest : b ≡ a ++ more.0 = more.1 in
-    (more.0, (let h : y ∷ b ≡ x ∷ (a ++ more.0) = cc in h), more.2)
-each_parted [] ws (x ∷ a) b p q = absurd p
-each_parted (v ∷ vs) ws [] b p q = absurd p
-each_parted (v ∷ vs) ws (x ∷ a) [] p q = absurd q
-
--- ... as many as they are
-pub each_many : (ws a : List (List ℕ)) → SpellEach ws a → length a ≡ length ws
-each_many [] [] p = refl
-each_many (w ∷ ws) (x ∷ a) p = ap suc (each_many ws a p.1)
-each_many [] (x ∷ a) p = absurd p
-each_many (w ∷ ws) [] p = absurd p
-
--- a text's first word, and what stands behind it
-first_word : (text word : List ℕ) (o : Option (List ℕ)) → CutsWord text word o → (ws : List (List ℕ)) × (words_of text ≡ word ∷ ws)
-first_word text word None e = ([], e)
-first_word text word (Some rest) e = (words_of rest, e)
-
-some_each : (word : List ℕ) (ws a : List (List ℕ)) → SpellEach (word ∷ ws) a → (x : List ℕ) × SpellsPayload word x
-some_each word ws [] p = absurd p
-some_each word ws (x ∷ a) p = (x, p.0)
-
--- Where one of a text's words is no payload, they spell none together.
-pub none_left : (text left word : List ℕ) (before payloads : List (List ℕ)) (o : Option (List ℕ)) → words_of text ≡ before ++ words_of left → SpellEach before payloads
-    → CutsWord left word o → ((x : List ℕ) → SpellsPayload word x → ⊥) → (a : List (List ℕ)) → SpellPayloads (words_of text) a → ⊥
-none_left text left word before payloads o split each cut none a s =
-    let first = first_word left word o cut in
-    let P : List (List ℕ) → Type 0 = λ ws. SpellEach ws a in
-    let parted = each_parted before (word ∷ first.0) payloads a each (subst P (split ∙ ap (λ ws. before ++ ws) first.1) s.each) in
-    let one = some_each word first.0 parted.0 parted.2 in
-    none one.0 one.1
-
--- The words that were read spell the payloads, and one more, which ends the text, one more.
-pub last_spelled : (text left word : List ℕ) (before payloads : List (List ℕ)) (p : List ℕ) → words_of text ≡ before ++ words_of left → SpellEach before payloads
-    → words_of left ≡ word ∷ [] → SpellsPayload word p → length payloads < most_payloads → SpellPayloads (words_of text) (payloads ++ p ∷ [])
-last_spelled text left word before payloads p split each ends s few =
-    let all : words_of text ≡ before ++ word ∷ [] = split ∙ ap (λ ws. before ++ ws) ends in
-    let size : length (payloads ++ p ∷ []) ≡ length payloads + 1 = length-append payloads (p ∷ []) in
-    let below : length payloads < 16 = few in
-    record {
-      each = subst (λ ws. SpellEach ws (payloads ++ p ∷ [])) (sym all) (each_joined before (word ∷ []) payloads (p ∷ []) each (s, tt));
-      some = omega (arith, size);
-      few = omega (arith, size, below);
-    }
-
--- Nor do they where a word is left behind sixteen, and one is left in any text.
-some_words : (ws : List (List ℕ)) → ws ≢ [] → 0 < length ws
-some_words [] some = absurd (some refl)
-some_words (w ∷ ws) some = omega arith
-
-pub too_many : (text left : List ℕ) (before payloads : List (List ℕ)) → words_of text ≡ before ++ words_of left → SpellEach before payloads
-    → length payloads ≡ most_payloads → (a : List (List ℕ)) → SpellPayloads (words_of text) a → ⊥
-too_many text left before payloads split each full a s =
-    let many : length a ≡ length (words_of text) = each_many (words_of text) a s.each in
-    let all : length (words_of text) ≡ length before + length (words_of left) = ap length split ∙ length-append before (words_of left) in
-    let some : 0 < length (words_of left) = some_words (words_of left) (words_not_nil left) in
-    let few : length a ≤ 16 = s.few in
-    let sixteen : length payloads ≡ 16 = full in
-    omega (arith, many, all, some, each_many before payloads each, sixteen, few)
+payload_one : (word a b : List ℕ) → SpellsPayload word a → SpellsPayload word b → a ≡ b
+payload_one word a b p q = decode_of-same word a b p.digits q.digits
 
 -- a word spells one number within limits
 pub within_one : (least most : ℕ) → most ≤ 65536 → (w : List ℕ) (m n : ℕ) → SpellsWithin least most w m → SpellsWithin least most w n → m ≡ n
@@ -210,9 +105,11 @@ abbrev total : List ℕ → ℕ
 total [] = 0
 total (b ∷ bs) = b + (total bs + total bs)
 
--- a number of the words by which a command is told from others: that of its first, and of `place` that of its second
+-- a number of the words by which a command is told from others: that of its first, of `place` that of its second, and
+-- of `on` that of its third
 abbrev key_by : List (List ℕ) → ℕ
-key_by ws = if total (word 0 ws) == 3124 then 10000 + total (word 1 ws) else total (word 0 ws)
+key_by ws =
+    if total (word 0 ws) == 3124 then 10000 + total (word 1 ws) else (if total (word 0 ws) == 331 then 20000 + total (word 2 ws) else total (word 0 ws))
 
 abbrev key_of : Command → ℕ
 key_of Skip = 0
@@ -237,9 +134,13 @@ key_of (Write a b) = 3311
 key_of (Write3 a b) = 4943
 key_of (Link a b c) = 1614
 key_of (Forge a b) = 3220
+key_of (Raw a b) = 784
 key_of (Put a) = 810
 key_of (Get a b) = 769
 key_of (Lookup a) = 7086
+key_of (OnPut a b) = 20810
+key_of (OnGet a b c) = 20769
+key_of (Puts a) = 1730
 key_of Unlink = 6793
 
 key_at : (ws : List (List ℕ)) (c : Command) → SpelledBy ws c → key_by ws ≡ key_of c
@@ -265,9 +166,13 @@ key_at ws (Write a b) (w, x, is, p, q) = ap key_by is
 key_at ws (Write3 a b) (w, x, is, p, q) = ap key_by is
 key_at ws (Link a b c) (w, x, y, is, p, q, r) = ap key_by is
 key_at ws (Forge a b) (w, hs, is, p, q) = ap key_by is
+key_at ws (Raw a b) (w, fs, is, p, q) = ap key_by is
 key_at ws (Put a) (w, is, p) = ap key_by is
 key_at ws (Get a b) (w, x, is, p, q) = ap key_by is
 key_at ws (Lookup a) (w, is, p) = ap key_by is
+key_at ws (OnPut a b) (w, x, is, p, q) = ap key_by is
+key_at ws (OnGet a b c) (w, x, y, is, p, q, r) = ap key_by is
+key_at ws (Puts a) (ps, is, p) = ap key_by is
 key_at ws Unlink e = ap key_by e
 
 -- where the first words are alike, so are the values
@@ -339,7 +244,16 @@ spelled_alike ws (Forge i a) (Forge j b) key (u, hs, e, p, q) (v, ks, f, p', q')
     let first : u ≡ v = ap (word 1) (sym e ∙ f) in
     let more : hs ≡ ks = ap (drop 2) (sym e ∙ f) in
     let ids : i ≡ j = ident_one v i j (let P : List ℕ → Type 0 = λ t. SpellsIdent t i in subst P first p) p' in
-    let payloads : a ≡ b = each_one ks a b (let P : List (List ℕ) → Type 0 = λ t. SpellEach t a in subst P more q.each) q'.each in
+    let payloads : a ≡ b = each_one SpellsPayload payload_one ks a b (let P : List (List ℕ) → Type 0 = λ t. SpellEach SpellsPayload t a in subst P more q.each) q'.each in
+    cc
+spelled_alike ws (Raw i a) (Raw j b) key (u, hs, e, p, q) (v, ks, f, p', q') =
+    let first : u ≡ v = ap (word 1) (sym e ∙ f) in
+    let more : hs ≡ ks = ap (drop 2) (sym e ∙ f) in
+    let ids : i ≡ j = id_one v i j (let P : List ℕ → Type 0 = λ t. SpellsId t i in subst P first p) p' in
+    let tech : Tech = tech_for j in
+    let moved : SpellEach (SpellsFrame (tech_for i)) ks a = (let P : List (List ℕ) → Type 0 = λ t. SpellEach (SpellsFrame (tech_for i)) t a in subst P more q.each) in
+    let there : SpellEach (SpellsFrame tech) ks a = (let P : DeviceId → Type 0 = λ x. SpellEach (SpellsFrame (tech_for x)) ks a in subst P ids moved) in
+    let frames : a ≡ b = each_one (SpellsFrame tech) (frame_one tech) ks a b there q'.each in
     cc
 spelled_alike ws (Put a) (Put b) key (v, e, p) (w, f, q) =
     let same : v ≡ w = ap (word 1) (sym e ∙ f) in
@@ -353,6 +267,24 @@ spelled_alike ws (Get m g) (Get n h) key (u, v, e, p, r) (u', v', e', p', r') =
 spelled_alike ws (Lookup a) (Lookup b) key (v, e, p) (w, f, q) =
     let same : v ≡ w = ap (word 1) (sym e ∙ f) in
     ap (λ x. let c : Command = Lookup x in c) (sym p.is ∙ same ∙ q.is)
+spelled_alike ws (OnPut m a) (OnPut n b) key (u, v, e, p, r) (u', v', e', p', r') =
+    let first : u ≡ u' = ap (word 1) (sym e ∙ e') in
+    let second : v ≡ v' = ap (word 3) (sym e ∙ e') in
+    let slots : m ≡ n = within_one least_named_slot most_slot (omega arith) u' m n (let P : List ℕ → Type 0 = λ t. SpellsWithin least_named_slot most_slot t m in subst P first p) p' in
+    let messages : a ≡ b = message_one v' a b (let P : List ℕ → Type 0 = λ t. SpellsMsg t a in subst P second r) r' in
+    cc
+spelled_alike ws (OnGet m k g) (OnGet n l h) key (u, v, w, e, p, r, s) (u', v', w', e', p', r', s') =
+    let first : u ≡ u' = ap (word 1) (sym e ∙ e') in
+    let second : v ≡ v' = ap (word 3) (sym e ∙ e') in
+    let third : w ≡ w' = ap (word 4) (sym e ∙ e') in
+    let slots : m ≡ n = within_one least_named_slot most_slot (omega arith) u' m n (let P : List ℕ → Type 0 = λ t. SpellsWithin least_named_slot most_slot t m in subst P first p) p' in
+    let sizes : k ≡ l = within_one least_acceptable most_acceptable (omega arith) v' k l (let P : List ℕ → Type 0 = λ t. SpellsWithin least_acceptable most_acceptable t k in subst P second r) r' in
+    let keys : g ≡ h = hex_one w' g h (let P : List ℕ → Type 0 = λ t. SpellsHex t g in subst P third s) s' in
+    cc
+spelled_alike ws (Puts a) (Puts b) key (hs, e, p) (ks, f, q) =
+    let more : hs ≡ ks = ap (drop 1) (sym e ∙ f) in
+    let puts : a ≡ b = each_one SpellsSlotPut slot_put_one ks a b (let P : List (List ℕ) → Type 0 = λ t. SpellEach SpellsSlotPut t a in subst P more p.row.each) q.row.each in
+    cc
 spelled_alike ws Unlink Unlink key p q = refl
 spelled_alike ws (PlaceT2 i m g) (PlaceT2 j n h) key (u, v, w, e, p, r, s) (u', v', w', e', p', r', s') =
     let first : u ≡ u' = ap (word 2) (sym e ∙ e') in
@@ -434,9 +366,13 @@ nameless w ws none some (Read id) (i, e, p) = none names.Read (let h : w ≡ cod
 nameless w ws none some (Write id message) (i, m, e, p, q) = none names.Write (let h : w ≡ codes "write" = cc in h)
 nameless w ws none some (Link id miu rw) (i, m, v, e, p, q, r) = none names.Link (let h : w ≡ codes "link" = cc in h)
 nameless w ws none some (Forge id payloads) (i, hs, e, p, q) = none names.Forge (let h : w ≡ codes "forge" = cc in h)
+nameless w ws none some (Raw id frames) (i, fs, e, p, q) = none names.Raw (let h : w ≡ codes "raw" = cc in h)
 nameless w ws none some (Put message) (m, e, p) = none names.Put (let h : w ≡ codes "put" = cc in h)
 nameless w ws none some (Get acceptable key) (n, k, e, p, q) = none names.Get (let h : w ≡ codes "get" = cc in h)
 nameless w ws none some (Lookup name) (n, e, p) = none names.Lookup (let h : w ≡ codes "lookup" = cc in h)
+nameless w ws none some (OnPut slot message) (k, m, e, p, q) = none names.On (let h : w ≡ codes "on" = cc in h)
+nameless w ws none some (OnGet slot acceptable key) (k, n, h, e, p, q, r) = none names.On (let h : w ≡ codes "on" = cc in h)
+nameless w ws none some (Puts puts) (ps, e, p) = none names.Puts (let h : w ≡ codes "puts" = cc in h)
 nameless w ws none some Unlink e = some (let h : ws ≡ [] = cc in h)
 
 -- three words of which the last is no HEX place no tag
@@ -508,6 +444,14 @@ asked_key_refused ws n k e none (Get acceptable key) (n', k', e', p, q) =
 asked_key_refused ws n k e none Skip p = p
 asked_key_refused ws n k e none c p = omega (arith, key_at (codes "get" ∷ ws) c p)
 
+pub on_key_refused : (ws : List (List ℕ)) (i n k : List ℕ) → ws ≡ n ∷ k ∷ [] → SpellsNoHex k
+    → (c : Command) → SpelledBy (codes "on" ∷ i ∷ codes "get" ∷ ws) c → ⊥
+on_key_refused ws i n k e none (OnGet slot acceptable key) (i', n', k', e', p, q, r) =
+    let same : k' ≡ k = cc in
+    none.none key (let P : List ℕ → Type 0 = λ t. SpellsHex t key in subst P same r)
+on_key_refused ws i n k e none Skip p = p
+on_key_refused ws i n k e none c p = omega (arith, key_at (codes "on" ∷ i ∷ codes "get" ∷ ws) c p)
+
 -- a line that is skipped spells nothing else
 onto_begins : (b : ℕ) (ws : List (List ℕ)) → first_byte (onto_first b ws) ≡ b
 unfolding first_byte
@@ -538,9 +482,13 @@ hash_begins_none ws (Read id) (i, e, p) h = omega (arith, h, ap first_byte e)
 hash_begins_none ws (Write id message) (i, m, e, p, q) h = omega (arith, h, ap first_byte e)
 hash_begins_none ws (Link id miu rw) (i, m, w, e, p, q, r) h = omega (arith, h, ap first_byte e)
 hash_begins_none ws (Forge id payloads) (i, hs, e, p, q) h = omega (arith, h, ap first_byte e)
+hash_begins_none ws (Raw id frames) (i, fs, e, p, q) h = omega (arith, h, ap first_byte e)
 hash_begins_none ws (Put message) (m, e, p) h = omega (arith, h, ap first_byte e)
 hash_begins_none ws (Get acceptable key) (n, k, e, p, q) h = omega (arith, h, ap first_byte e)
 hash_begins_none ws (Lookup name) (n, e, p) h = omega (arith, h, ap first_byte e)
+hash_begins_none ws (OnPut slot message) (k, m, e, p, q) h = omega (arith, h, ap first_byte e)
+hash_begins_none ws (OnGet slot acceptable key) (k, n, g, e, p, q, r) h = omega (arith, h, ap first_byte e)
+hash_begins_none ws (Puts puts) (ps, e, p) h = omega (arith, h, ap first_byte e)
 hash_begins_none ws Unlink e h = omega (arith, h, ap first_byte e)
 
 words_begin : (b : ℕ) (bs : List ℕ) → b ≡ 35 → first_byte (words_of (b ∷ bs)) ≡ 35

@@ -1,17 +1,19 @@
 -- The canonical spelling of a command: of those that spell it, the one with upper-case digits, and the empty line of those
 -- that ask for nothing.
 use Rattle.std.specs.Prelude.{◌≡◌, ◌≢◌, ◌++◌, ℕ, List, [], ◌∷◌, map, codes, length, ◌==◌, if◌then◌else◌}
-use Rattle.std.specs.List.{All, join_with_byte}
+use Rattle.std.specs.List.{All, flat_map, join_with_byte}
 use Rattle.std.specs.Fmt.{decimal}
 use Rattle.hex.specs.Hex.{encode_upper}
+use Rattle.nfc_base.specs.Signal.{Signal}
 use Rattle.nfc_base.specs.declared.event.Fate.{Fate}
 use Rattle.bench_script.specs.declared.command.Command.{Command}
-use Rattle.bench_script.specs.declared.command.Command.TheVariants.{Skip, Fates, PlaceT2, PlaceT3, PlaceT4, PlaceT5, PlacePeer, Lock, Busy, Offer, Remove, Dump, Inbox, Find, Crowd, Poll3, Read, Read3, Write, Write3, Link, Forge, Put, Get, Lookup, Unlink}
+use Rattle.bench_script.specs.declared.command.Command.TheVariants.{Skip, Fates, PlaceT2, PlaceT3, PlaceT4, PlaceT5, PlacePeer, Lock, Busy, Offer, Remove, Dump, Inbox, Find, Crowd, Poll3, Read, Read3, Write, Write3, Link, Forge, Raw, Put, Get, Lookup, OnPut, OnGet, Puts, Unlink}
 use Rattle.bench_script.specs.declared.command.DeviceId.{DeviceId}
+use Rattle.bench_script.specs.declared.command.SlotPut.{SlotPut}
 use Rattle.bench_script.specs.declared.message.Msg.{Msg}
 use Rattle.bench_script.specs.declared.message.Msg.TheVariants.{Hex, Gen}
 use Rattle.bench_script.specs.DeviceIds.{bytes_of}
-use Rattle.bench_script.specs.Script.{fate_letter, Spells}
+use Rattle.bench_script.specs.Script.{fate_letter, tail_text, Spells}
 
 -- HEX: upper-case digits, two a byte; `-` for no bytes
 abbrev pub hex_text : List ℕ → List ℕ
@@ -30,10 +32,17 @@ abbrev pub message_text : Msg → List ℕ
 message_text (Hex bytes) = hex_text bytes
 message_text (Gen count start) = codes "gen:" ++ decimal count ++ 58 ∷ decimal start
 
--- payloads, each behind a space
-abbrev pub payloads_text : List (List ℕ) → List ℕ
-payloads_text [] = []
-payloads_text (p ∷ ps) = 32 ∷ encode_upper p ++ payloads_text ps
+-- FRAME
+abbrev pub frame_text : Signal → List ℕ
+frame_text f = hex_text f.bytes ++ tail_text f.tail
+
+-- K:MSG
+abbrev pub slot_put_text : SlotPut → List ℕ
+slot_put_text p = decimal p.slot ++ 58 ∷ message_text p.message
+
+-- words, each behind a space
+abbrev pub row_text : List (List ℕ) → List ℕ
+row_text words = flat_map (λ w. 32 ∷ w) words
 
 -- `place`, a kind, an ID and a number
 abbrev pub place_text : List ℕ → List ℕ → ℕ → List ℕ
@@ -66,9 +75,13 @@ canonical_words (Write id message) = codes "write" ∷ id_text id ∷ message_te
 canonical_words (Write3 id message) = codes "write3" ∷ encode_upper id ∷ message_text message ∷ []
 canonical_words (Link id miu rw) = codes "link" ∷ encode_upper id ∷ decimal miu ∷ decimal rw ∷ []
 canonical_words (Forge id payloads) = codes "forge" ∷ encode_upper id ∷ map encode_upper payloads
+canonical_words (Raw id frames) = codes "raw" ∷ id_text id ∷ map frame_text frames
 canonical_words (Put message) = codes "put" ∷ message_text message ∷ []
 canonical_words (Get acceptable key) = codes "get" ∷ decimal acceptable ∷ hex_text key ∷ []
 canonical_words (Lookup name) = codes "lookup" ∷ name ∷ []
+canonical_words (OnPut slot message) = codes "on" ∷ decimal slot ∷ codes "put" ∷ message_text message ∷ []
+canonical_words (OnGet slot acceptable key) = codes "on" ∷ decimal slot ∷ codes "get" ∷ decimal acceptable ∷ hex_text key ∷ []
+canonical_words (Puts puts) = codes "puts" ∷ map slot_put_text puts
 canonical_words Unlink = codes "unlink" ∷ []
 
 -- the words, parted by one space each

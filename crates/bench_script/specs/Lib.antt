@@ -3,4 +3,5 @@ pub mod Canonical
 pub mod Limits
 pub mod Messages
 pub mod Script
+pub mod Slots
 pub mod Words

@@ -5,14 +5,19 @@ use Rattle.std.specs.List.{onto_first, list_all}
 use Rattle.std.specs.Fmt.{decimal}
 use Rattle.hex.specs.Hex.{decode_of}
 use Rattle.t4t_tag.specs.Store.{most_code}
+use Rattle.nfc_base.specs.Signal.{Signal, IsSignal}
+use Rattle.nfc_base.specs.declared.frame.Tech.{Tech}
 use Rattle.nfc_base.specs.declared.event.Fate.{Fate}
 use Rattle.nfc_base.specs.declared.event.Fate.TheVariants.{Pass, Damage, Lose, Break}
 use Rattle.nfca_poll.specs.Ident.{IsIdent}
 use Rattle.t5t_tag.specs.Store.{IsBlockSize}
 use Rattle.bench_script.specs.declared.command.Command.{Command}
-use Rattle.bench_script.specs.declared.command.Command.TheVariants.{Skip, Fates, PlaceT2, PlaceT3, PlaceT4, PlaceT5, PlacePeer, Lock, Busy, Offer, Remove, Dump, Inbox, Find, Crowd, Poll3, Read, Read3, Write, Write3, Link, Forge, Put, Get, Lookup, Unlink}
+use Rattle.bench_script.specs.declared.command.Command.TheVariants.{Skip, Fates, PlaceT2, PlaceT3, PlaceT4, PlaceT5, PlacePeer, Lock, Busy, Offer, Remove, Dump, Inbox, Find, Crowd, Poll3, Read, Read3, Write, Write3, Link, Forge, Raw, Put, Get, Lookup, OnPut, OnGet, Puts, Unlink}
 use Rattle.bench_script.specs.declared.command.DeviceId.{DeviceId}
 use Rattle.bench_script.specs.declared.command.DeviceId.TheVariants.{A, V}
+use Rattle.bench_script.specs.declared.command.SlotPut.{SlotPut}
+use Rattle.bench_script.specs.DeviceIds.{tech_for}
+use Rattle.bench_script.specs.Slots.{have_own_slots}
 use Rattle.bench_script.specs.declared.message.Msg.{Msg}
 use Rattle.bench_script.specs.declared.message.Msg.TheVariants.{Hex, Gen}
 use Rattle.bench_script.specs.declared.script.LineFault.{LineFault}
@@ -166,18 +171,73 @@ pub record SpellsPayload (word bytes : List ℕ) : Type 0 where
   pub some : 0 < length bytes
   pub few : length bytes ≤ longest_payload
 
--- payloads, a word each, in their order
-abbrev pub SpellEach : List (List ℕ) → List (List ℕ) → Type 0
-SpellEach [] [] = Unit {0}
-SpellEach [] (p ∷ ps) = ⊥
-SpellEach (w ∷ ws) [] = ⊥
-SpellEach (w ∷ ws) (p ∷ ps) = SpellsPayload w p × SpellEach ws ps
+-- values, a word each, in their order
+abbrev pub SpellEach : {T : Type 0} → (List ℕ → T → Type 0) → List (List ℕ) → List T → Type 0
+SpellEach S [] [] = Unit {0}
+SpellEach S [] (p ∷ ps) = ⊥
+SpellEach S (w ∷ ws) [] = ⊥
+SpellEach S (w ∷ ws) (p ∷ ps) = S w p × SpellEach S ws ps
 
--- at least one payload
-pub record SpellPayloads (words payloads : List (List ℕ)) : Type 0 where
-  pub each : SpellEach words payloads
-  pub some : 0 < length payloads
-  pub few : length payloads ≤ most_payloads
+-- so many of them, from the first of these limits to the second
+pub record SpellRow {T : Type 0} (S : List ℕ → T → Type 0) (least most : ℕ) (words : List (List ℕ)) (values : List T) : Type 0 where
+  pub each : SpellEach S words values
+  pub some : least ≤ length values
+  pub few : length values ≤ most
+
+-- the payloads of a line, at least one
+abbrev pub SpellPayloads : List (List ℕ) → List (List ℕ) → Type 0
+SpellPayloads words payloads = SpellRow SpellsPayload 1 most_payloads words payloads
+
+-- how many of the last byte's bits a frame sends, the low ones, where it doesn't send all
+abbrev pub tail_text : ℕ → List ℕ
+tail_text tail = if tail == 0 then [] else codes "/" ++ decimal tail
+
+-- FRAME, of a technology: HEX, and behind it how many bits of the last byte are sent. It is at most 288 bytes long, and
+-- the bits that aren't sent are 0.
+pub record SpellsFrame (tech : Tech) (word : List ℕ) (frame : Signal) : Type 0 where
+  pub hex : List ℕ
+  pub bytes : SpellsHex hex frame.bytes
+  pub is : word ≡ hex ++ tail_text frame.tail
+  pub fits : IsSignal frame
+  pub technology : frame.tech ≡ tech
+
+-- how many frames a line may have
+abbrev pub most_frames : ℕ
+most_frames = 16
+
+-- the frames of a line, at least one
+abbrev pub SpellFrames : Tech → List (List ℕ) → List Signal → Type 0
+SpellFrames tech words frames = SpellRow (SpellsFrame tech) 1 most_frames words frames
+
+-- K: the slot of one of a reader's clients. That of `put`, `get` and `lookup` is slot 0, which `on` doesn't name.
+abbrev pub least_slot : ℕ
+least_slot = 0
+
+abbrev pub least_named_slot : ℕ
+least_named_slot = 1
+
+abbrev pub most_slot : ℕ
+most_slot = 7
+
+-- K:MSG, what a client puts. The first colon parts the two.
+pub record SpellsSlotPut (word : List ℕ) (put : SlotPut) : Type 0 where
+  pub slot : List ℕ
+  pub message : List ℕ
+  pub is : word ≡ slot ++ 58 ∷ message
+  pub number : SpellsWithin least_slot most_slot slot put.slot
+  pub text : SpellsMsg message put.message
+
+-- how many puts a line has at least, and at most
+abbrev pub least_puts : ℕ
+least_puts = 2
+
+abbrev pub most_puts : ℕ
+most_puts = 8
+
+-- the puts of a line, of which no two are of one client
+pub record SpellPuts (words : List (List ℕ)) (puts : List SlotPut) : Type 0 where
+  pub row : SpellRow SpellsSlotPut least_puts most_puts words puts
+  pub own : have_own_slots puts ≡ true
 
 -- the letter of a fate, in upper case alone: P, D, L or B
 abbrev pub fate_letter : Fate → ℕ
@@ -203,8 +263,8 @@ is_skipped (b ∷ bs) = b == 35
 
 -- `fates FATES`, `place t2 ID BLOCKS HEX`, `place t3 ID BLOCKS HEX`, `place t4 ID CODE HEX HEX`, `place t5 ID BLOCKS SIZE HEX`,
 -- `place peer ID LR MIU RW LIMIT`, `lock ID BLOCK`, `busy ID COUNT TIMES`, `offer ID HEX HEX`, `remove ID`, `dump ID`, `inbox ID`,
--- `find`, `crowd`, `poll3`, `read ID`, `read3 ID`, `write ID MSG`, `write3 ID MSG`, `link ID MIU RW`, `forge ID HEX ..`, `put MSG`,
--- `get N HEX`, `lookup NAME` and `unlink`
+-- `find`, `crowd`, `poll3`, `read ID`, `read3 ID`, `write ID MSG`, `write3 ID MSG`, `link ID MIU RW`, `forge ID HEX ..`,
+-- `raw ID FRAME ..`, `put MSG`, `get N HEX`, `lookup NAME`, `on K put MSG`, `on K get N HEX`, `puts K:MSG ..` and `unlink`
 abbrev pub SpelledBy : List (List ℕ) → Command → Type 0
 SpelledBy ws Skip = ⊥
 SpelledBy ws (Fates fates) = (f : List ℕ) × (ws ≡ codes "fates" ∷ f ∷ []) × SpellsFates f fates
@@ -247,11 +307,21 @@ SpelledBy ws (Link id miu rw) =
     × SpellsIdent i id × SpellsWithin least_miu most_miu m miu × SpellsWithin least_rw most_rw w rw
 SpelledBy ws (Forge id payloads) =
     (i : List ℕ) × (hs : List (List ℕ)) × (ws ≡ codes "forge" ∷ i ∷ hs) × SpellsIdent i id × SpellPayloads hs payloads
+SpelledBy ws (Raw id frames) =
+    (i : List ℕ) × (fs : List (List ℕ)) × (ws ≡ codes "raw" ∷ i ∷ fs) × SpellsId i id × SpellFrames (tech_for id) fs frames
 SpelledBy ws (Put message) = (m : List ℕ) × (ws ≡ codes "put" ∷ m ∷ []) × SpellsMsg m message
 SpelledBy ws (Get acceptable key) =
     (n k : List ℕ) × (ws ≡ codes "get" ∷ n ∷ k ∷ [])
     × SpellsWithin least_acceptable most_acceptable n acceptable × SpellsHex k key
 SpelledBy ws (Lookup name) = (n : List ℕ) × (ws ≡ codes "lookup" ∷ n ∷ []) × SpellsName n name
+SpelledBy ws (OnPut slot message) =
+    (k m : List ℕ) × (ws ≡ codes "on" ∷ k ∷ codes "put" ∷ m ∷ [])
+    × SpellsWithin least_named_slot most_slot k slot × SpellsMsg m message
+SpelledBy ws (OnGet slot acceptable key) =
+    (k n h : List ℕ) × (ws ≡ codes "on" ∷ k ∷ codes "get" ∷ n ∷ h ∷ [])
+    × SpellsWithin least_named_slot most_slot k slot
+    × SpellsWithin least_acceptable most_acceptable n acceptable × SpellsHex h key
+SpelledBy ws (Puts puts) = (ps : List (List ℕ)) × (ws ≡ codes "puts" ∷ ps) × SpellPuts ps puts
 SpelledBy ws Unlink = ws ≡ codes "unlink" ∷ []
 
 -- the line spells the command

@@ -1,11 +1,11 @@
 -- Words cut off the front of a text.
-use Rattle.std.specs.Prelude.{◌≡◌, ◌≢◌, ◌++◌, ℕ, List, [], ◌∷◌, codes, Option, Some, None}
+use Rattle.std.specs.Prelude.{◌≡◌, ◌≢◌, ◌<◌, ◌++◌, ℕ, List, [], ◌∷◌, codes, Option, Some, None}
 use Rattle.bench_script.specs.declared.script.words.CommandName.{CommandName}
 use Rattle.bench_script.specs.declared.script.words.CommandName.TheVariants as names
 use Rattle.std.specs.Borrow.{Bor}
 use Rattle.bench_script.specs.declared.command.Command.{Command}
 use Rattle.std.specs.List.{All}
-use Rattle.bench_script.specs.Script.{words_of, SpelledBy, SpellsCounted, SpellsHex}
+use Rattle.bench_script.specs.Script.{words_of, tail_text, SpelledBy, SpellsCounted, SpellsHex}
 
 -- the first word, and the text behind its space, where there is one
 abbrev pub CutsWord : List ℕ → List ℕ → Option (List ℕ) → Type 0
@@ -82,6 +82,15 @@ name_text names.Write = codes "write"
 name_text names.Write3 = codes "write3"
 name_text names.Link = codes "link"
 name_text names.Forge = codes "forge"
+name_text names.Raw = codes "raw"
 name_text names.Put = codes "put"
 name_text names.Get = codes "get"
 name_text names.Lookup = codes "lookup"
+name_text names.On = codes "on"
+name_text names.Puts = codes "puts"
+
+-- a frame's word is cut into its digits and how many bits of the last byte are sent, 0 where it doesn't say
+pub record CutsTail (word digits : List ℕ) (tail : ℕ) : Type 0 where
+  pub is : word ≡ digits ++ tail_text tail
+  pub small : tail < 8
+  pub alone : (front : List ℕ) (other : ℕ) → 0 < other → other < 8 → word ≡ front ++ tail_text other → other ≡ tail

@@ -1,10 +1,11 @@
 //! What a line of a script asks for.
 
 ghost use Rattle.std.specs.Prelude.{◌≡◌, IfOk};
-ghost use Rattle.bench_script.specs.DeviceIds.{bytes_of};
+ghost use Rattle.bench_script.specs.DeviceIds.{bytes_of, tech_for};
+ghost use Rattle.bench_script.specs.Slots.{has_slot, have_own_slots as all_own};
 
 use crate::message::Msg;
-use nfc_base::{Fate, Items};
+use nfc_base::{Fate, Frame, Items, Tech};
 use nfca_poll::Ident;
 use std::alloc::{AllocError, Global};
 
@@ -35,6 +36,55 @@ impl DeviceId {
             DeviceId::V(id) => DeviceId::V(*id),
         }
     }
+
+    /// The technology of frames that a script sends to it.
+    pub fn tech(&self) -> Tech
+        ensures { result ≡ tech_for self.now }
+    {
+        match self {
+            DeviceId::A(_) => Tech::A,
+            DeviceId::V(_) => Tech::V,
+        }
+    }
+}
+
+/// What one of a reader's clients puts, by the number of its slot.
+#[derive(Debug, Drop, PartialEq)]
+pub struct SlotPut {
+    pub slot: u8,
+    pub message: Msg,
+}
+
+impl SlotPut {
+    /// The same put again.
+    pub fn copy(&self, alloc: Global) -> Result<SlotPut, AllocError>
+        ensures { IfOk result (λ p. p ≡ self.now) }
+    {
+        let message = self.message.copy(alloc)?;
+        Ok(SlotPut {
+            slot: self.slot,
+            message,
+        })
+    }
+}
+
+/// Whether no two puts are of one client.
+pub fn have_own_slots(puts: &[SlotPut]) -> bool
+    ensures { result ≡ all_own puts.now }
+{
+    for (i, put) in puts.iter().enumerate() {
+        if has_slot(&puts[i + 1..], put.slot) {
+            return false;
+        }
+    }
+    true
+}
+
+/// Whether one of the puts is of this client.
+fn has_slot(puts: &[SlotPut], slot: u8) -> bool
+    ensures { result ≡ has_slot slot puts.now }
+{
+    puts.iter().any(|put| put.slot == slot)
 }
 
 /// A command of a script (this project's own), with the values of its line's words in their order.
@@ -144,6 +194,11 @@ pub enum Command {
         id: Ident,
         payloads: Items<Items<u8>>,
     },
+    /// Selects a tag or activates a peer, and sends these frames as they are.
+    Raw {
+        id: DeviceId,
+        frames: Items<Frame>,
+    },
     /// Puts a message to the server of the link's peer.
     Put {
         message: Msg,
@@ -157,6 +212,19 @@ pub enum Command {
     Lookup {
         name: Items<u8>,
     },
+    /// A put by another client of the reader than that of the lines before.
+    OnPut {
+        slot: u8,
+        message: Msg,
+    },
+    /// A get by such a client.
+    OnGet {
+        slot: u8,
+        acceptable: u32,
+        key: Items<u8>,
+    },
+    /// Puts by several clients, of which each goes on while it waits for no answer.
+    Puts(Items<SlotPut>),
     /// Closes the link.
     Unlink,
 }
@@ -224,9 +292,17 @@ impl Command {
                 rw: *rw,
             }),
             Command::Forge { id, payloads } => copy_forge(alloc, id, payloads.as_slice()),
+            Command::Raw { id, frames } => copy_raw(alloc, id, frames.as_slice()),
             Command::Put { message } => copy_put(alloc, message),
             Command::Get { acceptable, key } => copy_get(alloc, *acceptable, key.as_slice()),
             Command::Lookup { name } => copy_lookup(alloc, name.as_slice()),
+            Command::OnPut { slot, message } => copy_on_put(alloc, *slot, message),
+            Command::OnGet {
+                slot,
+                acceptable,
+                key,
+            } => copy_on_get(alloc, *slot, *acceptable, key.as_slice()),
+            Command::Puts(puts) => copy_puts(alloc, puts.as_slice()),
             Command::Unlink => Ok(Command::Unlink),
         }
     }
@@ -338,6 +414,25 @@ fn copy_payloads(alloc: Global, payloads: &[Items<u8>]) -> Result<Items<Items<u8
     Ok(Items::new(copies))
 }
 
+fn copy_raw(alloc: Global, id: &DeviceId, frames: &[Frame]) -> Result<Command, AllocError>
+    ensures { IfOk result (λ c. c ≡ Command.Raw id.now frames.now) }
+{
+    let frames = copy_frames(alloc, frames)?;
+    let id = id.copy();
+    Ok(Command::Raw { id, frames })
+}
+
+/// These frames again.
+fn copy_frames(alloc: Global, frames: &[Frame]) -> Result<Items<Frame>, AllocError>
+    ensures { IfOk result (λ a. a ≡ frames.now) }
+{
+    let mut copies = Vec::with_capacity(alloc, frames.len())?;
+    for frame in frames {
+        copies.push(frame.copy())?;
+    }
+    Ok(Items::new(copies))
+}
+
 fn copy_put(alloc: Global, message: &Msg) -> Result<Command, AllocError>
     ensures { IfOk result (λ c. c ≡ Command.Put message.now) }
 {
@@ -357,4 +452,32 @@ fn copy_lookup(alloc: Global, name: &[u8]) -> Result<Command, AllocError>
 {
     let name = Items::from_bytes(alloc, name)?;
     Ok(Command::Lookup { name })
+}
+
+fn copy_on_put(alloc: Global, slot: u8, message: &Msg) -> Result<Command, AllocError>
+    ensures { IfOk result (λ c. c ≡ Command.OnPut slot message.now) }
+{
+    let message = message.copy(alloc)?;
+    Ok(Command::OnPut { slot, message })
+}
+
+fn copy_on_get(alloc: Global, slot: u8, acceptable: u32, key: &[u8]) -> Result<Command, AllocError>
+    ensures { IfOk result (λ c. c ≡ Command.OnGet slot acceptable key.now) }
+{
+    let key = Items::from_bytes(alloc, key)?;
+    Ok(Command::OnGet {
+        slot,
+        acceptable,
+        key,
+    })
+}
+
+fn copy_puts(alloc: Global, puts: &[SlotPut]) -> Result<Command, AllocError>
+    ensures { IfOk result (λ c. c ≡ Command.Puts puts.now) }
+{
+    let mut copies = Vec::with_capacity(alloc, puts.len())?;
+    for put in puts {
+        copies.push(put.copy(alloc)?)?;
+    }
+    Ok(Command::Puts(Items::new(copies)))
 }

@@ -7,10 +7,11 @@ ghost use Rattle.bench_script.specs.declared.command.Command.{Command};
 ghost use Rattle.bench_script.specs.declared.script.LineFault.TheVariants.{Memory};
 
 mod links;
+mod rows;
 mod words;
 
 use crate::command::Command;
-use links::{forge_line, get_line, link_line, lookup_line, put_line};
+use links::{forge_line, get_line, link_line, lookup_line, on_line, put_line, puts_line, raw_line};
 use std::alloc::{AllocError, Global};
 use thiserror::Error;
 use words::{
@@ -134,9 +135,12 @@ fn command_line(alloc: Global, line: &[u8]) -> Result<Command, LineFault>
         Some(CommandName::Write3) => write_three_line(alloc, rest),
         Some(CommandName::Link) => link_line(alloc, rest),
         Some(CommandName::Forge) => forge_line(alloc, rest),
+        Some(CommandName::Raw) => raw_line(alloc, rest),
         Some(CommandName::Put) => put_line(alloc, rest),
         Some(CommandName::Get) => get_line(alloc, rest),
         Some(CommandName::Lookup) => lookup_line(alloc, rest),
+        Some(CommandName::On) => on_line(alloc, rest),
+        Some(CommandName::Puts) => puts_line(alloc, rest),
         None => Err(LineFault::Refused),
     }
 }

@@ -1,14 +1,14 @@
 //! Writing a command as a line.
 
-ghost use Rattle.std.specs.Prelude.{◌≡◌, ◌≤◌, ◌++◌, ◌∷◌, ℕ, List, length, codes, OnOk, OnErr};
+ghost use Rattle.std.specs.Prelude.{◌≡◌, ◌≤◌, ◌++◌, ◌∷◌, ℕ, List, map, length, codes, OnOk, OnErr};
 ghost use Rattle.std.specs.Fmt.{decimal};
 ghost use Rattle.hex.specs.Hex.{encode_upper};
 ghost use Rattle.bench_script.specs.Script.{fate_letter, Spells};
-ghost use Rattle.bench_script.specs.Canonical.{hex_text, id_text, message_text, fates_text, payloads_text, place_text, canonical, IsReadAs};
+ghost use Rattle.bench_script.specs.Canonical.{hex_text, id_text, message_text, fates_text, frame_text, slot_put_text, row_text, place_text, canonical, IsReadAs};
 
-use crate::command::{Command, DeviceId};
+use crate::command::{Command, DeviceId, SlotPut};
 use crate::message::Msg;
-use nfc_base::{Fate, Items};
+use nfc_base::{Fate, Frame, Items};
 use nfca_poll::Ident;
 use std::alloc::AllocError;
 
@@ -110,6 +110,7 @@ impl Command {
                 add_number(line, *rw as u32)
             }
             Command::Forge { id, payloads } => add_forge(line, id, payloads.as_slice()),
+            Command::Raw { id, frames } => add_raw(line, id, frames.as_slice()),
             Command::Put { message } => {
                 line.extend_from_slice(b"put")?;
                 add_message(line, message)
@@ -123,6 +124,20 @@ impl Command {
                 line.extend_from_slice(b"lookup ")?;
                 line.extend_from_slice(name.as_slice())
             }
+            Command::OnPut { slot, message } => {
+                add_on(line, *slot, b"put")?;
+                add_message(line, message)
+            }
+            Command::OnGet {
+                slot,
+                acceptable,
+                key,
+            } => {
+                add_on(line, *slot, b"get")?;
+                add_number(line, *acceptable)?;
+                add_hex(line, key.as_slice())
+            }
+            Command::Puts(puts) => add_puts(line, puts.as_slice()),
             Command::Unlink => line.extend_from_slice(b"unlink"),
         }
     }
@@ -167,12 +182,79 @@ fn add_forge(line: &mut Vec<u8>, id: &Ident, payloads: &[Items<u8>]) -> Result<(
 
 /// Adds payloads, each behind a space.
 fn add_payloads(line: &mut Vec<u8>, payloads: &[Items<u8>]) -> Result<(), AllocError>
-    ensures { OnOk result (line.new.items ≡ line.old.items ++ payloads_text payloads.now) }
+    ensures { OnOk result (line.new.items ≡ line.old.items ++ row_text (map encode_upper payloads.now)) }
 {
     for payload in payloads {
         add_digits(line, payload.as_slice())?;
     }
     Ok(())
+}
+
+/// Adds `raw`, an identifier and frames.
+fn add_raw(line: &mut Vec<u8>, id: &DeviceId, frames: &[Frame]) -> Result<(), AllocError>
+    ensures { OnOk result (line.new.items ≡ line.old.items ++ canonical (Command.Raw id.now frames.now)) }
+{
+    add_named(line, b"raw", id)?;
+    add_frames(line, frames)
+}
+
+/// Adds frames, each behind a space.
+fn add_frames(line: &mut Vec<u8>, frames: &[Frame]) -> Result<(), AllocError>
+    ensures { OnOk result (line.new.items ≡ line.old.items ++ row_text (map frame_text frames.now)) }
+{
+    for frame in frames {
+        add_frame(line, frame)?;
+    }
+    Ok(())
+}
+
+/// Adds a space, and a frame.
+fn add_frame(line: &mut Vec<u8>, frame: &Frame) -> Result<(), AllocError>
+    ensures { OnOk result (line.new.items ≡ line.old.items ++ 32 ∷ frame_text frame.now) }
+{
+    add_hex(line, frame.view())?;
+    if frame.tail() != 0 {
+        line.push(b'/')?;
+        add_decimal(line, frame.tail() as u32)?;
+    }
+    Ok(())
+}
+
+/// Adds `on`, the number of a slot, and what its client does.
+fn add_on(line: &mut Vec<u8>, slot: u8, what: &[u8]) -> Result<(), AllocError>
+    ensures { OnOk result (line.new.items ≡ line.old.items ++ codes "on " ++ decimal slot ++ 32 ∷ what.now) }
+{
+    line.extend_from_slice(b"on")?;
+    add_number(line, slot as u32)?;
+    line.push(b' ')?;
+    line.extend_from_slice(what)
+}
+
+/// Adds `puts`, and what each client puts.
+fn add_puts(line: &mut Vec<u8>, puts: &[SlotPut]) -> Result<(), AllocError>
+    ensures { OnOk result (line.new.items ≡ line.old.items ++ canonical (Command.Puts puts.now)) }
+{
+    line.extend_from_slice(b"puts")?;
+    add_slot_puts(line, puts)
+}
+
+/// Adds puts, each behind a space.
+fn add_slot_puts(line: &mut Vec<u8>, puts: &[SlotPut]) -> Result<(), AllocError>
+    ensures { OnOk result (line.new.items ≡ line.old.items ++ row_text (map slot_put_text puts.now)) }
+{
+    for put in puts {
+        add_slot_put(line, put)?;
+    }
+    Ok(())
+}
+
+/// Adds a space, the number of a slot, and what its client puts.
+fn add_slot_put(line: &mut Vec<u8>, put: &SlotPut) -> Result<(), AllocError>
+    ensures { OnOk result (line.new.items ≡ line.old.items ++ 32 ∷ slot_put_text put.now) }
+{
+    add_number(line, put.slot as u32)?;
+    line.push(b':')?;
+    add_spelled(line, &put.message)
 }
 
 /// Adds a command's name and an identifier.
@@ -187,8 +269,15 @@ fn add_named(line: &mut Vec<u8>, name: &[u8], id: &DeviceId) -> Result<(), Alloc
 fn add_digits(line: &mut Vec<u8>, bytes: &[u8]) -> Result<(), AllocError>
     ensures { OnOk result (line.new.items ≡ line.old.items ++ 32 ∷ encode_upper bytes.now) }
 {
-    let digits = hex::encode_upper(*line.allocator(), bytes)?;
     line.push(b' ')?;
+    add_pairs(line, bytes)
+}
+
+/// Adds two digits a byte.
+fn add_pairs(line: &mut Vec<u8>, bytes: &[u8]) -> Result<(), AllocError>
+    ensures { OnOk result (line.new.items ≡ line.old.items ++ encode_upper bytes.now) }
+{
+    let digits = hex::encode_upper(*line.allocator(), bytes)?;
     line.extend_from_slice(digits.as_bytes())
 }
 
@@ -196,10 +285,18 @@ fn add_digits(line: &mut Vec<u8>, bytes: &[u8]) -> Result<(), AllocError>
 fn add_hex(line: &mut Vec<u8>, bytes: &[u8]) -> Result<(), AllocError>
     ensures { OnOk result (line.new.items ≡ line.old.items ++ 32 ∷ hex_text bytes.now) }
 {
+    line.push(b' ')?;
+    add_bytes(line, bytes)
+}
+
+/// Adds some bytes, or `-` for none.
+fn add_bytes(line: &mut Vec<u8>, bytes: &[u8]) -> Result<(), AllocError>
+    ensures { OnOk result (line.new.items ≡ line.old.items ++ hex_text bytes.now) }
+{
     if bytes.is_empty() {
-        line.extend_from_slice(b" -")
+        line.extend_from_slice(b"-")
     } else {
-        add_digits(line, bytes)
+        add_pairs(line, bytes)
     }
 }
 
@@ -207,10 +304,18 @@ fn add_hex(line: &mut Vec<u8>, bytes: &[u8]) -> Result<(), AllocError>
 fn add_message(line: &mut Vec<u8>, message: &Msg) -> Result<(), AllocError>
     ensures { OnOk result (line.new.items ≡ line.old.items ++ 32 ∷ message_text message.now) }
 {
+    line.push(b' ')?;
+    add_spelled(line, message)
+}
+
+/// Adds a message as it was spelled.
+fn add_spelled(line: &mut Vec<u8>, message: &Msg) -> Result<(), AllocError>
+    ensures { OnOk result (line.new.items ≡ line.old.items ++ message_text message.now) }
+{
     match message {
-        Msg::Hex(bytes) => add_hex(line, bytes.as_slice()),
+        Msg::Hex(bytes) => add_bytes(line, bytes.as_slice()),
         Msg::Gen { count, start } => {
-            line.extend_from_slice(b" gen:")?;
+            line.extend_from_slice(b"gen:")?;
             add_decimal(line, *count)?;
             line.push(b':')?;
             add_decimal(line, *start as u32)

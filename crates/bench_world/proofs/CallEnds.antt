@@ -12,7 +12,8 @@ use Rattle.peer_air.specs.PeerFars.{peer_ends}
 use Rattle.snep_core.specs.Accord.{Accords}
 use Rattle.llcp_link.specs.Counting.{StopsCounted}
 use Rattle.snep_core.specs.Server.{Received, serving}
-use Rattle.snep_core.specs.Talk.{EndState, Step, Ends, Task, begins}
+use Rattle.snep_core.specs.Talk.{EndState, Step, Ends}
+use Rattle.link_calls.specs.Asking.{Call, call_begins}
 use Rattle.link_calls.specs.CallDue.{Comes, BrokenBy, call_due_at}
 use Rattle.link_calls.specs.CallTurns.{CallFront, CallTurns}
 use Rattle.link_calls.specs.Calls.{IsCutShort, IsEndedBy, IsMade}
@@ -44,9 +45,9 @@ module _ (air : Air Device) (ends : FarEnds) (peers : Peers) (l : OpenLink) (set
   pub of_end : (P : FarEnd → Type 0) → P (end air ends peers l settled) → OfEnd P (end_of (from_state air ends peers l settled) l)
   of_end P p = subst (OfEnd P) (sym (end_is air ends peers l settled)) p
 
-  module _ (c : Command) (task : Task) (is : IsCall air ends peers l settled c task) (joins : Joins) (b : Air Device) (j : InitState) (after : Choosing FarEnd) where
+  module _ (c : Command) (call : Call) (is : IsCall air ends peers l settled c call) (joins : Joins) (b : Air Device) (j : InitState) (after : Choosing FarEnd) where
     abbrev from : Step
-    from = begins l.client task
+    from = call_begins l.client call
 
     abbrev spot : ℕ
     spot = place air ends peers l settled
@@ -59,22 +60,22 @@ module _ (air : Air Device) (ends : FarEnds) (peers : Peers) (l : OpenLink) (set
     counted = record { end = far; numbers = joins.far }
 
     abbrev AnswerSo : Answer → Type 0
-    AnswerSo answer = Law air ends peers l settled c task is b j after answer
+    AnswerSo answer = Law air ends peers l settled c call is b j after answer
 
     abbrev Old : Machines
     Old = under ends peers (Some l) air
 
     abbrev pub Open : EndState → Machines
-    Open client = open_then air ends peers l settled c task is b j after client
+    Open client = open_then air ends peers l settled c call is b j after client
 
     abbrev pub Gone : Machines
-    Gone = gone_then air ends peers l settled c task is b j after
+    Gone = gone_then air ends peers l settled c call is b j after
 
     -- the peer is in step at its place
     in_step_still : (to : Step) → IsMade ghosts device_end joins.own from air l.initiator counted b j after to → InStepAt b spot j
     in_step_still to made =
         let t = made.turns device_linked devices_link spot (stands air ends peers l settled) ends in
-        let left = leaves air ends peers l settled (next air ends peers l settled c task is b j after joins _ t) (plain air ends peers l settled c task is b j after joins _ t) b joins.far after t.notes t.going in
+        let left = leaves air ends peers l settled (next air ends peers l settled c call is b j after joins _ t) (plain air ends peers l settled c call is b j after joins _ t) b joins.far after t.notes t.going in
         in_step (own air ends peers l settled) spot b left.at j j.core.number [] [] made.open_.in_step.1 made.open_.in_step.0
 
     -- the link is open again
@@ -91,25 +92,25 @@ module _ (air : Air Device) (ends : FarEnds) (peers : Peers) (l : OpenLink) (set
     }
 
     -- the call came to its end
-    pub made_obeyed : (jobs : _) (client : EndState) (answer : Answer) → IsMade ghosts device_end joins.own from air l.initiator counted b j after (Ends jobs client) → told_step (Ends jobs client) ≡ Some answer
+    pub made_obeyed : (jobs : _) (client : EndState) (answer : Answer) → IsMade ghosts device_end joins.own from air l.initiator counted b j after (Ends jobs client) → told_step call (Ends jobs client) ≡ Some answer
         → ((loss : Loss) → answer ≡ answers.LinkEnded loss → ⊥) → AnswerSo answer → Accords client after.end → ObeyedBy joins Old (Open client) c answer
     made_obeyed jobs client answer made told never law accords =
         let t = made.turns device_linked devices_link spot (stands air ends peers l settled) ends in
-        came air ends peers l settled c task is b j after joins (Comes (Ends jobs client) j) t made.carried.setting jobs client refl answer told never
-        (added_calm air b (made_calm joins.own from (Ends jobs client) air b l.initiator j counted after made) settled.idle.quiet (events air ends peers l settled c task is b j after joins (Comes (Ends jobs client) j) t)
-        (trace_is air ends peers l settled (next air ends peers l settled c task is b j after joins (Comes (Ends jobs client) j) t) (plain air ends peers l settled c task is b j after joins (Comes (Ends jobs client) j) t) b joins.far after t.notes t.going)) law
+        came air ends peers l settled c call is b j after joins (Comes (Ends jobs client) j) t made.carried.setting jobs client refl answer told never
+        (added_calm air b (made_calm joins.own from (Ends jobs client) air b l.initiator j counted after made) settled.idle.quiet (events air ends peers l settled c call is b j after joins (Comes (Ends jobs client) j) t)
+        (trace_is air ends peers l settled (next air ends peers l settled c call is b j after joins (Comes (Ends jobs client) j) t) (plain air ends peers l settled c call is b j after joins (Comes (Ends jobs client) j) t) b joins.far after t.notes t.going)) law
         (made.carried.arrives, (linked_in b spot j (in_step_still (Ends jobs client) made), made.carried.counted refl)) (reopened (Ends jobs client) client made accords)
 
     -- its link ended
     pub lost_obeyed : (why : EndCause) (answer : Answer) → IsEndedBy ghosts device_end joins.own from air l.initiator counted b j after why → told_loss why ≡ Some answer → AnswerSo answer → ObeyedBy joins Old Gone c answer
     lost_obeyed why answer ended told law =
         let t = ended.turns device_linked devices_link spot (stands air ends peers l settled) ends in
-        let es : List Event = events air ends peers l settled c task is b j after joins (BrokenBy why) t in
+        let es : List Event = events air ends peers l settled c call is b j after joins (BrokenBy why) t in
         let noisy : why ≡ cause.SixBad → 0 < noise es = λ six.
         subst (λ xs. 0 < noise xs) (ap (λ xs. drop (length xs) b.trace) settled.idle.quiet
-        ∙ trace_is air ends peers l settled (next air ends peers l settled c task is b j after joins (BrokenBy why) t) (plain air ends peers l settled c task is b j after joins (BrokenBy why) t) b joins.far after t.notes t.going)
+        ∙ trace_is air ends peers l settled (next air ends peers l settled c call is b j after joins (BrokenBy why) t) (plain air ends peers l settled c call is b j after joins (BrokenBy why) t) b joins.far after t.notes t.going)
         (ended.noisy six) in
-        broke air ends peers l settled c task is b j after joins (BrokenBy why) t ended.carried.setting why refl answer told (lost_is why told) (λ e. noisy (six_is why told e)) law (ended.carried.arrives, tt)
+        broke air ends peers l settled c call is b j after joins (BrokenBy why) t ended.carried.setting why refl answer told (lost_is why told) (λ e. noisy (six_is why told e)) law (ended.carried.arrives, tt)
       where
         lost_is : (w : EndCause) → told_loss w ≡ Some answer → ((w ≡ cause.FieldLost) ↔ (answer ≡ answers.LinkEnded losses.FieldLost))
         lost_is cause.FieldLost e = ((λ q. let same : answers.LinkEnded losses.FieldLost ≡ answer = cc in sym same), (λ q. refl))
@@ -140,12 +141,12 @@ module _ (air : Air Device) (ends : FarEnds) (peers : Peers) (l : OpenLink) (set
           | inl (field, stays) ↦ inl (
               let T : Air Device → Choosing FarEnd → Type 0 = λ a e. CallTurns ghosts device_end device_linked peer_ends joins.own from l.initiator air a spot ends counted e f.standing in
               let t : T b after = subst (T b) (sym stays) (subst (λ a. T a f.half) (sym field) f.turns) in
-              short air ends peers l settled c task is b j after joins f.standing t stores cut.setting cut.arrives)
+              short air ends peers l settled c call is b j after joins f.standing t stores cut.setting cut.arrives)
           | inr h ↦ inr (
               let t = f.turns in
-              let N = next air ends peers l settled c task is f.mid j f.half joins f.standing t in
-              let P = plain air ends peers l settled c task is f.mid j f.half joins f.standing t in
+              let N = next air ends peers l settled c call is f.mid j f.half joins f.standing t in
+              let P = plain air ends peers l settled c call is f.mid j f.half joins f.standing t in
               halted air ends peers l settled N P c joins f.mid f.half t.notes t.going is.still is.accepts is.asks (is.takes joins)
-              (same air ends peers l settled c task is f.mid j f.half joins f.standing t) h.sent h.payload h.listeners b (ap call_due_at t.stands ∙ h.asked) h.passes h.heard h.left
+              (same air ends peers l settled c call is f.mid j f.half joins f.standing t) h.sent h.payload h.listeners b (ap call_due_at t.stands ∙ h.asked) h.passes h.heard h.left
               after.end more cut.setting adds (of_end (λ e. HaltAdds c e more) fits) is.on_link after.numbers cut.arrives)
         ]

@@ -1,6 +1,7 @@
 -- What commands on the up link come to: each is answered as its peer answers it, exactly where no Break was used and no wait had six bad
 -- receptions.
-use Rattle.std.proofs.Common.{◌≡◌, ◌↔◌, ℕ, zero, suc, ◌<◌, ◌≤◌, nat_lt, List, [], ◌∷◌, length, Bool, true, false, if◌then◌else◌, Option, Some, None, refl, sym, ◌∙◌, ap, subst, arith}
+use Rattle.std.proofs.Common.{◌≡◌, ◌↔◌, ℕ, zero, suc, ◌<◌, ◌≤◌, nat_lt, List, [], ◌∷◌, length, map, Bool, true, false, if◌then◌else◌, Option, Some, None, refl, sym, ◌∙◌, ap, subst, arith}
+use Rattle.std.specs.Prelude.{not}
 use Rattle.nfc_base.specs.Trace.{breaks}
 use Rattle.nfc_base.specs.declared.carrier.EndCause.TheVariants.{FieldLost, SixBad, Protocol, Memory}
 use Rattle.nfc_base.specs.declared.event.Event.{Event}
@@ -10,22 +11,27 @@ use Rattle.snep_core.specs.declared.job.Ending.{Ending}
 use Rattle.snep_core.specs.declared.job.Ending.TheVariants.{Done, Value, Sap, Refused}
 use Rattle.snep_core.specs.declared.job.Job.{Job}
 use Rattle.snep_core.specs.declared.job.Job.TheVariants.{Begins, Waits, Sends, Asks, Collects, Looks, Closes, Over}
+use Rattle.snep_core.specs.declared.slot.Outcome.{Outcome}
+use Rattle.snep_core.specs.declared.slot.Outcome.TheVariants as outcomes
 use Rattle.snep_core.specs.Server.{Received}
 use Rattle.snep_core.specs.Session.{Offer, value_of}
-use Rattle.snep_core.specs.Talk.{Step, Goes, Ends, GivesUp, Task, Puts, Gets, Finds, Leaves}
+use Rattle.snep_core.specs.declared.job.OnSap.{OnSap}
+use Rattle.snep_core.specs.Talk.{Step, Goes, Ends, GivesUp}
 use Rattle.link_calls.specs.CallDue.{CallStanding, Carries, Comes, BrokenBy, Strays}
 use Rattle.link_calls.specs.ClosingDue.{ClosingStanding, Calls, Releasing, Released}
-use Rattle.bench_script.specs.declared.command.Command.{Command}
-use Rattle.bench_script.specs.declared.command.Command.TheVariants.{Put}
+use Rattle.link_calls.specs.AtOnce.{told_on}
+use Rattle.link_calls.specs.declared.request.SlotMessage.{SlotMessage}
+use Rattle.bench_world.proofs.Saying.{at_once_on, ending_on}
+use Rattle.bench_world.specs.declared.entry.SlotDone.{SlotDone}
 use Rattle.bench_world.specs.declared.entry.Answer.{Answer}
 use Rattle.bench_world.specs.declared.entry.Answer.TheVariants as answers
 use Rattle.bench_world.specs.declared.entry.Entry.{Entry}
 use Rattle.bench_world.specs.declared.entry.Loss.{Loss}
 use Rattle.bench_world.specs.declared.entry.Loss.TheVariants as losses
-use Rattle.bench_world.specs.Calls.{HadSixBad, IfLinked, IsTold, OfEnd, PeerAdds, PeerTells, PutAdds, GetTells, LookupTells, told_asked, told_ending, told_job, told_step, told_call, told_closing, stands_on, stands_closing}
-use Rattle.bench_world.specs.CompletingLinks.{put_answer, value_answer, table_answer, get_answer, peer_answer, HadSixBadBy, HadSixBadOn, IsUndisturbedOn, AskedComplete, IsOkAsking, IsOkBy, IsValidAsking, IsValidBy, ValidIsOk}
+use Rattle.bench_world.specs.Calls.{CallAdds, CallTells, EachAdds, HadSixBad, IfLinked, IsTold, OfEnd, PeerAdds, PeerTells, GetTells, LookupTells, all_done, done_before, told_alone, told_asked, told_at_once, told_done, told_each, told_ending, told_job, told_jobs, told_one, told_several, told_step, told_call, told_closing, stands_on, stands_closing}
+use Rattle.bench_world.specs.CompletingLinks.{done_so, put_answer, puts_answer, value_answer, table_answer, get_answer, peer_answer, HadSixBadBy, HadSixBadOn, IsUndisturbedOn, AskedComplete, EachWithin, IsOkAsking, IsOkBy, IsValidAsking, IsValidBy, ValidIsOk}
 use Rattle.bench_world.specs.Legal.{State, Given, LegalStep, AnswerBy, CallLaw, end_of}
-use Rattle.link_calls.specs.Asking.{LinkAsking, Does, Closes}
+use Rattle.link_calls.specs.Asking.{LinkAsking, Call, Does, Closes, Finding, Getting, Putting}
 use Rattle.bench_world.specs.Asked.{asked_on_link}
 use Rattle.bench_world.specs.Links.{OpenLink}
 use Rattle.bench_world.specs.World.{FarEnd}
@@ -57,21 +63,35 @@ job_ended (Looks tid) answer e = absurd (none_told answer e)
 job_ended Closes answer e = absurd (none_told answer e)
 job_ended (Over ending) answer e = record { ending = ending; told = told_once (told_ending ending) answer e }
 
-step_ended : (to : Step) (answer : Answer) → told_step to ≡ Some answer → IsEnded answer
-step_ended (Goes w) answer e = absurd (none_told answer e)
-step_ended (GivesUp l) answer e = absurd (none_told answer e)
-step_ended (Ends [] l) answer e = absurd (none_told answer e)
-step_ended (Ends (x ∷ []) l) answer e = job_ended x.job answer e
-step_ended (Ends (x ∷ y ∷ xs) l) answer e = absurd (none_told answer e)
+alone_ended : (jobs : List OnSap) (answer : Answer) → told_alone jobs ≡ Some answer → IsEnded answer
+alone_ended [] answer e = absurd (none_told answer e)
+alone_ended (x ∷ []) answer e = job_ended x.job answer e
+alone_ended (x ∷ y ∷ xs) answer e = absurd (none_told answer e)
 
-pub call_ended : (c : CallStanding) (es : List Event) (answer : Answer) → IsTold (told_call c) es answer → breaks es ≡ 0 → (c ≡ BrokenBy SixBad → ⊥) → IsEnded answer
-call_ended (Carries (w, ns) s) es answer t lit none = absurd (none_told answer t.tells)
-call_ended (Comes to i) es answer t lit none = step_ended to answer t.tells
-call_ended (BrokenBy FieldLost) es answer t lit none = absurd (no_lost (breaks es) lit (t.lost.0 (told_once (answers.LinkEnded losses.FieldLost) answer t.tells)))
-call_ended (BrokenBy SixBad) es answer t lit none = absurd (none refl)
-call_ended (BrokenBy Protocol) es answer t lit none = absurd (none_told answer t.tells)
-call_ended (BrokenBy Memory) es answer t lit none = absurd (none_told answer t.tells)
-call_ended Strays es answer t lit none = absurd (none_told answer t.tells)
+-- and so is a call, by what its jobs came to
+pub record CameSo (call : Call) (answer : Answer) : Type 0 where
+  pub jobs : List OnSap
+  pub told : told_jobs call jobs ≡ Some answer
+
+step_ended : (call : Call) (to : Step) (answer : Answer) → told_step call to ≡ Some answer → CameSo call answer
+step_ended call (Goes w) answer e = absurd (none_told answer e)
+step_ended call (GivesUp l) answer e = absurd (none_told answer e)
+step_ended call (Ends jobs l) answer e = record { jobs = jobs; told = e }
+
+pub call_ended : (call : Call) (c : CallStanding) (es : List Event) (answer : Answer) → IsTold (told_call call c) es answer → breaks es ≡ 0 → (c ≡ BrokenBy SixBad → ⊥) → CameSo call answer
+call_ended call (Carries (w, ns) s) es answer t lit none = absurd (none_told answer t.tells)
+call_ended call (Comes to i) es answer t lit none = step_ended call to answer t.tells
+call_ended call (BrokenBy FieldLost) es answer t lit none = absurd (no_lost (breaks es) lit (t.lost.0 (told_once (answers.LinkEnded losses.FieldLost) answer t.tells)))
+call_ended call (BrokenBy SixBad) es answer t lit none = absurd (none refl)
+call_ended call (BrokenBy Protocol) es answer t lit none = absurd (none_told answer t.tells)
+call_ended call (BrokenBy Memory) es answer t lit none = absurd (none_told answer t.tells)
+call_ended call Strays es answer t lit none = absurd (none_told answer t.tells)
+
+-- it doesn't tell of a link that ended
+pub jobs_on : (call : Call) (jobs : List OnSap) (answer : Answer) → told_jobs call jobs ≡ Some answer → GoesOn answer
+jobs_on (Putting ws) jobs answer e loss is = at_once_on ws jobs answer e loss is
+jobs_on (Getting sap most key) jobs answer e loss is = let x = alone_ended jobs answer e in ending_on x.ending loss (sym x.told ∙ is)
+jobs_on (Finding name) jobs answer e loss is = let x = alone_ended jobs answer e in ending_on x.ending loss (sym x.told ∙ is)
 
 -- and a closing tells that the link is closed
 closing_ended : (c : ClosingStanding) (es : List Event) (answer : Answer) → IsTold (told_closing c) es answer → breaks es ≡ 0 → (c ≡ Calls (BrokenBy SixBad) → ⊥) → answer ≡ answers.Unlinked
@@ -102,14 +122,57 @@ beyond limit n h = grind (arith, h)
 either : (v w : Bool) (a b : Answer) → v ≡ w → (if v then a else b) ≡ (if w then a else b)
 either v w a b e = ap (λ x. if x then a else b) e
 
-pub put_told : (m : List ℕ) (end : FarEnd) (more : List Received) (x : Ending) → PutAdds m end (told_ending x) more → told_ending x ≡ put_answer m end
-put_told m end more Done h = sym (either (nat_lt end.service.limit (length m)) false answers.Reject answers.Success (within end.service.limit (length m) h.0))
-put_told m end more (Value v) h = absurd h
-put_told m end more (Sap n) h = absurd h
-put_told m end more (Refused refusals.Reject) h = sym (either (nat_lt end.service.limit (length m)) true answers.Reject answers.Success (beyond end.service.limit (length m) h.0))
-put_told m end more (Refused refusals.NotFound) h = absurd h
-put_told m end more (Refused refusals.Excess) h = absurd h
-put_told m end more (Refused refusals.NotImplemented) h = absurd h
+module _ (end : FarEnd) (more : List Received) where
+  abbrev Limit : ℕ
+  Limit = end.service.limit
+
+  one_put : (w : SlotMessage) (o : Outcome) (answer : Answer) → told_one o ≡ Some answer → EachAdds (w ∷ []) Limit (told_each (w ∷ []) answer) more → answer ≡ put_answer w.message end
+  one_put w outcomes.Success answer e h =
+      let same : answers.Success ≡ answer = cc in
+      let k = subst (λ a. EachAdds (w ∷ []) Limit (told_each (w ∷ []) a) more) (sym same) h in
+      sym same ∙ sym (either (nat_lt Limit (length w.message)) false answers.Reject answers.Success (within Limit (length w.message) k.0.0))
+  one_put w outcomes.Rejected answer e h =
+      let same : answers.Reject ≡ answer = cc in
+      let k = subst (λ a. EachAdds (w ∷ []) Limit (told_each (w ∷ []) a) more) (sym same) h in
+      sym same ∙ sym (either (nat_lt Limit (length w.message)) true answers.Reject answers.Success (beyond Limit (length w.message) k.0.0))
+  one_put w outcomes.Staged answer e h = absurd cc
+  one_put w outcomes.NoMessage answer e h = absurd cc
+
+  abbrev DoneAs : ℕ → Bool → SlotDone
+  DoneAs slot success = record { slot = slot; success = success }
+
+  next_put : (w : SlotMessage) (ws : List SlotMessage) (o : Outcome) (r : Option (List SlotDone)) (ds : List SlotDone) → done_before w.slot o r ≡ Some ds → EachAdds (w ∷ ws) Limit (map told_done ds) more
+      → ((es : List SlotDone) → r ≡ Some es → EachAdds ws Limit (map told_done es) more → es ≡ map (done_so Limit) ws) → ds ≡ map (done_so Limit) (w ∷ ws)
+  next_put w ws outcomes.Success (Some es) ds e h rest =
+      let is : DoneAs w.slot true ∷ es ≡ ds = cc in
+      let k = subst (λ xs. EachAdds (w ∷ ws) Limit (map told_done xs) more) (sym is) h in
+      sym is ∙ ap (λ v. DoneAs w.slot (not v) ∷ es) (sym (within Limit (length w.message) k.0.0)) ∙ ap (λ xs. done_so Limit w ∷ xs) (rest es refl k.1)
+  next_put w ws outcomes.Rejected (Some es) ds e h rest =
+      let is : DoneAs w.slot false ∷ es ≡ ds = cc in
+      let k = subst (λ xs. EachAdds (w ∷ ws) Limit (map told_done xs) more) (sym is) h in
+      sym is ∙ ap (λ v. DoneAs w.slot (not v) ∷ es) (sym (beyond Limit (length w.message) k.0.0)) ∙ ap (λ xs. done_so Limit w ∷ xs) (rest es refl k.1)
+  next_put w ws outcomes.Staged (Some es) ds e h rest = absurd cc
+  next_put w ws outcomes.NoMessage (Some es) ds e h rest = absurd cc
+  next_put w ws outcomes.Success None ds e h rest = absurd cc
+  next_put w ws outcomes.Rejected None ds e h rest = absurd cc
+  next_put w ws outcomes.Staged None ds e h rest = absurd cc
+  next_put w ws outcomes.NoMessage None ds e h rest = absurd cc
+
+  several_put : (jobs : List OnSap) (ws : List SlotMessage) (ds : List SlotDone) → all_done ws jobs ≡ Some ds → EachAdds ws Limit (map told_done ds) more → ds ≡ map (done_so Limit) ws
+  several_put jobs [] ds e h = let is : ◌≡◌ {A = List SlotDone} [] ds = cc in sym is
+  several_put jobs (w ∷ ws) ds e h = next_put w ws (told_on jobs w.slot) (all_done ws jobs) ds e h (λ es is k. several_put jobs ws es is k)
+
+  all_put : (jobs : List OnSap) (ws : List SlotMessage) (r : Option (List SlotDone)) (answer : Answer) → all_done ws jobs ≡ r → told_several r ≡ Some answer → EachAdds ws Limit (told_each ws answer) more
+      → answer ≡ answers.Puts (map (done_so Limit) ws)
+  all_put jobs ws None answer is e h = absurd cc
+  all_put jobs ws (Some ds) answer is e h =
+      let same : answers.Puts ds ≡ answer = cc in
+      sym same ∙ ap answers.Puts (several_put jobs ws ds is (subst (λ a. EachAdds ws Limit (told_each ws a) more) (sym same) h))
+
+  pub puts_told_so : (ws : List SlotMessage) (jobs : List OnSap) (answer : Answer) → told_at_once ws jobs ≡ Some answer → EachAdds ws Limit (told_each ws answer) more → answer ≡ puts_answer ws end
+  puts_told_so [] jobs answer e h = all_put jobs [] (all_done [] jobs) answer refl e h
+  puts_told_so (w ∷ []) jobs answer e h = one_put w (told_on jobs w.slot) answer e h
+  puts_told_so (w ∷ v ∷ ws) jobs answer e h = all_put jobs (w ∷ v ∷ ws) (all_done (w ∷ v ∷ ws) jobs) answer refl e h
 
 put_goes_on : (m : List ℕ) (end : FarEnd) → GoesOn (put_answer m end)
 put_goes_on m end = by_limit (nat_lt end.service.limit (length m))
@@ -188,28 +251,24 @@ module _ (s t : State) (g : Given) (e : Entry) (l : OpenLink) (step : LegalStep 
   call_law asked asks up =
       linked (λ k. CallLaw s g.joins k asked e.command e.events e.answer) (e.answer ≡ answers.NoLink) up (subst (λ o. AnswerBy o s g e.command e.events e.answer) asks step.answered)
 
--- no command asks for the end of the connection alone
-never_leaves : (c : Command) → asked_on_link c ≡ Some (Does Leaves) → ⊥
-never_leaves (Put m) e = cc
-never_leaves c e = cc
-
 -- what the answer of its peer gives
-told_peer : (task : Task) (end : FarEnd) (more : List Received) (x : Ending) → (task ≡ Leaves → ⊥) → PeerAdds (Does task) end (told_ending x) more → PeerTells (Does task) end (told_ending x)
-    → told_ending x ≡ peer_answer (Does task) end
-told_peer (Puts m) end more x not adds tells = put_told m end more x adds
-told_peer (Gets most key) end more x not adds tells = get_told most key end x tells
-told_peer (Finds name) end more x not adds tells = lookup_told name end x tells
-told_peer Leaves end more x not adds tells = absurd (not refl)
+told_peer : (call : Call) (end : FarEnd) (more : List Received) (answer : Answer) → CameSo call answer → CallAdds call end answer more → CallTells call end answer → answer ≡ peer_answer (Does call) end
+told_peer (Putting ws) end more answer x adds tells = puts_told_so end more ws x.jobs answer x.told adds.each
+told_peer (Getting sap most key) end more answer x adds tells =
+    let y = alone_ended x.jobs answer x.told in y.told ∙ get_told most key end y.ending (subst (GetTells most key end) y.told tells)
+told_peer (Finding name) end more answer x adds tells =
+    let y = alone_ended x.jobs answer x.told in y.told ∙ lookup_told name end y.ending (subst (LookupTells name end) y.told tells)
 
 peer_goes_on : (asked : LinkAsking) (end : FarEnd) → GoesOn (peer_answer asked end)
-peer_goes_on (Does (Puts m)) end loss e = put_goes_on m end loss e
-peer_goes_on (Does (Gets most key)) end loss e = get_goes_on most key end loss e
-peer_goes_on (Does (Finds name)) end loss e = cc
-peer_goes_on (Does Leaves) end loss e = cc
+peer_goes_on (Does (Putting [])) end loss e = cc
+peer_goes_on (Does (Putting (w ∷ []))) end loss e = put_goes_on w.message end loss e
+peer_goes_on (Does (Putting (w ∷ v ∷ ws))) end loss e = cc
+peer_goes_on (Does (Getting sap most key)) end loss e = get_goes_on most key end loss e
+peer_goes_on (Does (Finding name)) end loss e = cc
 peer_goes_on Closes end loss e = cc
 
 pub six_told : (asked : LinkAsking) (l : OpenLink) (joins : List ℕ) (es : List Event) → HadSixBad asked l joins es → told_asked asked l joins es ≡ Some (answers.LinkEnded losses.SixBad)
-six_told (Does task) l joins es six = ap told_call six
+six_told (Does call) l joins es six = ap (told_call call) six
 six_told Closes l joins es six = ap told_closing six
 
 both_ends : (P Q R : FarEnd → Type 0) → ((end : FarEnd) → P end → Q end → R end) → (o : Option FarEnd) → OfEnd P o → OfEnd Q o → OfEnd R o
@@ -237,11 +296,8 @@ module _ (s t : State) (g : Given) (e : Entry) (l : OpenLink) (asked : LinkAskin
   -- what was told where nothing kept it from its answer
   answered_by : (a : LinkAsking) → asked_on_link e.command ≡ Some a → IsTold (told_asked a l g.joins.own e.events) e.events e.answer → (HadSixBad a l g.joins.own e.events → ⊥) → breaks e.events ≡ 0
       → (end : FarEnd) → PeerAdds a end e.answer law.more → PeerTells a end e.answer → e.answer ≡ peer_answer a end
-  answered_by (Does task) is told none lit end adds tells =
-      let ended : IsEnded e.answer = call_ended (stands_on l g.joins.own task e.events) e.events e.answer told lit none in
-      ended.told
-      ∙ told_peer task end law.more ended.ending (λ q. never_leaves e.command (is ∙ ap (λ k. Some (Does k)) q)) (subst (λ a. PeerAdds (Does task) end a law.more) ended.told adds)
-      (subst (λ a. PeerTells (Does task) end a) ended.told tells)
+  answered_by (Does call) is told none lit end adds tells =
+      told_peer call end law.more e.answer (call_ended call (stands_on l g.joins.own call e.events) e.events e.answer told lit none) adds tells
   answered_by Closes is told none lit end adds tells = closing_ended (stands_closing l g.joins.own e.events) e.events e.answer told lit none
 
   pub complete : OfEnd (λ end. (e.answer ≡ peer_answer asked end) ↔ IsUndisturbedOn l g.joins.own e.command e.events) (end_of s l)
@@ -261,12 +317,19 @@ valid_get : (most : ℕ) (key v : List ℕ) (end : FarEnd) → length key ≤ en
 valid_get most key v end key_fits has fits =
     has_value most key end v key_fits has ∙ either (nat_lt most (length v)) false answers.Excess (answers.Value v) (within most (length v) fits)
 
-valid_told : (asked : LinkAsking) (end : FarEnd) (answer : Answer) → (asked ≡ Does Leaves → ⊥) → IsValidAsking asked end → answer ≡ peer_answer asked end → IsOkAsking asked end answer
-valid_told (Does (Puts m)) end answer not v e = e ∙ either (nat_lt end.service.limit (length m)) false answers.Reject answers.Success (within end.service.limit (length m) v)
-valid_told (Does (Gets most key)) end answer not v e = (v.1, v.2, e ∙ valid_get most key v.1 end v.0 v.2 v.3)
-valid_told (Does (Finds name)) end answer not v e = e
-valid_told (Does Leaves) end answer not v e = absurd (not refl)
-valid_told Closes end answer not v e = e
+all_within : (limit : ℕ) (ws : List SlotMessage) → EachWithin limit ws → map (done_so limit) ws ≡ map (λ (x : SlotMessage). record { slot = x.slot; success = true }) ws
+all_within limit [] h = refl
+all_within limit (w ∷ ws) h =
+    ap (λ v. record { slot = w.slot; success = not v } ∷ map (done_so limit) ws) (within limit (length w.message) h.0)
+    ∙ ap (λ xs. record { slot = w.slot; success = true } ∷ xs) (all_within limit ws h.1)
+
+valid_told : (asked : LinkAsking) (end : FarEnd) (answer : Answer) → IsValidAsking asked end → answer ≡ peer_answer asked end → IsOkAsking asked end answer
+valid_told (Does (Putting [])) end answer v e = e
+valid_told (Does (Putting (w ∷ []))) end answer v e = e ∙ either (nat_lt end.service.limit (length w.message)) false answers.Reject answers.Success (within end.service.limit (length w.message) v.0)
+valid_told (Does (Putting (w ∷ x ∷ ws))) end answer v e = e ∙ ap answers.Puts (all_within end.service.limit (w ∷ x ∷ ws) v)
+valid_told (Does (Getting sap most key)) end answer v e = (v.1, v.2, e ∙ valid_get most key v.1 end v.0 v.2 v.3)
+valid_told (Does (Finding name)) end answer v e = e
+valid_told Closes end answer v e = e
 
 pub valid_is_ok : ValidIsOk
 valid_is_ok s t g e l end step up found_end valid calm = by (asked_on_link e.command) refl valid
@@ -274,5 +337,5 @@ valid_is_ok s t g e l end step up found_end valid calm = by (asked_on_link e.com
     by : (o : Option LinkAsking) → asked_on_link e.command ≡ o → IsValidBy o end → IsOkBy o end e.answer
     by None asks v = absurd v
     by (Some asked) asks v =
-        valid_told asked end e.answer (λ q. never_leaves e.command (asks ∙ ap Some q)) v
+        valid_told asked end e.answer v
         ((subst (OfEnd (λ x. (e.answer ≡ peer_answer asked x) ↔ IsUndisturbedOn l g.joins.own e.command e.events)) found_end (complete s t g e l asked step asks up)).1 calm)

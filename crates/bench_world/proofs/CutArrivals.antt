@@ -16,17 +16,17 @@ use Rattle.snep_core.specs.Session.{Offer}
 use Rattle.snep_core.proofs.CallsKeep.{giving_keeps}
 use Rattle.snep_core.proofs.CutOff.{cut_off_accepts}
 use Rattle.link_calls.specs.Arriving.{Arrives, ArrivesCut, StopsAtLast, all_answered}
-use Rattle.snep_core.specs.Talk.{Puts, Gets, Finds}
-use Rattle.link_calls.specs.Asking.{LinkAsking, Does, Closes}
+use Rattle.snep_core.specs.Talk.{client_sap, sap_of_slot}
+use Rattle.link_calls.specs.Asking.{LinkAsking, Does, Closes, Finding, Getting, put_from, Putting}
 use Rattle.bench_script.specs.declared.command.Command.{Command}
-use Rattle.bench_script.specs.declared.command.Command.TheVariants.{Find, Crowd, Poll3, Read, Read3, Write, Write3, Link, Forge, Put, Get, Lookup, Unlink}
+use Rattle.bench_script.specs.declared.command.Command.TheVariants.{Find, Crowd, Poll3, Read, Read3, Write, Write3, Link, Forge, Put, Get, Lookup, Unlink, OnPut, OnGet, Puts}
 use Rattle.bench_script.specs.Messages.{message_of}
 use Rattle.bench_world.specs.World.{FarEnd}
 use Rattle.bench_world.specs.Arrivals.{Arrival, arrival_marks, arrivals_of, end_at, end_behind, giving_values}
 use Rattle.bench_world.specs.Arriving.{ArrivesCutAt, ArrivesCutWithin}
 use Rattle.bench_world.specs.ByPayloads.{IsByPayloads, IsFrontOfPayloads, PutsAtLeast}
 use Rattle.bench_world.specs.Calls.{IfLinked}
-use Rattle.bench_world.specs.Asked.{IsOnLink, asked_on_link}
+use Rattle.bench_world.specs.Asked.{IsOnLink, asked_on_link, slot_messages}
 use Rattle.bench_world.specs.Forging.{forged_general, opens_link}
 use Rattle.bench_script.specs.declared.command.DeviceId.TheVariants.{A}
 use Rattle.bench_world.proofs.ForgeLeft.{forged_numbers}
@@ -241,6 +241,9 @@ module _ (s t : State) (joins : Joins) (c : Command) (cut : List Event) (ys : Li
   talk_begins (Put m) talks = refl
   talk_begins (Get most key) talks = refl
   talk_begins (Lookup name) talks = refl
+  talk_begins (OnPut slot m) talks = refl
+  talk_begins (OnGet slot most key) talks = refl
+  talk_begins (Puts puts) talks = refl
   talk_begins Unlink talks = refl
   talk_begins d talks = off talks
 
@@ -307,9 +310,12 @@ module _ (s t : State) (g : Given) (cut : List Event) (ys : List Story) (h : Kep
           (ap (λ v. if v then BeginsAndEnds ByForge id forged_general else NothingBegins) opened) sends.placed
           (subst (λ (z : State). ArrivesCutWithin sends.peer forged_general s.peers.numbers g.joins.far s.world.fars z.world.fars cut) (sym front.after) sends.came))
       by false unopened stays = unlinked_front s t g.joins (Forge id payloads) cut ys h refl (ap (λ v. if v then BeginsAndEnds ByForge id forged_general else NothingBegins) unopened)
-  front_by (Put m) front stores = talk_front (Does (Puts (message_of m))) (Put m) refl front stores
-  front_by (Get most key) front stores = talk_front (Does (Gets most key)) (Get most key) refl front stores
-  front_by (Lookup name) front stores = talk_front (Does (Finds name)) (Lookup name) refl front stores
+  front_by (Put m) front stores = talk_front (Does (put_from 0 (message_of m))) (Put m) refl front stores
+  front_by (Get most key) front stores = talk_front (Does (Getting client_sap most key)) (Get most key) refl front stores
+  front_by (Lookup name) front stores = talk_front (Does (Finding name)) (Lookup name) refl front stores
+  front_by (OnPut slot m) front stores = talk_front (Does (put_from slot (message_of m))) (OnPut slot m) refl front stores
+  front_by (OnGet slot most key) front stores = talk_front (Does (Getting (sap_of_slot slot) most key)) (OnGet slot most key) refl front stores
+  front_by (Puts puts) front stores = talk_front (Does (Putting (slot_messages puts))) (Puts puts) refl front stores
   front_by Unlink front stores = talk_front Closes Unlink refl front stores
   front_by c front stores = absurd stores
 

@@ -1,20 +1,21 @@
 -- The law of links behind a command that want of memory cut off.
-use Rattle.std.proofs.Common.{◌≡◌, ◌⊎◌, List, [], ◌∷◌, map, length, Bool, true, false, Option, Some, None, inl, inr, refl, sym, ◌∙◌, ap, subst}
+use Rattle.std.proofs.Common.{◌≡◌, ◌⊎◌, List, [], ◌∷◌, map, length, Bool, true, false, Option, Some, None, IsSome, inl, inr, refl, sym, ◌∙◌, ap, subst}
 use Rattle.std.specs.List.{AllByRecursion}
 use Rattle.std.proofs.lemmas.List.{append-nil, length-map}
 use Rattle.nfc_base.specs.declared.event.Event.{Event}
 use Rattle.nfc_base.specs.declared.event.Fate.{Fate}
-use Rattle.air_core.specs.Conversation.{queue_after}
 use Rattle.bench_script.specs.declared.command.Command.{Command}
-use Rattle.bench_script.specs.declared.command.Command.TheVariants.{Find, Crowd, Poll3, Read, Read3, Write, Write3, Link, Forge, Put, Get, Lookup, Unlink}
+use Rattle.bench_script.specs.declared.command.Command.TheVariants.{Find, Crowd, Poll3, Read, Read3, Write, Write3, Link, Forge, Put, Get, Lookup, Unlink, OnPut, OnGet, Puts}
 use Rattle.bench_devices.specs.declared.device.Device.{Device}
 use Rattle.bench_devices.specs.Keeping.{Kept, AllStayDevices, IsSound, StaysDevice, kept}
-use Rattle.bench_world.specs.declared.entry.Answer.TheVariants as answers
-use Rattle.bench_world.specs.declared.entry.Loss.TheVariants as losses
 use Rattle.bench_world.specs.World.{WholeWorld, Stable}
 use Rattle.bench_world.specs.ByPayloads.{IsFrontOfPayloads}
-use Rattle.bench_world.specs.Asked.{IsOnLink}
-use Rattle.bench_world.specs.Legal.{State, Given, Joins, CutFront, CutShort, CutStores, EachLegal, ForgeCutLeaves, ForgeHalts, FrontOf, HaltLeaves, Halts, PeerHalts, begun, end_of, first_state, state_after, world_after}
+use Rattle.link_calls.specs.Asking.{LinkAsking, Does, Closes, Finding, Getting, put_from, Putting}
+use Rattle.snep_core.specs.Talk.{client_sap, sap_of_slot}
+use Rattle.bench_script.specs.Messages.{message_of}
+use Rattle.bench_world.specs.Asked.{IsOnLink, asked_on_link, slot_messages}
+use Rattle.bench_world.specs.Calls.{OfEnd, PeerMayAdd}
+use Rattle.bench_world.specs.Legal.{State, Given, Joins, Accepts, CutFront, CutLeft, CutShort, EachLegal, CutStores, ForgeCutLeaves, ForgeHalts, FrontOf, HaltAdded, HaltLeaves, Halts, PeerHalts, end_of, first_state, state_after, world_after}
 use Rattle.bench_world.specs.LinkLaw.{CutArrivalLaw, CutLinkLaw, KeepsLinkLaw, cut_stretch}
 use Rattle.bench_world.specs.Forging.{opens_link}
 use Rattle.bench_world.specs.Links.{OpenLink, ended}
@@ -23,14 +24,12 @@ use Rattle.bench_world.specs.Stories as told
 use Rattle.bench_world.specs.Stories.{Story, stories_of}
 use Rattle.bench_world.proofs.CutArrivals.{cut_arrived}
 use Rattle.bench_world.proofs.PayloadsKept.{kept_along}
-use Rattle.bench_world.proofs.AtNumbers.{AreHeld, held, held_none_more, more_held, same_held, with_held}
-use Rattle.bench_world.proofs.HeldOn.{nothing_sent}
-use Rattle.bench_world.proofs.LinkLaw.{all_keep, along, called, called_so, as_many_sent, first_stand, forge_sent, forge_unsent, forged_stands, places_behind, put_so, quietly, reset, step}
+use Rattle.bench_world.proofs.AtNumbers.{held, more_held, same_held, with_held}
+use Rattle.bench_world.proofs.LinkLaw.{all_keep, along, as_many_sent, as_many_talked, first_stand, forge_sent, forge_unsent, forged_stands, reset, step, talk_none, talk_so, talked}
 use Rattle.bench_world.proofs.PeersNumbered.{HavePlaces, places_stay}
 use Rattle.bench_world.proofs.SameStories.{KeepsNumbers, begun_within, ended_in, same_behind, same_from}
 use Rattle.bench_world.proofs.StoriesHere.{Stand, view_of}
-use Rattle.bench_world.proofs.StoriesStep.{as_many_with, base_held, no_link}
-use Rattle.bench_world.proofs.Talks.{ends_stay, of_any, off}
+use Rattle.bench_world.proofs.Talks.{off}
 use Rattle.bench_world.proofs.Tales.{stories_behind}
 use Rattle.bench_world.proofs.Unfinished.{short_front}
 use Rattle.bench_world.proofs.Unlinking.{same_numbers}
@@ -59,6 +58,13 @@ module _ (w : WholeWorld) (q : List Fate) (p : Peers) (ys : List Story) (g : Giv
   after_front : (o : Option OpenLink) (c : Command) (es : List Event) (t : State) → FrontOf (from o) g c es None t → so o c es (state_after (from o) g.joins c es None) → so o c es t
   after_front o c es t front steps = subst (so o c es) (sym front.after) steps
 
+  -- a command on the link, whatever it asks
+  talk_by : (o : Option OpenLink) (asked : LinkAsking) (c : Command) → asked_on_link c ≡ Some asked → (es : List Event) (t : State) → Stand (from o) ys → FrontOf (from o) g c es None t
+      → CutLeft (Some asked) (from o) g.joins c es → so o c es t
+  talk_by None asked c asks es t stand front stores = talk_none w q p ys stand g None c asked asks es t front
+  talk_by (Some l) asked c asks es t stand front stores =
+      talked w q p ys l stand g None c asked asks front.accepted es stores.more stores.adds t front stores.ends (λ b e. absurd cc)
+
   front_by : (o : Option OpenLink) (c : Command) (es : List Event) (t : State) → Stand (from o) ys → FrontOf (from o) g c es None t → CutStores (from o) g.joins c es → so o c es t
   front_by o Find es t stand front stores =
       after_front o Find es t front (reset w q p ys o stand g None Find es refl refl refl refl refl (same_held (world_after (from o) g.joins Find es) w (ap (λ (z : Stable). z.ends) stores)))
@@ -82,40 +88,13 @@ module _ (w : WholeWorld) (q : List Fate) (p : Peers) (ys : List Story) (g : Giv
       by : (v : Bool) → opens_link id payloads es ≡ v → ForgeCutLeaves v (from o) g.joins id payloads es → so o (Forge id payloads) es (state_after (from o) g.joins (Forge id payloads) es None)
       by true opened sends = forge_sent w q p ys o stand g None id payloads es opened sends.peer sends.placed sends.more sends.ends
       by false unopened stays = forge_unsent w q p ys o stand g None id payloads es unopened stays
-  front_by None (Put m) es t stand front stores =
-      quietly w q p ys None stand g None (Put m) es t front (nothing_sent (begun (from None) g.joins (Put m)) es front.turns front.each)
-      (no_link (from None) (state_after (from None) g.joins (Put m) [] None) (cut_stretch (Put m) g.joins es) ys refl refl refl stand.places stand.stand)
-  front_by (Some l) (Put m) es t stand front stores =
-      let c : Command = Put m in
-      let now : WholeWorld = world_after (from (Some l)) g.joins c es in
-      let accepted : map held now.fars ≡ with_held stores.more l.peer p.numbers (map held w.fars) = more_held now w stores.more l.peer p.numbers stores.ends in
-      let both : AreHeld p.numbers (map held w.fars) × _ = base_held (view_of (from (Some l))) (Some l) ys stand.stand in
-      let many : length now.fars ≡ length w.fars =
-      sym (length-map now.fars held) ∙ ap length accepted ∙ as_many_with stores.more l.peer p.numbers (map held w.fars) both.0 ∙ length-map w.fars held in
-      after_front (Some l) c es t front
-      (put_so w q p ys l stand g (answers.LinkEnded losses.FieldLost) m es now (queue_after q es) None stores.more stores.adds
-      (places_behind w q p ys (Some l) stand g None c es p.numbers refl many refl) accepted (λ k e. absurd cc))
-  front_by None (Get most key) es t stand front stores =
-      quietly w q p ys None stand g None (Get most key) es t front (nothing_sent (begun (from None) g.joins (Get most key)) es front.turns front.each)
-      (no_link (from None) (state_after (from None) g.joins (Get most key) [] None) (cut_stretch (Get most key) g.joins es) ys refl refl refl stand.places stand.stand)
-  front_by (Some l) (Get most key) es t stand front stores =
-      after_front (Some l) (Get most key) es t front
-      (called w q p ys l stand g None (Get most key) es None refl refl refl refl
-      (same_held (world_after (from (Some l)) g.joins (Get most key) es) w (ends_stay (from (Some l)) l stores.more stores.adds _ _ stores.ends)) refl (λ m e. absurd cc))
-  front_by None (Lookup name) es t stand front stores =
-      quietly w q p ys None stand g None (Lookup name) es t front (nothing_sent (begun (from None) g.joins (Lookup name)) es front.turns front.each)
-      (no_link (from None) (state_after (from None) g.joins (Lookup name) [] None) (cut_stretch (Lookup name) g.joins es) ys refl refl refl stand.places stand.stand)
-  front_by (Some l) (Lookup name) es t stand front stores =
-      after_front (Some l) (Lookup name) es t front
-      (called w q p ys l stand g None (Lookup name) es None refl refl refl refl
-      (same_held (world_after (from (Some l)) g.joins (Lookup name) es) w (ends_stay (from (Some l)) l stores.more stores.adds _ _ stores.ends)) refl (λ m e. absurd cc))
-  front_by None Unlink es t stand front stores =
-      quietly w q p ys None stand g None Unlink es t front (nothing_sent (begun (from None) g.joins Unlink) es front.turns front.each)
-      (no_link (from None) (state_after (from None) g.joins Unlink [] None) (cut_stretch Unlink g.joins es) ys refl refl refl stand.places stand.stand)
-  front_by (Some l) Unlink es t stand front stores =
-      after_front (Some l) Unlink es t front
-      (called w q p ys l stand g None Unlink es None refl refl refl refl
-      (same_held (world_after (from (Some l)) g.joins Unlink es) w (ends_stay (from (Some l)) l stores.more stores.adds _ _ stores.ends)) refl (λ m e. absurd cc))
+  front_by o (Put m) es t stand front stores = talk_by o (Does (put_from 0 (message_of m))) (Put m) refl es t stand front stores
+  front_by o (Get most key) es t stand front stores = talk_by o (Does (Getting client_sap most key)) (Get most key) refl es t stand front stores
+  front_by o (Lookup name) es t stand front stores = talk_by o (Does (Finding name)) (Lookup name) refl es t stand front stores
+  front_by o (OnPut slot m) es t stand front stores = talk_by o (Does (put_from slot (message_of m))) (OnPut slot m) refl es t stand front stores
+  front_by o (OnGet slot most key) es t stand front stores = talk_by o (Does (Getting (sap_of_slot slot) most key)) (OnGet slot most key) refl es t stand front stores
+  front_by o (Puts puts) es t stand front stores = talk_by o (Does (Putting (slot_messages puts))) (Puts puts) refl es t stand front stores
+  front_by o Unlink es t stand front stores = talk_by o Closes Unlink refl es t stand front stores
   front_by o c es t stand front stores = absurd stores
 
 -- The peer's end stopped.
@@ -129,43 +108,23 @@ module _ (w : WholeWorld) (q : List Fate) (p : Peers) (ys : List Story) (g : Giv
   abbrev halts_so : Command → State → Type 0
   halts_so c u = Stand u (stories_behind on (record { command = c; joins = g.joins; events = es; told = None }) u ys)
 
-  both_held : AreHeld p.numbers (map held w.fars)
-  both_held = (base_held (view_of on) (Some l) ys stand.stand).0
-
   left_is : (c : Command) → HaltLeaves on c l t → halts_so c (left (ended (Some l) t.world.fars p) None) → halts_so c t
   left_is c h steps =
       let is : left t.peers t.link ≡ left (ended (Some l) t.world.fars p) None = ap (λ ps. left ps t.link) h.peers ∙ ap (left (ended (Some l) t.world.fars p)) h.link in
       subst (halts_so c) (sym is) steps
 
-  accepted_there : (c : Command) (h : HaltLeaves on c l t) → map held t.world.fars ≡ with_held h.more l.peer p.numbers (map held w.fars)
-  accepted_there c h = more_held t.world w h.more l.peer p.numbers h.ends
-
-  places_there : (c : Command) (h : HaltLeaves on c l t) → HavePlaces t.world.field.listeners p.numbers t.world.fars
-  places_there c h =
-      let many : length t.world.fars ≡ length w.fars =
-      sym (length-map t.world.fars held) ∙ ap length (accepted_there c h) ∙ as_many_with h.more l.peer p.numbers (map held w.fars) both_held ∙ length-map w.fars held in
-      places_stay w.field.listeners t.world.field.listeners p.numbers p.numbers w.fars t.world.fars (kept_all_stay w.field.listeners t.world.field.listeners h.talk.2.same) many refl stand.places
-
-  nothing_more : (c : Command) (h : HaltLeaves on c l t) → h.more ≡ [] → map held t.world.fars ≡ map held w.fars
-  nothing_more c h none =
-      accepted_there c h ∙ ap (λ more. with_held more l.peer p.numbers (map held w.fars)) none ∙ held_none_more l.peer p.numbers (map held w.fars) both_held
-
-  halts_by : (c : Command) → IsOnLink c → HaltLeaves on c l t → halts_so c t
-  halts_by (Put m) talks h =
-      left_is (Put m) h
-      (put_so w q p ys l stand g (answers.LinkEnded losses.FieldLost) m es t.world t.queue None h.more h.adds (places_there (Put m) h) (accepted_there (Put m) h) (λ k e. absurd cc))
-  halts_by (Get most key) talks h =
-      let c : Command = Get most key in
-      left_is c h
-      (called_so w q p ys l stand g None c es t.world t.queue None refl refl refl (places_there c h) (nothing_more c h (of_any (end_of on l) h.adds)) (λ m e. absurd cc))
-  halts_by (Lookup name) talks h =
-      let c : Command = Lookup name in
-      left_is c h
-      (called_so w q p ys l stand g None c es t.world t.queue None refl refl refl (places_there c h) (nothing_more c h (of_any (end_of on l) h.adds)) (λ m e. absurd cc))
-  halts_by Unlink talks h =
-      left_is Unlink h
-      (called_so w q p ys l stand g None Unlink es t.world t.queue None refl refl refl (places_there Unlink h) (nothing_more Unlink h (of_any (end_of on l) h.adds)) (λ m e. absurd cc))
-  halts_by c talks h = off talks
+  halts_by : (c : Command) → IsOnLink c → Accepts on c → HaltLeaves on c l t → halts_so c t
+  halts_by c talks may h = by (asked_on_link c) refl talks
+    where
+      by : (o : Option LinkAsking) → asked_on_link c ≡ o → IsSome o → halts_so c t
+      by None e some = off some
+      by (Some asked) e some =
+          let adds : OfEnd (λ end. PeerMayAdd asked end h.more) (end_of on l) = subst (λ o. OfEnd (λ end. HaltAdded o end h.more) (end_of on l)) e h.adds in
+          let accepted : map held t.world.fars ≡ with_held h.more l.peer p.numbers (map held w.fars) = more_held t.world w h.more l.peer p.numbers h.ends in
+          let many : length t.world.fars ≡ length w.fars = as_many_talked w q p ys l stand g None c asked e may es h.more adds t.world accepted in
+          let places : HavePlaces t.world.field.listeners p.numbers t.world.fars =
+          places_stay w.field.listeners t.world.field.listeners p.numbers p.numbers w.fars t.world.fars (kept_all_stay w.field.listeners t.world.field.listeners h.talk.2.same) many refl stand.places in
+          left_is c h (talk_so w q p ys l stand g None c asked e may es h.more adds t.world t.queue None places accepted (λ k e. absurd cc))
 
 module _ (s t : State) (joins : Joins) (c : Command) (cut : List Event) (ys : List Story) (stand : Stand s ys) where
   abbrev pub CutStand : Type 0
@@ -180,7 +139,8 @@ module _ (s t : State) (joins : Joins) (c : Command) (cut : List Event) (ys : Li
       let S : Option OpenLink → State = λ o. record { world = s.world; queue = s.queue; peers = s.peers; link = o } in
       let at : Stand (S (Some h.on)) ys = subst (λ o. Stand (S o) ys) h.open_ stand in
       let leaves : HaltLeaves (S (Some h.on)) c h.on t = subst (λ o. HaltLeaves (S o) c h.on t) h.open_ h.leaves in
-      let steps = halts_by s.world s.queue s.peers ys h.given h.on at cut t c h.on_link leaves in
+      let may : Accepts (S (Some h.on)) c = subst (λ o. Accepts (S o) c) h.open_ h.front.accepted in
+      let steps = halts_by s.world s.queue s.peers ys h.given h.on at cut t c h.on_link may leaves in
       let back : Stand t (stories_behind s (cut_stretch c h.given.joins cut) t ys) = subst (λ o. Stand t (stories_behind (S o) (cut_stretch c h.given.joins cut) t ys)) (sym h.open_) steps in
       subst (λ j. Stand t (stories_behind s (cut_stretch c j cut) t ys)) h.joined back
 

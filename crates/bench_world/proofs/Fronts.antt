@@ -21,7 +21,7 @@ use Rattle.peer_air.specs.PeerFars.{peer_ends}
 use Rattle.peer_air.proofs.PeerEnds.{are_far_ends}
 use Rattle.snep_core.specs.Server.{serving}
 use Rattle.bench_script.specs.declared.command.Command.{Command}
-use Rattle.bench_script.specs.declared.command.Command.TheVariants.{Find, Crowd, Poll3, Read, Read3, Write, Write3, Link, Forge, Put, Get, Lookup, Unlink}
+use Rattle.bench_script.specs.declared.command.Command.TheVariants.{Find, Crowd, Poll3, Read, Read3, Write, Write3, Link, Forge, Put, Get, Lookup, Unlink, OnPut, OnGet, Puts}
 use Rattle.bench_script.specs.declared.command.DeviceId.{DeviceId}
 use Rattle.bench_script.specs.declared.command.DeviceId.TheVariants.{A, V}
 use Rattle.bench_script.specs.DeviceIds.{bytes_of}
@@ -119,6 +119,9 @@ calm_due s g (Forge id payloads) es quiet asked each = absurd (quiet tt)
 calm_due s g (Put m) es quiet asked each = absurd (quiet tt)
 calm_due s g (Get most key) es quiet asked each = absurd (quiet tt)
 calm_due s g (Lookup name) es quiet asked each = absurd (quiet tt)
+calm_due s g (OnPut slot m) es quiet asked each = absurd (quiet tt)
+calm_due s g (OnGet slot most key) es quiet asked each = absurd (quiet tt)
+calm_due s g (Puts puts) es quiet asked each = absurd (quiet tt)
 calm_due s g Unlink es quiet asked each = absurd (quiet tt)
 calm_due s g c es quiet asked each = nothing_due es [] each
 
@@ -138,6 +141,9 @@ begins_lit s g (Forge id payloads) quiet = absurd (quiet tt)
 begins_lit s g (Put m) quiet = absurd (quiet tt)
 begins_lit s g (Get most key) quiet = absurd (quiet tt)
 begins_lit s g (Lookup name) quiet = absurd (quiet tt)
+begins_lit s g (OnPut slot m) quiet = absurd (quiet tt)
+begins_lit s g (OnGet slot most key) quiet = absurd (quiet tt)
+begins_lit s g (Puts puts) quiet = absurd (quiet tt)
 begins_lit s g Unlink quiet = absurd (quiet tt)
 begins_lit s g c quiet = inl refl
 
@@ -188,6 +194,9 @@ same_peers s joins (Forge id payloads) es told quiet = absurd (quiet tt)
 same_peers s joins (Put m) es told quiet = absurd (quiet tt)
 same_peers s joins (Get most key) es told quiet = absurd (quiet tt)
 same_peers s joins (Lookup name) es told quiet = absurd (quiet tt)
+same_peers s joins (OnPut slot m) es told quiet = absurd (quiet tt)
+same_peers s joins (OnGet slot most key) es told quiet = absurd (quiet tt)
+same_peers s joins (Puts puts) es told quiet = absurd (quiet tt)
 same_peers s joins Unlink es told quiet = absurd (quiet tt)
 same_peers s joins c es told quiet = refl
 
@@ -197,6 +206,9 @@ same_link s joins (Forge id payloads) es told quiet = absurd (quiet tt)
 same_link s joins (Put m) es told quiet = absurd (quiet tt)
 same_link s joins (Get most key) es told quiet = absurd (quiet tt)
 same_link s joins (Lookup name) es told quiet = absurd (quiet tt)
+same_link s joins (OnPut slot m) es told quiet = absurd (quiet tt)
+same_link s joins (OnGet slot most key) es told quiet = absurd (quiet tt)
+same_link s joins (Puts puts) es told quiet = absurd (quiet tt)
 same_link s joins Unlink es told quiet = absurd (quiet tt)
 same_link s joins c es told quiet = refl
 

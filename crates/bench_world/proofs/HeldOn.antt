@@ -12,7 +12,8 @@ use Rattle.air_core.specs.Conversation.{Note, Over, LightUp, Asks, AreTurns, Eac
 use Rattle.air_core.proofs.Following.{trace_first}
 use Rattle.t5t_tag.proofs.Bytes.{equal_bytes}
 use Rattle.bench_script.specs.declared.command.Command.{Command}
-use Rattle.bench_script.specs.declared.command.Command.TheVariants.{Skip, Fates, PlaceT2, PlaceT3, PlaceT4, PlaceT5, PlacePeer, Lock, Busy, Offer, Remove, Dump, Inbox, Find, Crowd, Poll3, Read, Read3, Write, Write3, Link, Forge, Put, Get, Lookup, Unlink}
+use Rattle.bench_script.specs.declared.command.Command.TheVariants as commands
+use Rattle.bench_script.specs.declared.command.Command.TheVariants.{Skip, Fates, PlaceT2, PlaceT3, PlaceT4, PlaceT5, PlacePeer, Lock, Busy, Offer, Remove, Dump, Inbox, Find, Crowd, Poll3, Read, Read3, Write, Write3, Link, Forge, Raw, Put, Get, Lookup, OnPut, OnGet, Unlink}
 use Rattle.bench_script.specs.declared.command.DeviceId.{DeviceId}
 use Rattle.bench_script.specs.DeviceIds.{bytes_of}
 use Rattle.bench_devices.specs.declared.device.Device.{Device}
@@ -24,10 +25,10 @@ use Rattle.bench_world.specs.declared.entry.Entry.{Entry}
 use Rattle.bench_world.specs.World.{WholeWorld, bench_air, Stable, stable}
 use Rattle.bench_world.specs.Legal.{State, Given, AnswerLaw, ReadLaw, FindLaw, CrowdLaw, SenseLaw, Read3Law, WritingLaw, Writing3Law, LinkingLaw, CallLaw, AnswerBy, LegalStep, EachLegal, begun, changed, due, due_by, world_after, state_after}
 use Rattle.bench_world.specs.Behind.{Touches, LeaveAlone}
-use Rattle.snep_core.specs.Talk.{Puts, Gets, Finds}
+use Rattle.snep_core.specs.Talk.{client_sap, sap_of_slot}
 use Rattle.bench_script.specs.Messages.{message_of}
-use Rattle.link_calls.specs.Asking.{LinkAsking, Does, Closes}
-use Rattle.bench_world.specs.Asked.{asked_on_link}
+use Rattle.link_calls.specs.Asking.{LinkAsking, Does, Closes, Finding, Getting, put_from, Putting}
+use Rattle.bench_world.specs.Asked.{asked_on_link, slot_messages}
 use Rattle.bench_world.specs.Calls.{IfLinked, due_asked, due_if}
 use Rattle.bench_world.specs.Links.{OpenLink}
 use Rattle.bench_world.proofs.FarStays.{far_stay}
@@ -280,9 +281,13 @@ module _ (id : DeviceId) (s t : State) (g : Given) (e : Entry) (d : Device) (ste
   by_command (Forge i payloads) is alone =
       let law : ForgeLaw s g.joins i payloads e.events e.answer = law_of (Forge i payloads) is in
       asking_step (Forge i payloads) is refl (forge_devices (opens_link i payloads e.events) s g.joins i payloads e.events law.leaves)
-  by_command (Put m) is alone = talk_step (Does (Puts (message_of m))) (Put m) is refl (law_of (Put m) is)
-  by_command (Get most key) is alone = talk_step (Does (Gets most key)) (Get most key) is refl (law_of (Get most key) is)
-  by_command (Lookup name) is alone = talk_step (Does (Finds name)) (Lookup name) is refl (law_of (Lookup name) is)
+  by_command (Raw i frames) is alone = absurd (law_of (Raw i frames) is)
+  by_command (Put m) is alone = talk_step (Does (put_from 0 (message_of m))) (Put m) is refl (law_of (Put m) is)
+  by_command (Get most key) is alone = talk_step (Does (Getting client_sap most key)) (Get most key) is refl (law_of (Get most key) is)
+  by_command (Lookup name) is alone = talk_step (Does (Finding name)) (Lookup name) is refl (law_of (Lookup name) is)
+  by_command (OnPut slot m) is alone = talk_step (Does (put_from slot (message_of m))) (OnPut slot m) is refl (law_of (OnPut slot m) is)
+  by_command (OnGet slot most key) is alone = talk_step (Does (Getting (sap_of_slot slot) most key)) (OnGet slot most key) is refl (law_of (OnGet slot most key) is)
+  by_command (commands.Puts puts) is alone = talk_step (Does (Putting (slot_messages puts))) (commands.Puts puts) is refl (law_of (commands.Puts puts) is)
   by_command Unlink is alone = talk_step Closes Unlink is refl (law_of Unlink is)
 
   pub step_alike : (Touches id e.command → ⊥) → IsAlike (bytes_of id) d t.world.field.listeners

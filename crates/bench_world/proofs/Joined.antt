@@ -3,9 +3,6 @@ use Rattle.std.proofs.Common.{◌≡◌, ℕ, ◌*◌, ◌/◌, ◌%◌, ◌<◌
 use Rattle.std.specs.Prelude.{slice_index, min}
 use Rattle.std.specs.List.{flat_map}
 use Rattle.std.proofs.lemmas.List.{take-append-drop, length-append}
-use Rattle.bench_world.specs.declared.entry.Received.{Received}
-use Rattle.bench_world.specs.declared.entry.Seen.{Seen}
-use Rattle.bench_world.specs.Report.{seen_text, received_text, reply_text, tag_text}
 use Rattle.hex.specs.Hex.{encode_with, encode_upper, upper_digits}
 use Rattle.bench_script.specs.Canonical.{hex_text}
 
@@ -70,79 +67,33 @@ pub some_digits : (bytes front piece : List ℕ) → length piece ≡ 2 * length
 some_digits [] front piece size is some = absurd (some refl)
 some_digits (b ∷ bytes) front piece size is some = omega (arith, size, is)
 
--- a device is a piece
-pub device_piece : (head bytes tail piece : List ℕ) (devices ds : List Seen) (d : Seen) → head ≡ [] → bytes ≡ [] → devices ≡ d ∷ ds → piece ≡ seen_text d
-    → head ++ (encode_upper bytes ++ (flat_map seen_text devices ++ tail)) ≡ piece ++ (head ++ (encode_upper bytes ++ (flat_map seen_text ds ++ tail)))
-device_piece head bytes tail piece devices ds d none few parts is =
-    nothing_before head bytes (flat_map seen_text devices ++ tail) none few
-    ∙ ap (λ x. flat_map seen_text x ++ tail) parts ∙ append_assoc (seen_text d) (flat_map seen_text ds) tail
-    ∙ ap (λ x. x ++ (flat_map seen_text ds ++ tail)) (sym is)
-    ∙ ap (λ x. piece ++ x) (sym (nothing_before head bytes (flat_map seen_text ds ++ tail) none few))
-
--- what is left behind the devices
-pub behind_devices : (head bytes rest : List ℕ) (devices : List Seen) → head ≡ [] → bytes ≡ [] → devices ≡ [] → head ++ (encode_upper bytes ++ (flat_map seen_text devices ++ rest)) ≡ rest
-behind_devices head bytes rest devices none few gone =
-    nothing_before head bytes (flat_map seen_text devices ++ rest) none few ∙ ap (λ x. flat_map seen_text x ++ rest) gone
-
--- a message's origin is a piece, and its digits come next
-pub message_piece : (head bytes message tail piece : List ℕ) (devices : List Seen) (messages rs : List Received) (r : Received) → head ≡ [] → bytes ≡ [] → devices ≡ [] → messages ≡ r ∷ rs → received_text r ≡ piece ++ encode_upper message
-    → head ++ (encode_upper bytes ++ (flat_map seen_text devices ++ (flat_map received_text messages ++ tail)))
-    ≡ piece ++ (head ++ (encode_upper message ++ (flat_map seen_text devices ++ (flat_map received_text rs ++ tail))))
-message_piece head bytes message tail piece devices messages rs r none few gone parts is =
-    let rest : List ℕ = flat_map received_text rs ++ tail in
-    behind_devices head bytes (flat_map received_text messages ++ tail) devices none few gone
-    ∙ ap (λ x. flat_map received_text x ++ tail) parts ∙ append_assoc (received_text r) (flat_map received_text rs) tail
-    ∙ ap (λ x. x ++ rest) is ∙ append_assoc piece (encode_upper message) rest
-    ∙ ap (λ x. piece ++ (encode_upper message ++ (flat_map seen_text x ++ rest))) (sym gone)
-    ∙ ap (λ x. piece ++ (x ++ (encode_upper message ++ (flat_map seen_text devices ++ rest)))) (sym none)
+-- what is listed, behind a head and digits of which none are left
+pub listed_piece : (head bytes listed tail piece more after : List ℕ) → head ≡ [] → bytes ≡ [] → listed ≡ piece ++ (encode_upper more ++ after)
+    → head ++ (encode_upper bytes ++ (listed ++ tail)) ≡ piece ++ (head ++ (encode_upper more ++ (after ++ tail)))
+listed_piece head bytes listed tail piece more after none few is =
+    nothing_before head bytes (listed ++ tail) none few ∙ ap (λ x. x ++ tail) is ∙ append_assoc piece (encode_upper more ++ after) tail
+    ∙ ap (λ x. piece ++ x) (append_assoc (encode_upper more) after tail)
+    ∙ ap (λ x. piece ++ (x ++ (encode_upper more ++ (after ++ tail)))) (sym none)
 
 -- what is left at last
-pub last_left : (head bytes tail : List ℕ) (devices : List Seen) (messages : List Received) → head ≡ [] → bytes ≡ [] → devices ≡ [] → messages ≡ []
-    → head ++ (encode_upper bytes ++ (flat_map seen_text devices ++ (flat_map received_text messages ++ tail))) ≡ tail
-last_left head bytes tail devices messages none few gone read =
-    behind_devices head bytes (flat_map received_text messages ++ tail) devices none few gone ∙ ap (λ x. flat_map received_text x ++ tail) read
+pub last_left : (head bytes listed tail : List ℕ) → head ≡ [] → bytes ≡ [] → listed ≡ [] → head ++ (encode_upper bytes ++ (listed ++ tail)) ≡ tail
+last_left head bytes listed tail none few gone = nothing_before head bytes (listed ++ tail) none few ∙ ap (λ x. x ++ tail) gone
 
-pub tail_piece : (head bytes tail piece after : List ℕ) (devices : List Seen) (messages : List Received) → head ≡ [] → bytes ≡ [] → devices ≡ [] → messages ≡ [] → piece ≡ tail → after ≡ []
-    → head ++ (encode_upper bytes ++ (flat_map seen_text devices ++ (flat_map received_text messages ++ tail)))
-    ≡ piece ++ (head ++ (encode_upper bytes ++ (flat_map seen_text devices ++ (flat_map received_text messages ++ after))))
-tail_piece head bytes tail piece after devices messages none few gone read is over =
-    last_left head bytes tail devices messages none few gone read ∙ sym is ∙ sym (append-nil piece)
-    ∙ ap (λ x. piece ++ x) (sym (last_left head bytes after devices messages none few gone read ∙ over))
+pub tail_piece : (head bytes listed left tail piece after : List ℕ) → head ≡ [] → bytes ≡ [] → listed ≡ [] → left ≡ [] → piece ≡ tail → after ≡ []
+    → head ++ (encode_upper bytes ++ (listed ++ tail)) ≡ piece ++ (head ++ (encode_upper bytes ++ (left ++ after)))
+tail_piece head bytes listed left tail piece after none few gone still is over =
+    last_left head bytes listed tail none few gone ∙ sym is ∙ sym (append-nil piece) ∙ ap (λ x. piece ++ x) (sym (last_left head bytes left after none few still ∙ over))
 
--- a Type 5 tag is a piece
-pub tag_piece : (head bytes tail piece : List ℕ) (devices : List Seen) (messages : List Received) (tags ts : List (List ℕ)) (t : List ℕ) → head ≡ [] → bytes ≡ [] → devices ≡ [] → messages ≡ [] → tags ≡ t ∷ ts → piece ≡ tag_text t
-    → head ++ (encode_upper bytes ++ (flat_map seen_text devices ++ (flat_map received_text messages ++ (flat_map tag_text tags ++ tail))))
-    ≡ piece ++ (head ++ (encode_upper bytes ++ (flat_map seen_text devices ++ (flat_map received_text messages ++ (flat_map tag_text ts ++ tail)))))
-tag_piece head bytes tail piece devices messages tags ts t none few gone read parts is =
-    last_left head bytes (flat_map tag_text tags ++ tail) devices messages none few gone read
-    ∙ ap (λ x. flat_map tag_text x ++ tail) parts ∙ append_assoc (tag_text t) (flat_map tag_text ts) tail
-    ∙ ap (λ x. x ++ (flat_map tag_text ts ++ tail)) (sym is)
-    ∙ ap (λ x. piece ++ x) (sym (last_left head bytes (flat_map tag_text ts ++ tail) devices messages none few gone read))
+-- an item of a list is a piece with its digits
+pub item_listed : {T : Type 0} (text : T → List ℕ) (all rest : List T) (x : T) (piece more : List ℕ) → all ≡ x ∷ rest → text x ≡ piece ++ encode_upper more
+    → flat_map text all ≡ piece ++ (encode_upper more ++ flat_map text rest)
+item_listed text all rest x piece more split is =
+    ap (flat_map text) split ∙ ap (λ t. t ++ flat_map text rest) is ∙ append_assoc piece (encode_upper more) (flat_map text rest)
 
--- what is left behind the tags
-pub behind_tags : (tail : List ℕ) (tags : List (List ℕ)) → tags ≡ [] → flat_map tag_text tags ++ tail ≡ tail
-behind_tags tail tags gone = ap (λ x. flat_map tag_text x ++ tail) gone
-
--- and behind the replies
-pub behind_replies : (tail : List ℕ) (replies : List (List ℕ)) → replies ≡ [] → flat_map reply_text replies ++ tail ≡ tail
-behind_replies tail replies gone = ap (λ x. flat_map reply_text x ++ tail) gone
-
--- a reply's sign is a piece, and its digits come next
-pub reply_piece : (head bytes reply tail piece : List ℕ) (devices : List Seen) (messages : List Received) (tags replies rs : List (List ℕ)) (r : List ℕ) → head ≡ [] → bytes ≡ [] → devices ≡ [] → messages ≡ [] → tags ≡ []
-    → replies ≡ r ∷ rs → reply_text r ≡ piece ++ encode_upper reply
-    → head ++ (encode_upper bytes ++ (flat_map seen_text devices ++ (flat_map received_text messages ++ (flat_map tag_text tags ++ (flat_map reply_text replies ++ tail)))))
-    ≡ piece ++ (head ++ (encode_upper reply ++ (flat_map seen_text devices ++ (flat_map received_text messages ++ (flat_map tag_text tags ++ (flat_map reply_text rs ++ tail))))))
-reply_piece head bytes reply tail piece devices messages tags replies rs r none few gone read found parts is =
-    let rest : List ℕ = flat_map reply_text rs ++ tail in
-    let shown : flat_map seen_text devices ++ (flat_map received_text messages ++ (flat_map tag_text tags ++ rest)) ≡ rest =
-    ap (λ x. flat_map seen_text x ++ (flat_map received_text messages ++ (flat_map tag_text tags ++ rest))) gone
-    ∙ ap (λ x. flat_map received_text x ++ (flat_map tag_text tags ++ rest)) read ∙ behind_tags rest tags found in
-    last_left head bytes (flat_map tag_text tags ++ (flat_map reply_text replies ++ tail)) devices messages none few gone read
-    ∙ behind_tags (flat_map reply_text replies ++ tail) tags found
-    ∙ ap (λ x. flat_map reply_text x ++ tail) parts ∙ append_assoc (reply_text r) (flat_map reply_text rs) tail
-    ∙ ap (λ x. x ++ rest) is ∙ append_assoc piece (encode_upper reply) rest
-    ∙ ap (λ x. piece ++ (encode_upper reply ++ x)) (sym shown)
-    ∙ ap (λ x. piece ++ (x ++ (encode_upper reply ++ (flat_map seen_text devices ++ (flat_map received_text messages ++ (flat_map tag_text tags ++ rest)))))) (sym none)
+pub bare_listed : {T : Type 0} (text : T → List ℕ) (all rest : List T) (x : T) (piece more : List ℕ) → all ≡ x ∷ rest → piece ≡ text x → more ≡ []
+    → flat_map text all ≡ piece ++ (encode_upper more ++ flat_map text rest)
+bare_listed text all rest x piece more split is none =
+    item_listed text all rest x piece more split (sym is ∙ sym (append-nil piece) ∙ ap (λ t. piece ++ t) (sym (ap encode_upper none ∙ upper_nil)))
 
 pub less_left : (old piece new : List ℕ) → old ≡ piece ++ new → 0 < length piece → length new < length old
 less_left old piece new is some = omega (arith, some, ap length is, length-append piece new)

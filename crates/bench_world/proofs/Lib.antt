@@ -64,11 +64,13 @@ pub mod CallCalm
 pub mod ReleaseCalm
 pub mod CallEnds
 pub mod Talks
+pub mod Saying
 pub mod Talking
 pub mod Chosen
 pub mod LinkOver
 pub mod OnClosing
 pub mod CloseOver
+pub mod SlotsTold
 pub mod TalkOver
 pub mod Names
 pub mod CountedOn
@@ -83,6 +85,7 @@ pub mod StoriesStand
 pub mod StoriesHere
 pub mod StoriesStep
 pub mod StoriesOnLink
+pub mod Talked
 pub mod ForgeLeft
 pub mod WalkNotes
 pub mod ForgeNotes
@@ -100,3 +103,4 @@ pub mod Unfinished
 pub mod CutArrivals
 pub mod CutLinks
 pub mod PeersNumbered
+pub mod Gained

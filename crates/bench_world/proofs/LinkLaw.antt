@@ -4,16 +4,16 @@ use Rattle.std.specs.List.{AllByRecursion}
 use Rattle.std.proofs.lemmas.List.{append-nil, append_assoc, length-append, length-map, map-append}
 use Rattle.nfc_base.specs.declared.event.Event.{Event}
 use Rattle.nfc_base.specs.declared.event.Fate.{Fate}
-use Rattle.air_core.specs.Conversation.{queue_after}
+use Rattle.air_core.specs.Conversation.{queue_after, Over, replay}
 use Rattle.llcp_link.specs.State.{restarted}
 use Rattle.snep_core.specs.Server.{Received as Accepted, serving}
-use Rattle.snep_core.specs.Talk.{Puts, Gets, Finds}
+use Rattle.snep_core.specs.Talk.{client_sap, sap_of_slot}
 use Rattle.bench_script.specs.declared.command.Command.{Command}
-use Rattle.bench_script.specs.declared.command.Command.TheVariants.{Skip, Fates, PlaceT2, PlaceT3, PlaceT4, PlaceT5, PlacePeer, Lock, Busy, Offer, Remove, Dump, Inbox, Find, Crowd, Poll3, Read, Read3, Write, Write3, Link, Forge, Put, Get, Lookup, Unlink}
+use Rattle.bench_script.specs.declared.command.Command.TheVariants as commands
+use Rattle.bench_script.specs.declared.command.Command.TheVariants.{Skip, Fates, PlaceT2, PlaceT3, PlaceT4, PlaceT5, PlacePeer, Lock, Busy, Offer, Remove, Dump, Inbox, Find, Crowd, Poll3, Read, Read3, Write, Write3, Link, Forge, Raw, Put, Get, Lookup, OnPut, OnGet, Unlink}
 use Rattle.bench_script.specs.declared.command.DeviceId.{DeviceId}
 use Rattle.bench_script.specs.DeviceIds.{bytes_of}
 use Rattle.bench_script.specs.Messages.{message_of}
-use Rattle.bench_script.specs.declared.message.Msg.{Msg}
 use Rattle.bench_devices.specs.declared.device.Device.{Device}
 use Rattle.bench_devices.specs.Device.{device_locked, device_busy}
 use Rattle.bench_devices.specs.Keeping.{AllStayDevices}
@@ -22,27 +22,33 @@ use Rattle.bench_world.specs.declared.entry.Answer.{Answer}
 use Rattle.bench_world.specs.declared.entry.Answer.TheVariants as answers
 use Rattle.bench_world.specs.declared.entry.Entry.{Entry}
 use Rattle.bench_world.specs.declared.inbox.LinkRange.{LinkRange}
-use Rattle.bench_world.specs.World.{FarEnd, WholeWorld, Stable, stable}
+use Rattle.bench_world.specs.World.{FarEnd, WholeWorld, Stable, bench_air, stable}
 use Rattle.bench_world.specs.Forging.{forged_general, opens_link}
-use Rattle.link_calls.specs.CallDue.{CallStanding}
-use Rattle.bench_world.specs.declared.entry.Loss.{Loss}
-use Rattle.link_calls.specs.Asking.{Does}
-use Rattle.bench_world.specs.Calls.{OfEnd, PutAdds, link_behind, stands_on, told_call, with_accepted}
+use Rattle.link_calls.specs.Asking.{LinkAsking, Does, Closes, Finding, Getting, put_from, Putting}
+use Rattle.bench_world.specs.Calls.{AllAdd, OfEnd, asked_behind, told_asked, with_accepted}
 use Rattle.bench_world.specs.Inbox.{inbox_at, inbox_of}
-use Rattle.bench_world.specs.Legal.{State, Given, Joins, Accepts, IsPeerPlaced, AnswerLaw, CallLaw, ForgeLeaves, FrontOf, LegalStep, EachLegal, begun, changed, end_of, first_state, inbox_now, peers_forged, world_after, state_after}
+use Rattle.bench_world.specs.Legal.{State, Given, Joins, Accepts, IsPeerPlaced, AnswerBy, AnswerLaw, ForgeLeaves, FrontOf, LegalStep, EachLegal, begun, changed, due, due_by, end_of, first_state, inbox_now, link_after, link_left, peers_after, peers_forged, peers_left, world_after, state_after}
 use Rattle.bench_world.specs.Linking.{LinkTells, link_if, own_general}
 use Rattle.bench_world.specs.LinkLaw.{AreCounted, KeepsLinkLaw, LinksAccept, LinkLaw, TellsInbox, by_link, numbers_by_link, opener_of, openers_in, told_by_stories, told_link, told_links, peer_under}
 use Rattle.bench_world.specs.Links.{OpenLink, end_numbered, ended, ended_unless, is_with, with_link_if, with_link_within}
 use Rattle.bench_world.specs.Peers.{Peers, new_end, next_number, placed_under}
 use Rattle.bench_world.specs.Stories.{Opener, ByForge, ByLink, Story, Stretch, Beginning, BeginsAndEnds, NothingBegins, beginning, begun_by, first_of, new_story, story_if, story_within, whole_of, last_goes_on, open_goes_on, puts_in, state_from, stretch_of, stories_of}
-use Rattle.bench_world.proofs.Talks.{ends_stay}
+use Rattle.bench_world.proofs.Talks.{on_link, still_on}
 use Rattle.bench_world.proofs.AtNumbers.{AreHeld, Held, held, held_at, at_number, held_offered, held_under, at_own_place, more_held, same_held, with_held}
 use Rattle.bench_world.proofs.FarStays.{far_stay}
 use Rattle.bench_world.proofs.HeldOn.{nothing_sent}
 use Rattle.bench_world.proofs.PayloadsKept.{steps_kept, unless_numbers}
 use Rattle.bench_world.proofs.PeersNumbered.{HavePlaces, busy_kind, locked_kind, number_under, places_changed, places_more, places_stay}
-use Rattle.bench_world.proofs.StoriesHere.{PlacesOf, Stand, StandBy, ended_closed, open_stands, view_at, view_of}
-use Rattle.bench_world.proofs.StoriesOnLink.{call_over, came_to_end, link_begins, linked_number, linked_peer, put_over, same_opened}
+use Rattle.snep_core.specs.Links.{Told}
+use Rattle.link_calls.specs.declared.request.SlotMessage.{SlotMessage}
+use Rattle.far_air.specs.FarWorld.{with_numbers}
+use Rattle.air_core.specs.Turning.{due_weaker}
+use Rattle.bench_world.specs.Asked.{asked_on_link, slot_messages}
+use Rattle.bench_world.proofs.CompleteLinks.{over_end}
+use Rattle.bench_world.proofs.PutsTold.{AreTold}
+use Rattle.bench_world.proofs.Talked.{AddsBy, adds_all, apart_of, none_behind, puts_asked, talk_begins}
+use Rattle.bench_world.proofs.StoriesHere.{PlacesOf, Stand, StandBy, ended_closed, view_at, view_of}
+use Rattle.bench_world.proofs.StoriesOnLink.{call_over, left_open, link_begins, linked_number, linked_peer, messages_of, talk_over, tolds_of}
 use Rattle.bench_world.proofs.StoriesStand.{View, at, Closed, Opened, Open, IsInStep, closed_keep, closed_told, open_keep, open_told}
 use Rattle.bench_world.proofs.StoriesStep.{as_many_held, as_many_offered, as_many_with, base_held, many_numbers, no_link, own_below, peer_more, peer_stands, removed_stands, same_link, same_peer, same_tag, tag_more, tag_stands}
 use Rattle.bench_world.proofs.StoriesWithin.{within_stands}
@@ -223,72 +229,78 @@ module _ (w : WholeWorld) (q : List Fate) (p : Peers) (ys : List Story) (l : Ope
   abbrev pub called_then : WholeWorld → List Fate → Option OpenLink → State
   called_then now queue left = record { world = now; queue = queue; peers = ended_unless left (Some l) now.fars p; link = left }
 
-  -- one that puts nothing
-  pub called_so : (c : Command) (es : List Event) (now : WholeWorld) (queue : List Fate) (left : Option OpenLink) → (changed on c).link ≡ Some l → puts_in c told ≡ [] → beginning c es told ≡ NothingBegins
-      → HavePlaces now.field.listeners p.numbers now.fars → map held now.fars ≡ map held w.fars → ((m : OpenLink) → left ≡ Some m → m.peer ≡ l.peer) → Goes c es (called_then now queue left)
-  called_so c es now queue left still puts begins places same peer =
+  open_held : AreHeld p.numbers (map held w.fars)
+  open_held = (base_held (view_of on) (Some l) ys stand.stand).0
+
+  -- What a command on the link added, whatever it asks.
+  module _ (c : Command) (asked : LinkAsking) (asks : asked_on_link c ≡ Some asked) (may : Accepts on c) (es : List Event) (more : List Accepted) (adds : OfEnd (λ end. AddsBy asked told end more) (end_of on l)) where
+    abbrev x : Stretch
+    x = record { command = c; joins = g.joins; events = es; told = told }
+
+    pub talk_so : (now : WholeWorld) (queue : List Fate) (left : Option OpenLink) → HavePlaces now.field.listeners p.numbers now.fars → map held now.fars ≡ with_held more l.peer p.numbers (map held w.fars)
+        → ((k : OpenLink) → left ≡ Some k → (k.peer ≡ l.peer) × AreTold (tolds_of asked told)) → Goes c es (called_then now queue left)
+    talk_so now queue left places accepted goes =
+        let t : State = called_then now queue left in
+        let zs : List Story = last_goes_on (goes_on on x t) ys in
+        let ws : List SlotMessage = messages_of asked in
+        let ts : List Told = tolds_of asked told in
+        let P : List (Option Held) → Type 0 = λ ks. (z : Opened (view_by p ks) l.peer zs) × (AreTold ts → IsInStep z.now.story) in
+        let z : P (map held now.fars) = subst P (sym accepted)
+        (talk_over on t l ys stand.stand x ws (apart_of on c asked asks may) ts (puts_asked c asked asks told) more (over_end (λ e. AddsBy asked told e more) (λ e. AllAdd ws e ts more) (λ e. adds_all asked told e more) (end_of on l) adds)
+        (unless_numbers left (Some l) now.fars p) accepted) in
+        let over : Stand t zs = call_over now queue p l zs z.0 left places (λ k e. let ends = goes k e in (ends.0, z.1 ends.1)) in
+        let still : (changed on c).link ≡ Some l = ap (λ (s : State). s.link) (still_on on c (on_link c asked asks)) in
+        let told_so : stories_behind on x t ys ≡ zs =
+        ap (λ (b : Beginning). open_goes_on (changed on c).link (goes_on on x t) ys ++ begun_by b (goes_on on x t) on t) (talk_begins c es told (on_link c asked asks)) ∙ append-nil (open_goes_on (changed on c).link (goes_on on x t) ys)
+        ∙ ap (λ k. open_goes_on k (goes_on on x t) ys) still in
+        subst (Stand t) (sym told_so) over
+
+    -- as many far ends are there
+    pub as_many_talked : (now : WholeWorld) → map held now.fars ≡ with_held more l.peer p.numbers (map held w.fars) → length now.fars ≡ length w.fars
+    as_many_talked now accepted = sym (length-map now.fars held) ∙ ap length accepted ∙ as_many_with more l.peer p.numbers (map held w.fars) open_held ∙ length-map w.fars held
+
+    pub talked : (t : State) → FrontOf on g c es told t → (stable (world_after on g.joins c es)).ends ≡ with_accepted more l.peer p.numbers (stable w).ends
+        → ((a : Answer) → told ≡ Some a → told_asked asked l g.joins.own es ≡ Some a) → Goes c es t
+    talked t front ends tells =
+        let now : WholeWorld = world_after on g.joins c es in
+        let still : changed on c ≡ on = still_on on c (on_link c asked asks) in
+        let left : Option OpenLink = asked_behind asked told (Some l) g.joins.own es in
+        let S : List Fate → Peers → Option OpenLink → State = λ u ps o. record { world = now; queue = u; peers = ps; link = o } in
+        let link_is : link_after on g.joins c es told ≡ left = ap (λ o. link_left o on g.joins c es told) asks in
+        let peers_is : peers_after on g.joins c es told ≡ ended_unless left (Some l) now.fars p =
+        ap (λ o. peers_left o on g.joins c es told) asks ∙ ap (λ o. ended_unless o (Some l) now.fars p) link_is in
+        let after : t ≡ called_then now (queue_after q es) left =
+        front.after ∙ ap (λ u. S u (peers_after on g.joins c es told) (link_after on g.joins c es told)) (ap (λ (s : State). queue_after s.queue es) still)
+        ∙ ap (λ ps. S (queue_after q es) ps (link_after on g.joins c es told)) peers_is ∙ ap (S (queue_after q es) (ended_unless left (Some l) now.fars p)) link_is in
+        let accepted : map held now.fars ≡ with_held more l.peer p.numbers (map held w.fars) = more_held now w more l.peer p.numbers ends in
+        let places : HavePlaces now.field.listeners p.numbers now.fars =
+        places_behind w q p ys (Some l) stand g told c es p.numbers (ap (λ (s : State). s.world.field.listeners) still) (as_many_talked now accepted) refl in
+        subst (Goes c es) (sym after) (talk_so now (queue_after q es) left places accepted (λ k e. left_open asked told l k g.joins.own es tells e))
+
+-- Where no link is open nothing is sent, and nothing changes.
+module _ (w : WholeWorld) (q : List Fate) (p : Peers) (ys : List Story) (stand : Stand (record { world = w; queue = q; peers = p; link = None }) ys) (g : Given) (told : Option Answer) where
+  abbrev off_link : State
+  off_link = record { world = w; queue = q; peers = p; link = None }
+
+  pub talk_none : (c : Command) (asked : LinkAsking) → asked_on_link c ≡ Some asked → (es : List Event) (t : State) → FrontOf off_link g c es told t
+      → Stand t (stories_behind off_link (record { command = c; joins = g.joins; events = es; told = told }) t ys)
+  talk_none c asked asks es t front =
       let x : Stretch = record { command = c; joins = g.joins; events = es; told = told } in
-      let t : State = called_then now queue left in
-      let opened : Open (view_at p now.fars) l.peer ys = same_opened p w.fars now.fars l.peer ys same stand.stand in
-      let own : at (view_of t) l.peer ≡ at (view_of on) l.peer =
-      ap (λ ns. at_number l.peer ns (map held now.fars)) (unless_numbers left (Some l) now.fars p) ∙ ap (at_number l.peer p.numbers) same in
-      let zs : List Story = last_goes_on (goes_on on x t) ys in
-      let came : Open (view_at p now.fars) l.peer zs = open_stands on t x ys (view_at p now.fars) l.peer opened puts own in
-      let over : Stand t zs = call_over now queue p l zs came.opened left places (λ m e. (peer m e, came.step)) in
-      let told_so : stories_behind on x t ys ≡ zs =
-      ap (λ (b : Beginning). open_goes_on (changed on c).link (goes_on on x t) ys ++ begun_by b (goes_on on x t) on t) begins ∙ append-nil (open_goes_on (changed on c).link (goes_on on x t) ys)
-      ∙ ap (λ k. open_goes_on k (goes_on on x t) ys) still in
-      subst (Stand t) (sym told_so) over
-
-  pub called : (c : Command) (es : List Event) (left : Option OpenLink) → (changed on c).link ≡ Some l → (changed on c).world.field.listeners ≡ w.field.listeners
-      → puts_in c told ≡ [] → beginning c es told ≡ NothingBegins → map held (world_after on g.joins c es).fars ≡ map held w.fars
-      → state_after on g.joins c es told ≡ called_then (world_after on g.joins c es) (queue_after (changed on c).queue es) left
-      → ((m : OpenLink) → left ≡ Some m → m.peer ≡ l.peer) → Goes c es (state_after on g.joins c es told)
-  called c es left still devices puts begins same is peer =
-      let now : WholeWorld = world_after on g.joins c es in
-      subst (Goes c es) (sym is)
-      (called_so c es now (queue_after (changed on c).queue es) left still puts begins
-      (places_behind w q p ys (Some l) stand g told c es p.numbers devices (as_many_held now.fars w.fars same) refl) same peer)
-
--- A put that was told so.
-module _ (w : WholeWorld) (q : List Fate) (p : Peers) (ys : List Story) (l : OpenLink) (stand : Stand (record { world = w; queue = q; peers = p; link = Some l }) ys) (g : Given) (a : Answer) where
-  abbrev put_on : State
-  put_on = record { world = w; queue = q; peers = p; link = Some l }
-
-  -- ... behind which the world is this one, and this is left of the link
-  abbrev put_then : WholeWorld → List Fate → Option OpenLink → State
-  put_then now queue left = record { world = now; queue = queue; peers = ended_unless left (Some l) now.fars p; link = left }
-
-  abbrev put_stretch : Msg → List Event → Stretch
-  put_stretch m es = record { command = Put m; joins = g.joins; events = es; told = Some a }
-
-  pub put_so : (m : Msg) (es : List Event) (now : WholeWorld) (queue : List Fate) (left : Option OpenLink) (more : List Accepted) → OfEnd (λ end. PutAdds (message_of m) end a more) (end_of put_on l)
-      → HavePlaces now.field.listeners p.numbers now.fars → map held now.fars ≡ with_held more l.peer p.numbers (map held w.fars)
-      → ((k : OpenLink) → left ≡ Some k → (k.peer ≡ l.peer) × ((loss : Loss) → a ≡ answers.LinkEnded loss → ⊥))
-      → Stand (put_then now queue left) (stories_behind put_on (put_stretch m es) (put_then now queue left) ys)
-  put_so m es now queue left more adds places accepted goes =
-      let t : State = put_then now queue left in
-      let x : Stretch = put_stretch m es in
-      let zs : List Story = last_goes_on (goes_on put_on x t) ys in
-      let P : List (Option Held) → Type 0 = λ ks. (z : Opened (view_by p ks) l.peer zs) × (((loss : Loss) → a ≡ answers.LinkEnded loss → ⊥) → IsInStep z.now.story) in
-      let z : P (map held now.fars) = subst P (sym accepted) (put_over put_on t l ys stand.stand m g.joins es a more adds (unless_numbers left (Some l) now.fars p) accepted) in
-      subst (Stand t) (sym (append-nil zs)) (call_over now queue p l zs z.0 left places (λ k e. let ends = goes k e in (ends.0, z.1 ends.1)))
-
-  put_here : (m : Msg) (es : List Event) → CallLaw put_on g.joins l (Does (Puts (message_of m))) (Put m) es a → Stand (state_after put_on g.joins (Put m) es (Some a)) (stories_behind put_on (put_stretch m es) (state_after put_on g.joins (Put m) es (Some a)) ys)
-  put_here m es law =
-      let c : Command = Put m in
-      let now : WholeWorld = world_after put_on g.joins c es in
-      let stands : CallStanding = stands_on l g.joins.own (Puts (message_of m)) es in
-      let accepted : map held now.fars ≡ with_held law.more l.peer p.numbers (map held w.fars) = more_held now w law.more l.peer p.numbers law.ends in
-      let both : AreHeld p.numbers (map held w.fars) × _ = base_held (view_of put_on) (Some l) ys stand.stand in
-      let many : length now.fars ≡ length w.fars =
-      sym (length-map now.fars held) ∙ ap length accepted ∙ as_many_with law.more l.peer p.numbers (map held w.fars) both.0 ∙ length-map w.fars held in
-      put_so m es now (queue_after q es) (link_behind l.peer stands) law.more law.adds (places_behind w q p ys (Some l) stand g (Some a) c es p.numbers refl many refl) accepted
-      (λ k e. came_to_end l.peer stands a k law.told.tells e)
-
--- A command on the open link.
-call_peer : (l : OpenLink) (s : CallStanding) (a : Answer) → told_call s ≡ Some a → (m : OpenLink) → link_behind l.peer s ≡ Some m → m.peer ≡ l.peer
-call_peer l s a told m is = (came_to_end l.peer s a m told is).0
+      let still : changed off_link c ≡ off_link = still_on off_link c (on_link c asked asks) in
+      let none : es ≡ [] = nothing_sent (begun off_link g.joins c) es front.turns
+      (due_weaker (λ ns. Over) (due off_link g c) (λ ns n e d. sym (ap (λ o. due_by o off_link g c ns) asks) ∙ e) [] es front.each) in
+      let W : State → WholeWorld = λ s. with_numbers (replay bench_air (with_numbers s.world g.joins.far) []) [] in
+      let S : WholeWorld → List Fate → Peers → Option OpenLink → State = λ u f ps o. record { world = u; queue = f; peers = ps; link = o } in
+      let C : State = state_after off_link g.joins c [] told in
+      let link_is : link_after off_link g.joins c [] told ≡ None = ap (λ o. link_left o off_link g.joins c [] told) asks ∙ none_behind asked told g.joins.own in
+      let peers_is : peers_after off_link g.joins c [] told ≡ p =
+      ap (λ o. peers_left o off_link g.joins c [] told) asks ∙ ap (λ o. ended_unless o None (world_after off_link g.joins c []).fars p) link_is in
+      let is : C ≡ S (W off_link) q p None =
+      ap (λ s. S (W s) (queue_after s.queue []) (peers_after off_link g.joins c [] told) (link_after off_link g.joins c [] told)) still
+      ∙ ap (λ ps. S (W off_link) q ps (link_after off_link g.joins c [] told)) peers_is ∙ ap (S (W off_link) q p) link_is in
+      quietly w q p ys None stand g told c es t front none
+      (subst (λ u. Stand u (stories_behind off_link x u ys)) (sym is)
+      (no_link off_link (S (W off_link) q p None) x ys (talk_begins c es told (on_link c asked asks)) (ap (λ (s : State). s.link) still) refl stand.places stand.stand))
 
 -- Each legal step.
 module _ (w : WholeWorld) (q : List Fate) (p : Peers) (ys : List Story) (g : Given) (a : Answer) where
@@ -300,6 +312,13 @@ module _ (w : WholeWorld) (q : List Fate) (p : Peers) (ys : List Story) (g : Giv
 
   after_front : (o : Option OpenLink) (c : Command) (es : List Event) (t : State) → FrontOf (from o) g c es (Some a) t → so o c es (state_after (from o) g.joins c es (Some a)) → so o c es t
   after_front o c es t front steps = subst (so o c es) (sym front.after) steps
+
+  -- a command on the link, whatever it asks
+  talk_by : (o : Option OpenLink) (asked : LinkAsking) (c : Command) → asked_on_link c ≡ Some asked → (es : List Event) (t : State) → Stand (from o) ys → FrontOf (from o) g c es (Some a) t
+      → AnswerBy (Some asked) (from o) g c es a → so o c es t
+  talk_by None asked c asks es t stand front law = talk_none w q p ys stand g (Some a) c asked asks es t front
+  talk_by (Some l) asked c asks es t stand front law =
+      talked w q p ys l stand g (Some a) c asked asks front.accepted es law.more law.adds t front law.ends (λ b e. law.told.tells ∙ e)
 
   step_by : (o : Option OpenLink) (c : Command) (es : List Event) (t : State) → Stand (from o) ys → FrontOf (from o) g c es (Some a) t → AnswerLaw (from o) g c es a → so o c es t
   step_by o Skip es t stand front law = absurd law
@@ -372,33 +391,14 @@ module _ (w : WholeWorld) (q : List Fate) (p : Peers) (ys : List Story) (g : Giv
       by : (v : Bool) → opens_link id payloads es ≡ v → ForgeLeaves v (from o) g.joins id payloads es → so o (Forge id payloads) es (state_after (from o) g.joins (Forge id payloads) es (Some a))
       by true opened sends = forge_sent w q p ys o stand g (Some a) id payloads es opened sends.peer sends.placed sends.more sends.ends
       by false unopened stays = forge_unsent w q p ys o stand g (Some a) id payloads es unopened stays
-  step_by None (Put m) es t stand front law =
-      quietly w q p ys None stand g (Some a) (Put m) es t front (nothing_sent (begun (from None) g.joins (Put m)) es front.turns front.each)
-      (no_link (from None) (state_after (from None) g.joins (Put m) [] (Some a)) (record { command = Put m; joins = g.joins; events = es; told = Some a }) ys refl refl refl stand.places stand.stand)
-  step_by (Some l) (Put m) es t stand front law = after_front (Some l) (Put m) es t front (put_here w q p ys l stand g a m es law)
-  step_by None (Get most key) es t stand front law =
-      quietly w q p ys None stand g (Some a) (Get most key) es t front (nothing_sent (begun (from None) g.joins (Get most key)) es front.turns front.each)
-      (no_link (from None) (state_after (from None) g.joins (Get most key) [] (Some a)) (record { command = Get most key; joins = g.joins; events = es; told = Some a }) ys refl refl refl stand.places stand.stand)
-  step_by (Some l) (Get most key) es t stand front law =
-      let stands : CallStanding = stands_on l g.joins.own (Gets most key) es in
-      after_front (Some l) (Get most key) es t front
-      (called w q p ys l stand g (Some a) (Get most key) es (link_behind l.peer stands) refl refl refl refl
-      (same_held (world_after (from (Some l)) g.joins (Get most key) es) w (ends_stay (from (Some l)) l law.more law.adds _ _ law.ends)) refl (call_peer l stands a law.told.tells))
-  step_by None (Lookup name) es t stand front law =
-      quietly w q p ys None stand g (Some a) (Lookup name) es t front (nothing_sent (begun (from None) g.joins (Lookup name)) es front.turns front.each)
-      (no_link (from None) (state_after (from None) g.joins (Lookup name) [] (Some a)) (record { command = Lookup name; joins = g.joins; events = es; told = Some a }) ys refl refl refl stand.places stand.stand)
-  step_by (Some l) (Lookup name) es t stand front law =
-      let stands : CallStanding = stands_on l g.joins.own (Finds name) es in
-      after_front (Some l) (Lookup name) es t front
-      (called w q p ys l stand g (Some a) (Lookup name) es (link_behind l.peer stands) refl refl refl refl
-      (same_held (world_after (from (Some l)) g.joins (Lookup name) es) w (ends_stay (from (Some l)) l law.more law.adds _ _ law.ends)) refl (call_peer l stands a law.told.tells))
-  step_by None Unlink es t stand front law =
-      quietly w q p ys None stand g (Some a) Unlink es t front (nothing_sent (begun (from None) g.joins Unlink) es front.turns front.each)
-      (no_link (from None) (state_after (from None) g.joins Unlink [] (Some a)) (record { command = Unlink; joins = g.joins; events = es; told = Some a }) ys refl refl refl stand.places stand.stand)
-  step_by (Some l) Unlink es t stand front law =
-      after_front (Some l) Unlink es t front
-      (called w q p ys l stand g (Some a) Unlink es None refl refl refl refl
-      (same_held (world_after (from (Some l)) g.joins Unlink es) w (ends_stay (from (Some l)) l law.more law.adds _ _ law.ends)) refl (λ m e. absurd cc))
+  step_by o (Raw id frames) es t stand front law = absurd law
+  step_by o (Put m) es t stand front law = talk_by o (Does (put_from 0 (message_of m))) (Put m) refl es t stand front law
+  step_by o (Get most key) es t stand front law = talk_by o (Does (Getting client_sap most key)) (Get most key) refl es t stand front law
+  step_by o (Lookup name) es t stand front law = talk_by o (Does (Finding name)) (Lookup name) refl es t stand front law
+  step_by o (OnPut slot m) es t stand front law = talk_by o (Does (put_from slot (message_of m))) (OnPut slot m) refl es t stand front law
+  step_by o (OnGet slot most key) es t stand front law = talk_by o (Does (Getting (sap_of_slot slot) most key)) (OnGet slot most key) refl es t stand front law
+  step_by o (commands.Puts puts) es t stand front law = talk_by o (Does (Putting (slot_messages puts))) (commands.Puts puts) refl es t stand front law
+  step_by o Unlink es t stand front law = talk_by o Closes Unlink refl es t stand front law
 
 pub step : (s t : State) (g : Given) (e : Entry) (ys : List Story) → Stand s ys → LegalStep s g e t → Stand t (stories_behind s (stretch_of g.joins e) t ys)
 step s t g e ys stand legal = step_by s.world s.queue s.peers ys g e.answer s.link e.command e.events t stand legal.front legal.answered

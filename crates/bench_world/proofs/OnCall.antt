@@ -21,8 +21,9 @@ use Rattle.far_air.specs.FarLaws.{seen, shown}
 use Rattle.far_air.specs.FarTurns.{FarGoing}
 use Rattle.peer_air.specs.PeerFars.{peer_ends}
 use Rattle.snep_core.specs.Server.{Received}
-use Rattle.snep_core.specs.Talk.{EndState, Step, Ends, Task, begins}
+use Rattle.snep_core.specs.Talk.{EndState, Step, Ends}
 use Rattle.link_calls.specs.Arriving.{Arrives, ArrivesCut}
+use Rattle.link_calls.specs.Asking.{Call, call_begins}
 use Rattle.link_calls.specs.CallDue.{CallStanding, Comes, BrokenBy, call_stand, call_due, call_due_at}
 use Rattle.link_calls.specs.CallTurns.{CallTurns}
 use Rattle.link_calls.specs.Staying.{setting_of}
@@ -252,26 +253,26 @@ module _ (air : Air Device) (ends : FarEnds) (peers : Peers) (l : OpenLink) (set
           came = halt_came;
         }
 
-  -- A command that asks over the link by a call of this task.
-  pub record IsCall (c : Command) (task : Task) : Type 0 where
+  -- A command that asks over the link by this call.
+  pub record IsCall (c : Command) (call : Call) : Type 0 where
     pub on_link : IsOnLink c
     pub still : changed from_state c ≡ from_state
     pub accepts : Accepts from_state c
     pub asks : IsAskedBy from_state c []
     pub takes : (joins : Joins) → joins ≡ joins_for c joins
-    pub same : (joins : Joins) (ns : List Note) → due from_state (given_by joins) c ns ≡ call_due joins.own (begins l.client task) l.initiator ns
-    pub link_on : (joins : Joins) (es : List Event) (answer : Answer) → link_after from_state joins c es (Some answer) ≡ link_behind l.peer (stands_on l joins.own task es)
+    pub same : (joins : Joins) (ns : List Note) → due from_state (given_by joins) c ns ≡ call_due joins.own (call_begins l.client call) l.initiator ns
+    pub link_on : (joins : Joins) (es : List Event) (answer : Answer) → link_after from_state joins c es (Some answer) ≡ link_behind l.peer (stands_on l joins.own call es)
     pub link_off : (joins : Joins) (es : List Event) → link_after from_state joins c es None ≡ None
     pub peers_on : (joins : Joins) (es : List Event) (told : Option Answer)
         → peers_after from_state joins c es told ≡ ended_unless (link_after from_state joins c es told) (Some l) (world_after from_state joins c es).fars peers
 
-  module _ (c : Command) (task : Task) (is : IsCall c task) (b : Air Device) (j : InitState) (after : Choosing FarEnd) where
+  module _ (c : Command) (call : Call) (is : IsCall c call) (b : Air Device) (j : InitState) (after : Choosing FarEnd) where
     abbrev step : Step
-    step = begins l.client task
+    step = call_begins l.client call
 
     -- what a call's law is made of
     pub record Facts (joins : Joins) (events : List Event) (answer : Answer) : Type 0 where
-      pub told : IsTold (told_call (stands_on l joins.own task events)) events answer
+      pub told : IsTold (told_call call (stands_on l joins.own call events)) events answer
       pub came : Came from_state joins l c events answer
       pub devices : (stable (world_after from_state joins c events)).devices ≡ (stable from_state.world).devices
       pub adds : (more : List Received) → after.end.service.accepted ≡ end.service.accepted ++ more
@@ -302,7 +303,7 @@ module _ (air : Air Device) (ends : FarEnds) (peers : Peers) (l : OpenLink) (set
       abbrev pub events : List Event
       events = (going air ends peers l settled next plain b joins.far after t.notes t.going).events
 
-      stand_is : stands_on l joins.own task events ≡ standing
+      stand_is : stands_on l joins.own call events ≡ standing
       stand_is = ap (call_stand joins.own step l.initiator) (going air ends peers l settled next plain b joins.far after t.notes t.going).known ∙ t.stands
 
       gone_peers : (told : Option Answer) → link_after from_state joins c events told ≡ None
@@ -323,7 +324,7 @@ module _ (air : Air Device) (ends : FarEnds) (peers : Peers) (l : OpenLink) (set
           subst (ArrivesAt l peers.numbers joins.far from_state.world.fars w.fars events) (sym link_is)
           (came_at air ends peers l settled next plain b joins.far after t.notes t.going w (world_then next plain c joins b after t.notes t.going is.still is.accepts is.asks (is.takes joins) same) link arrived.0 arrived.1)
 
-      facts : setting_of after.end ≡ setting_of end → (answer : Answer) → IsTold (told_call (stands_on l joins.own task events)) events answer → Came from_state joins l c events answer → Facts joins events answer
+      facts : setting_of after.end ≡ setting_of end → (answer : Answer) → IsTold (told_call call (stands_on l joins.own call events)) events answer → Came from_state joins l c events answer → Facts joins events answer
       facts set answer told came = record {
         told = told;
         came = came;
@@ -333,10 +334,10 @@ module _ (air : Air Device) (ends : FarEnds) (peers : Peers) (l : OpenLink) (set
       }
 
       -- it was told by where it stands
-      told_so : (answer : Answer) → told_call standing ≡ Some answer → ((standing ≡ BrokenBy cause.FieldLost) ↔ (answer ≡ answers.LinkEnded losses.FieldLost))
-          → (answer ≡ answers.LinkEnded losses.SixBad → 0 < noise events) → (noise events ≡ 0 → bad_receptions events ≡ 0) → IsTold (told_call (stands_on l joins.own task events)) events answer
+      told_so : (answer : Answer) → told_call call standing ≡ Some answer → ((standing ≡ BrokenBy cause.FieldLost) ↔ (answer ≡ answers.LinkEnded losses.FieldLost))
+          → (answer ≡ answers.LinkEnded losses.SixBad → 0 < noise events) → (noise events ≡ 0 → bad_receptions events ≡ 0) → IsTold (told_call call (stands_on l joins.own call events)) events answer
       told_so answer told lost noisy calm = record {
-        tells = ap told_call stand_is ∙ told;
+        tells = ap (told_call call) stand_is ∙ told;
         lost = (
           λ e. call_broken bench_air joins.own step l.initiator _ _ t.notes (going air ends peers l settled next plain b joins.far after t.notes t.going) (t.stands ∙ lost.1 e),
           λ some. lost.0 (sym t.stands ∙ call_lost bench_air joins.own step l.initiator _ _ t.notes (going air ends peers l settled next plain b joins.far after t.notes t.going) some),
@@ -348,7 +349,7 @@ module _ (air : Air Device) (ends : FarEnds) (peers : Peers) (l : OpenLink) (set
       over_at : call_due_at standing ≡ Over → next t.notes ≡ Over
       over_at e = ap call_due_at t.stands ∙ e
 
-      pub came : setting_of after.end ≡ setting_of end → (jobs : _) (client : EndState) → standing ≡ Comes (Ends jobs client) j → (answer : Answer) → told_step (Ends jobs client) ≡ Some answer
+      pub came : setting_of after.end ≡ setting_of end → (jobs : _) (client : EndState) → standing ≡ Comes (Ends jobs client) j → (answer : Answer) → told_step call (Ends jobs client) ≡ Some answer
           → ((loss : Loss) → answer ≡ answers.LinkEnded loss → ⊥) → (noise events ≡ 0 → bad_receptions events ≡ 0) → Law answer → Arrived (Some (record { peer = l.peer; initiator = j; client = client })) → KeepsLink (open_then client)
           → ObeyedBy joins (under ends peers (Some l) air) (open_then client) c answer
       came set jobs client comes answer told never calm law arrived keeps =
@@ -357,7 +358,7 @@ module _ (air : Air Device) (ends : FarEnds) (peers : Peers) (l : OpenLink) (set
           obeyed next plain c joins b after t.notes t.going is.still is.accepts is.asks (is.takes joins) same answer (Some (record { peer = l.peer; initiator = j; client = client })) peers
           (over_at (ap call_due_at comes)) link_is
           (is.peers_on joins events (Some answer) ∙ ap (λ o. ended_unless o (Some l) (world_after from_state joins c events).fars peers) link_is)
-          (law joins events (facts set answer (told_so answer (ap told_call comes ∙ told)
+          (law joins events (facts set answer (told_so answer (ap (told_call call) comes ∙ told)
           ((λ e. absurd (let clash : Comes (Ends jobs client) j ≡ BrokenBy cause.FieldLost = sym comes ∙ e in cc)), (λ e. absurd (never losses.FieldLost e))) (λ e. absurd (never losses.SixBad e)) calm)
           (came_then answer (Some (record { peer = l.peer; initiator = j; client = client })) link_is arrived)))
           set refl refl keeps
@@ -382,7 +383,7 @@ module _ (air : Air Device) (ends : FarEnds) (peers : Peers) (l : OpenLink) (set
           obeyed next plain c joins b after t.notes t.going is.still is.accepts is.asks (is.takes joins) same answer None
           (with_last_ended (accepted_by (get_or (slice_set ends place (Some after.end)) place None)) peers)
           (over_at (ap call_due_at broken)) link_is (gone_peers (Some answer) link_is)
-          (law joins events (facts set answer (told_so answer (ap told_call broken ∙ told)
+          (law joins events (facts set answer (told_so answer (ap (told_call call) broken ∙ told)
           ((λ e. lost.0 (let same : BrokenBy why ≡ BrokenBy cause.FieldLost = sym broken ∙ e in cc)), (λ e. broken ∙ ap BrokenBy (lost.1 e))) noisy (λ none. absurd (broken_noisy why broken answer told noisy none)))
           (came_then answer None link_is arrived)))
           set refl refl tt

@@ -141,6 +141,8 @@ module _ (how : How) (size : ℕ) (store : List ℕ) where
   tells_form (answers.Sap sap) t = absurd t
   tells_form (answers.LinkEnded loss) t = absurd t
   tells_form (answers.Replies replies) t = absurd t
+  tells_form (answers.Heard all) t = absurd t
+  tells_form (answers.Puts done) t = absurd t
   tells_form answers.Unlinked t = absurd t
   tells_form answers.NoLink t = absurd t
 

@@ -5,8 +5,10 @@ use Rattle.nfc_base.specs.Signal.{Signal}
 use Rattle.nfc_base.specs.declared.event.Event.{Event}
 use Rattle.air_core.specs.Conversation.{Over, receptions}
 use Rattle.bench_script.specs.declared.command.Command.{Command}
-use Rattle.bench_script.specs.declared.command.Command.TheVariants.{Skip, Fates, PlaceT2, PlaceT3, PlaceT4, PlaceT5, PlacePeer, Lock, Busy, Offer, Remove, Dump, Inbox, Find, Crowd, Poll3, Read, Read3, Write, Write3, Link, Forge, Put, Get, Lookup, Unlink}
+use Rattle.bench_script.specs.declared.command.Command.TheVariants as commands
+use Rattle.bench_script.specs.declared.command.Command.TheVariants.{Skip, Fates, PlaceT2, PlaceT3, PlaceT4, PlaceT5, PlacePeer, Lock, Busy, Offer, Remove, Dump, Inbox, Find, Crowd, Poll3, Read, Read3, Write, Write3, Link, Forge, Raw, Put, Get, Lookup, OnPut, OnGet, Unlink}
 use Rattle.bench_devices.specs.declared.device.Device.{Device}
+use Rattle.bench_world.specs.Asked.{slot_messages}
 use Rattle.bench_world.specs.declared.entry.Answer.{Answer}
 use Rattle.bench_world.specs.declared.entry.Answer.TheVariants.{Store}
 use Rattle.bench_world.specs.declared.entry.Entry.{Entry}
@@ -31,9 +33,9 @@ use Rattle.bench_script.specs.Messages.{message_of}
 use Rattle.nfc_base.specs.TagLinks.{plain_state}
 use Rattle.tag_writer.proofs.OneWrite.{one_write as one_write_list}
 use Rattle.bench_world.specs.Legal.{State, Given, Joins, IsAskedBy, AnswerBy, AnswerLaw, CallLaw, FrontOf, EachLegal, begun, changed, due, state_after, first_state}
-use Rattle.snep_core.specs.Talk.{Puts, Gets, Finds}
+use Rattle.snep_core.specs.Talk.{client_sap, sap_of_slot}
 use Rattle.bench_script.specs.declared.command.DeviceId.TheVariants.{A}
-use Rattle.link_calls.specs.Asking.{LinkAsking, Does, Closes}
+use Rattle.link_calls.specs.Asking.{LinkAsking, Does, Closes, Finding, Getting, put_from, Putting}
 use Rattle.bench_world.specs.Calls.{told_asked}
 use Rattle.bench_world.specs.Linking.{own_general}
 use Rattle.bench_world.specs.World.{bench_air}
@@ -127,9 +129,13 @@ one_answer s (Read id) g events a b p q = one_read id s.world.field.listeners g.
 one_answer s (Write id m) g events a b p q = one_write id s.world.field.listeners (message_of m) g.asked events a b p.tells q.tells
 one_answer s (Link id miu window) g events a b p q = one_link (A id) s.world.field.listeners (length s.peers.links + 1) (own_general miu) events a b p.tells q.tells
 one_answer s (Forge id payloads) g events a b p q = one_forge id s.world.field.listeners payloads events a b p.tells q.tells
-one_answer s (Put m) g events a b p q = one_called (Does (Puts (message_of m))) s (Put m) g events a b p q
-one_answer s (Get most key) g events a b p q = one_called (Does (Gets most key)) s (Get most key) g events a b p q
-one_answer s (Lookup name) g events a b p q = one_called (Does (Finds name)) s (Lookup name) g events a b p q
+one_answer s (Raw id frames) g events a b p q = absurd p
+one_answer s (Put m) g events a b p q = one_called (Does (put_from 0 (message_of m))) s (Put m) g events a b p q
+one_answer s (Get most key) g events a b p q = one_called (Does (Getting client_sap most key)) s (Get most key) g events a b p q
+one_answer s (Lookup name) g events a b p q = one_called (Does (Finding name)) s (Lookup name) g events a b p q
+one_answer s (OnPut slot m) g events a b p q = one_called (Does (put_from slot (message_of m))) s (OnPut slot m) g events a b p q
+one_answer s (OnGet slot most key) g events a b p q = one_called (Does (Getting (sap_of_slot slot) most key)) s (OnGet slot most key) g events a b p q
+one_answer s (commands.Puts puts) g events a b p q = one_called (Does (Putting (slot_messages puts))) s (commands.Puts puts) g events a b p q
 one_answer s Unlink g events a b p q = one_called Closes s Unlink g events a b p q
 
 -- From a state a command is obeyed in one way by the same numbers.

@@ -8,10 +8,11 @@ use Rattle.nfc_base.specs.declared.event.Event.TheVariants.{Reset, Request, Answ
 use Rattle.air_core.specs.Conversation.{AreTurns, EachDue, Note, Over}
 use Rattle.far_air.specs.FarEnds.{first_far, later_fars}
 use Rattle.snep_core.specs.Server.{offered}
-use Rattle.snep_core.specs.Talk.{Ends as Finishes, Finds, Gets, GivesUp, Goes, Puts}
+use Rattle.snep_core.specs.Talk.{Ends as Finishes, GivesUp, Goes, client_sap, sap_of_slot}
 use Rattle.link_calls.specs.CallDue.{CallStanding, Carries, Comes, BrokenBy, Strays}
 use Rattle.bench_script.specs.declared.command.Command.{Command}
-use Rattle.bench_script.specs.declared.command.Command.TheVariants.{Skip, Fates, PlaceT2, PlaceT3, PlaceT4, PlaceT5, PlacePeer, Lock, Busy, Offer, Remove, Dump, Inbox, Find, Crowd, Poll3, Read, Read3, Write, Write3, Link, Forge, Put, Get, Lookup, Unlink}
+use Rattle.bench_script.specs.declared.command.Command.TheVariants as commands
+use Rattle.bench_script.specs.declared.command.Command.TheVariants.{Skip, Fates, PlaceT2, PlaceT3, PlaceT4, PlaceT5, PlacePeer, Lock, Busy, Offer, Remove, Dump, Inbox, Find, Crowd, Poll3, Read, Read3, Write, Write3, Link, Forge, Raw, Put, Get, Lookup, OnPut, OnGet, Unlink}
 use Rattle.bench_script.specs.declared.command.DeviceId.{DeviceId}
 use Rattle.bench_script.specs.declared.command.DeviceId.TheVariants.{A}
 use Rattle.bench_script.specs.DeviceIds.{bytes_of}
@@ -25,8 +26,8 @@ use Rattle.bench_world.specs.declared.entry.Entry.{Entry}
 use Rattle.bench_world.specs.World.{FarEnd, bench_air}
 use Rattle.bench_world.specs.Arriving.{ArrivesAt}
 use Rattle.bench_world.specs.ByPayloads.{IsByPayloads}
-use Rattle.link_calls.specs.Asking.{LinkAsking, Does, Closes}
-use Rattle.bench_world.specs.Asked.{asked_on_link}
+use Rattle.link_calls.specs.Asking.{LinkAsking, Does, Closes, Finding, Getting, put_from, Putting}
+use Rattle.bench_world.specs.Asked.{asked_on_link, slot_messages}
 use Rattle.bench_world.specs.Calls.{IfLinked, asked_behind, call_behind, link_behind, stands_on}
 use Rattle.bench_world.specs.Legal.{State, Given, AnswerBy, AnswerLaw, CallLaw, EachLegal, ForgeLeaves, LinkingLaw, begun, changed, due, is_linked_to, link_after, link_left, peers_left, state_after, unlinked, world_after}
 use Rattle.bench_world.specs.Linking.{link_if, own_general}
@@ -253,8 +254,8 @@ module _ (s : State) (g : Given) (ys : List Story) (h : KeptIn s ys) where
   -- so by whatever is asked
   asked_kept : (asked : LinkAsking) (c : Command) (es : List Event) (answer : Answer) → (behind c es answer).peers.numbers ≡ ps → (behind c es answer).link ≡ asked_behind asked (Some answer) s.link g.joins.own es
       → ((l : OpenLink) → s.link ≡ Some l → ArrivesSo l g.joins.far (behind c es answer).world.fars es (behind c es answer).link) → GoesOn s.link c es answer
-  asked_kept (Does task) c es answer numbers link came =
-      call_kept c es answer (λ l. stands_on l g.joins.own task es) numbers link (λ l at. subst (ArrivesSo l g.joins.far (behind c es answer).world.fars es) link (came l at))
+  asked_kept (Does call) c es answer numbers link came =
+      call_kept c es answer (λ l. stands_on l g.joins.own call es) numbers link (λ l at. subst (ArrivesSo l g.joins.far (behind c es answer).world.fars es) link (came l at))
   asked_kept Closes c es answer numbers link came =
       let t : State = behind c es answer in
       subst (λ o. Kept o t (open_goes_on s.link (goes_on s (stretch c es answer) t) ys)) (sym link)
@@ -322,9 +323,13 @@ module _ (s : State) (g : Given) (ys : List Story) (h : KeptIn s ys) where
           (begun_payloads s t (stretch c es answer) ByForge (length s.peers.links + 1) sends.peer forged_general (forged_numbers (opens_link id payloads es) s (A id) (world_after s g.joins c es).fars) id
           (ap (λ v. if v then BeginsAndEnds ByForge id forged_general else NothingBegins) opened) sends.placed refl sends.came)
       by false unopened stays = none_open (Forge id payloads) es answer refl refl (ap (λ v. if v then BeginsAndEnds ByForge id forged_general else NothingBegins) unopened)
-  step_kept (Put m) es answer turns each law = plain (Put m) es answer refl (talk_kept (Does (Puts (message_of m))) (Put m) es answer refl law)
-  step_kept (Get most key) es answer turns each law = plain (Get most key) es answer refl (talk_kept (Does (Gets most key)) (Get most key) es answer refl law)
-  step_kept (Lookup name) es answer turns each law = plain (Lookup name) es answer refl (talk_kept (Does (Finds name)) (Lookup name) es answer refl law)
+  step_kept (Raw id frames) es answer turns each law = absurd law
+  step_kept (Put m) es answer turns each law = plain (Put m) es answer refl (talk_kept (Does (put_from 0 (message_of m))) (Put m) es answer refl law)
+  step_kept (Get most key) es answer turns each law = plain (Get most key) es answer refl (talk_kept (Does (Getting client_sap most key)) (Get most key) es answer refl law)
+  step_kept (Lookup name) es answer turns each law = plain (Lookup name) es answer refl (talk_kept (Does (Finding name)) (Lookup name) es answer refl law)
+  step_kept (OnPut slot m) es answer turns each law = plain (OnPut slot m) es answer refl (talk_kept (Does (put_from slot (message_of m))) (OnPut slot m) es answer refl law)
+  step_kept (OnGet slot most key) es answer turns each law = plain (OnGet slot most key) es answer refl (talk_kept (Does (Getting (sap_of_slot slot) most key)) (OnGet slot most key) es answer refl law)
+  step_kept (commands.Puts puts) es answer turns each law = plain (commands.Puts puts) es answer refl (talk_kept (Does (Putting (slot_messages puts))) (commands.Puts puts) es answer refl law)
   step_kept Unlink es answer turns each law = plain Unlink es answer refl (talk_kept Closes Unlink es answer refl law)
 
 -- through some entries

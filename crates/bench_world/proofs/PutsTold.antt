@@ -1,19 +1,36 @@
--- One put more on a link: what a peer accepts stays the first of what fits, and covers all that was told to be taken, by one more at most.
-use Rattle.std.proofs.Common.{◌≡◌, inl, inr, ℕ, ◌<◌, ◌≤◌, ◌==◌, nat_lt, Bool, true, false, List, [], ◌∷◌, ◌++◌, length, if◌then◌else◌, refl, sym, ◌∙◌, ap, subst}
-use Rattle.std.proofs.lemmas.Bool.{le-ltb, lt-ltb}
+-- Puts more on a link: what a peer accepts stays the first of what fits, and covers all that was told to be taken, by one more at most.
+use Rattle.std.proofs.Common.{◌≡◌, ◌⊎◌, inl, inr, ℕ, ◌<◌, ◌≤◌, ◌==◌, ◌||◌, nat_lt, Bool, true, false, List, [], ◌∷◌, ◌++◌, length, if◌then◌else◌, refl, sym, ◌∙◌, ap, subst}
+use Rattle.std.proofs.lemmas.Bool.{eqb-true, le-ltb, lt-ltb}
 use Rattle.std.proofs.lemmas.List.{append-nil}
-use Rattle.snep_core.specs.Accord.{from_client}
 use Rattle.snep_core.specs.Links.{LinkAccepts, Put, Rejected, Success, Told, Unanswered, fitting, put_before, told_taken}
 use Rattle.snep_core.specs.Payloads.{accepted_from}
 use Rattle.snep_core.specs.Server.{Received as Accepted}
-use Rattle.snep_core.specs.Talk.{client_sap}
+use Rattle.snep_core.specs.Talk.{sap_of_slot}
+use Rattle.link_calls.specs.AtOnce.{AreApart, is_from}
+use Rattle.link_calls.specs.declared.request.SlotMessage.{SlotMessage}
+use Rattle.link_calls.proofs.AtOnce.{two_false}
+use Rattle.bench_world.specs.Calls.{EachAdds, MessageAdds}
 use Rattle.bench_world.specs.LinkLaw.{puts_from}
-use Rattle.bench_world.specs.Stories.{LinkPut}
+use Rattle.bench_world.specs.Stories.{LinkPut, puts_told}
 
 -- Each put was told as it is: what was told to be taken is what fits, and that was accepted.
 pub record InStep (limit : ℕ) (puts : List Put) (accepted : List (List ℕ)) : Type 0 where
   pub told : told_taken limit puts ≡ fitting limit puts
   pub taken : accepted ≡ fitting limit puts
+
+-- this is one of them; and each was told of
+abbrev pub IsAmong : Told → List Told → Type 0
+IsAmong t [] = ⊥
+IsAmong t (u ∷ us) = (u ≡ t) ⊎ IsAmong t us
+
+abbrev pub AreTold : List Told → Type 0
+AreTold [] = Unit {0}
+AreTold (t ∷ ts) = (t ≡ Unanswered → ⊥) × AreTold ts
+
+pub among_told : (t : Told) (ts : List Told) → AreTold ts → IsAmong t ts → t ≡ Unanswered → ⊥
+among_told t [] told among e = among
+among_told t (u ∷ us) told (inl same) e = told.0 (same ∙ e)
+among_told t (u ∷ us) told (inr rest) e = among_told t us told.1 rest e
 
 pub none_put : (limit : ℕ) → InStep limit [] []
 none_put limit = record { told = refl; taken = refl }
@@ -134,39 +151,91 @@ accepted_more client (x ∷ xs) ys = by (x.source == client) (accepted_more clie
     by true e = ap (λ ms. x.message ∷ ms) e
     by false e = e
 
--- a relation of what was put and accepted, where the client put this too, and its peer accepted these
-module _ (Holds Then : List Put → List (List ℕ) → Type 0) (weaker : (ps : List Put) (xs : List (List ℕ)) → Holds ps xs → Then ps xs) where
-  abbrev pub client_put : Put → LinkPut
-  client_put p = record { source = client_sap; put = p }
+-- a relation of what was put and accepted, where messages were put too, and the peer accepted these
+module _ (Holds Then : List Put → List (List ℕ) → Type 0) (puts : List LinkPut) (gained : List Accepted) (each : (client : ℕ) → Holds (puts_from client puts) (accepted_from client gained))
+    (qs : List LinkPut) (more : List Accepted) where
+  pub with_all : ((client : ℕ) (ps : List Put) (xs : List (List ℕ)) → Holds ps xs → Then (ps ++ puts_from client qs) (xs ++ accepted_from client more))
+      → (client : ℕ) → Then (puts_from client (puts ++ qs)) (accepted_from client (gained ++ more))
+  with_all next client =
+      subst (λ ps. Then ps (accepted_from client (gained ++ more))) (sym (puts_more client puts qs))
+      (subst (Then (puts_from client puts ++ puts_from client qs)) (sym (accepted_more client gained more))
+      (next client (puts_from client puts) (accepted_from client gained) (each client)))
 
-  by_client : (v : Bool) (p : Put) (more : List (List ℕ)) (ps : List Put) (xs : List (List ℕ)) → Holds ps xs → Then (ps ++ p ∷ []) (xs ++ more)
-      → Then (ps ++ (if v then p ∷ [] else [])) (xs ++ (if v then more else []))
-  by_client true p more ps xs holds next = next
-  by_client false p more ps xs holds next = subst (λ qs. Then qs (xs ++ [])) (sym (append-nil ps)) (subst (Then ps) (sym (append-nil xs)) (weaker ps xs holds))
+-- one put more, told so, of which this was accepted
+module _ (limit : ℕ) (ps : List Put) (accepted : List (List ℕ)) (s : InStep limit ps accepted) (m : List ℕ) where
+  pub one_in_step : (t : Told) (xs : List (List ℕ)) → MessageAdds m limit t xs → (t ≡ Unanswered → ⊥) → InStep limit (ps ++ record { message = m; told = t } ∷ []) (accepted ++ xs)
+  one_in_step Success xs h some = subst (λ ys. InStep limit (ps ++ record { message = m; told = Success } ∷ []) (accepted ++ ys)) (sym h.1) (taken_more limit ps accepted s m h.0)
+  one_in_step Rejected xs h some = subst (λ ys. InStep limit (ps ++ record { message = m; told = Rejected } ∷ []) (accepted ++ ys)) (sym h.1) (refused_more limit ps accepted s m h.0)
+  one_in_step Unanswered xs h some = absurd (some refl)
 
-  from_one : (v : Bool) (client : ℕ) (m : List ℕ) → (client_sap == client) ≡ v → accepted_from client (from_client m ∷ []) ≡ (if v then m ∷ [] else [])
-  from_one v client m e = ap (λ w. if w then m ∷ [] else []) e
+  pub one_accepts : (t : Told) (xs : List (List ℕ)) → MessageAdds m limit t xs → LinkAccepts limit (ps ++ record { message = m; told = t } ∷ []) (accepted ++ xs)
+  one_accepts Success xs h = in_step_accepts limit (ps ++ record { message = m; told = Success } ∷ []) (accepted ++ xs) (one_in_step Success xs h (λ e. cc))
+  one_accepts Rejected xs h = in_step_accepts limit (ps ++ record { message = m; told = Rejected } ∷ []) (accepted ++ xs) (one_in_step Rejected xs h (λ e. cc))
+  one_accepts Unanswered xs (inl none) = subst (λ ys. LinkAccepts limit (ps ++ record { message = m; told = Unanswered } ∷ []) (accepted ++ ys)) (sym none) (none_more limit ps accepted s m)
+  one_accepts Unanswered xs (inr one) = subst (λ ys. LinkAccepts limit (ps ++ record { message = m; told = Unanswered } ∷ []) (accepted ++ ys)) (sym one.1) (one_more limit ps accepted s m one.0)
 
-  abbrev nothing : List (List ℕ)
-  nothing = []
+-- Of messages that were put at once a client's SAP put one, told so, or none.
+none_put_from : (client : ℕ) (ws : List SlotMessage) (ts : List Told) → is_from client ws ≡ false → puts_from client (puts_told ws ts) ≡ []
+none_put_from client [] ts none = refl
+none_put_from client (w ∷ ws) [] none = refl
+none_put_from client (w ∷ ws) (t ∷ ts) none =
+    let both = two_false (sap_of_slot w.slot == client) (is_from client ws) none in
+    ap (λ v. if v then record { message = w.message; told = t } ∷ puts_from client (puts_told ws ts) else puts_from client (puts_told ws ts)) both.0 ∙ none_put_from client ws ts both.1
 
-  none_from : (v : Bool) → nothing ≡ (if v then nothing else nothing)
-  none_from true = refl
-  none_from false = refl
+pub record OneFrom (client : ℕ) (limit : ℕ) (ws : List SlotMessage) (ts : List Told) (xs : List (List ℕ)) : Type 0 where
+  pub message : List ℕ
+  pub told : Told
+  pub put : puts_from client (puts_told ws ts) ≡ record { message = message; told = told } ∷ []
+  pub adds : MessageAdds message limit told xs
+  pub among : IsAmong told ts
 
-  module _ (puts : List LinkPut) (gained : List Accepted) (each : (client : ℕ) → Holds (puts_from client puts) (accepted_from client gained)) (p : Put) where
-    split : (client : ℕ) (more : List (List ℕ)) (got : List Accepted) → accepted_from client got ≡ (if client_sap == client then more else [])
-        → Then (puts_from client puts ++ p ∷ []) (accepted_from client gained ++ more)
-        → Then (puts_from client (puts ++ client_put p ∷ [])) (accepted_from client (gained ++ got))
-    split client more got from next =
-        subst (λ qs. Then qs (accepted_from client (gained ++ got))) (sym (puts_more client puts (client_put p ∷ [])))
-        (subst (Then (puts_from client puts ++ (if client_sap == client then p ∷ [] else []))) (sym (accepted_more client gained got ∙ ap (λ x. accepted_from client gained ++ x) from))
-        (by_client (client_sap == client) p more (puts_from client puts) (accepted_from client gained) (each client) next))
+one_put_from : (client limit : ℕ) (ws : List SlotMessage) (ts : List Told) (more : List Accepted) → AreApart ws → EachAdds ws limit ts more → is_from client ws ≡ true → OneFrom client limit ws ts (accepted_from client more)
+one_put_from client limit [] ts more apart adds from = absurd cc
+one_put_from client limit (w ∷ ws) [] more apart adds from = absurd adds
+one_put_from client limit (w ∷ ws) (t ∷ ts) more apart adds from = by (sap_of_slot w.slot == client) refl from (one_put_from client limit ws ts more apart.3 adds.1)
+  where
+    by : (v : Bool) → (sap_of_slot w.slot == client) ≡ v → (v || is_from client ws) ≡ true → (is_from client ws ≡ true → OneFrom client limit ws ts (accepted_from client more))
+        → OneFrom client limit (w ∷ ws) (t ∷ ts) (accepted_from client more)
+    by true e f more_so =
+        let same : sap_of_slot w.slot ≡ client = eqb-true (sap_of_slot w.slot) client e in
+        record {
+          message = w.message;
+          told = t;
+          put = ap (λ v. if v then record { message = w.message; told = t } ∷ puts_from client (puts_told ws ts) else puts_from client (puts_told ws ts)) e
+              ∙ ap (λ ps. record { message = w.message; told = t } ∷ ps) (none_put_from client ws ts (subst (λ c. is_from c ws ≡ false) same apart.2));
+          adds = subst (λ c. MessageAdds w.message limit t (accepted_from c more)) same adds.0;
+          among = inl refl;
+        }
+    by false e f more_so =
+        let rest = more_so f in
+        record {
+          message = rest.message;
+          told = rest.told;
+          put = ap (λ v. if v then record { message = w.message; told = t } ∷ puts_from client (puts_told ws ts) else puts_from client (puts_told ws ts)) e ∙ rest.put;
+          adds = rest.adds;
+          among = inr rest.among;
+        }
 
-    pub with_none : ((ps : List Put) (xs : List (List ℕ)) → Holds ps xs → Then (ps ++ p ∷ []) (xs ++ []))
-        → (client : ℕ) → Then (puts_from client (puts ++ client_put p ∷ [])) (accepted_from client (gained ++ []))
-    with_none next client = split client [] [] (none_from (client_sap == client)) (next (puts_from client puts) (accepted_from client gained) (each client))
+-- what all of them add, by what a client's SAP adds
+module _ (ws : List SlotMessage) (apart : AreApart ws) (limit : ℕ) (ts : List Told) (more : List Accepted) (adds : EachAdds ws limit ts more) (others : (s : ℕ) → is_from s ws ≡ false → accepted_from s more ≡ []) where
+  by_client : (P : List Put → List (List ℕ) → Type 0) (client : ℕ) → P [] [] → ((m : List ℕ) (t : Told) (xs : List (List ℕ)) → MessageAdds m limit t xs → IsAmong t ts → P (record { message = m; told = t } ∷ []) xs)
+      → P (puts_from client (puts_told ws ts)) (accepted_from client more)
+  by_client P client none one = by (is_from client ws) refl
+    where
+      by : (v : Bool) → is_from client ws ≡ v → P (puts_from client (puts_told ws ts)) (accepted_from client more)
+      by true e =
+          let z = one_put_from client limit ws ts more apart adds e in
+          subst (λ ps. P ps (accepted_from client more)) (sym z.put) (one z.message z.told (accepted_from client more) z.adds z.among)
+      by false e = subst (λ ps. P ps (accepted_from client more)) (sym (none_put_from client ws ts e)) (subst (P []) (sym (others client e)) none)
 
-    pub with_one : (m : List ℕ) → ((ps : List Put) (xs : List (List ℕ)) → Holds ps xs → Then (ps ++ p ∷ []) (xs ++ m ∷ []))
-        → (client : ℕ) → Then (puts_from client (puts ++ client_put p ∷ [])) (accepted_from client (gained ++ from_client m ∷ []))
-    with_one m next client = split client (m ∷ []) (from_client m ∷ []) (from_one (client_sap == client) client m refl) (next (puts_from client puts) (accepted_from client gained) (each client))
+  pub all_in_step : AreTold ts → (client : ℕ) (ps : List Put) (xs : List (List ℕ)) → InStep limit ps xs → InStep limit (ps ++ puts_from client (puts_told ws ts)) (xs ++ accepted_from client more)
+  all_in_step told client ps xs s =
+      by_client (λ qs ys. InStep limit (ps ++ qs) (xs ++ ys)) client
+      (subst (λ qs. InStep limit qs (xs ++ [])) (sym (append-nil ps)) (subst (InStep limit ps) (sym (append-nil xs)) s))
+      (λ m t ys h among. one_in_step limit ps xs s m t ys h (among_told t ts told among))
+
+  pub all_accept : (client : ℕ) (ps : List Put) (xs : List (List ℕ)) → InStep limit ps xs → LinkAccepts limit (ps ++ puts_from client (puts_told ws ts)) (xs ++ accepted_from client more)
+  all_accept client ps xs s =
+      by_client (λ qs ys. LinkAccepts limit (ps ++ qs) (xs ++ ys)) client
+      (subst (λ qs. LinkAccepts limit qs (xs ++ [])) (sym (append-nil ps)) (subst (LinkAccepts limit ps) (sym (append-nil xs)) (in_step_accepts limit ps xs s)))
+      (λ m t ys h among. one_accepts limit ps xs s m t ys h)

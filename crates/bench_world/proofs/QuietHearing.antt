@@ -8,7 +8,7 @@ use Rattle.nfc_base.specs.Trace.{noise}
 use Rattle.nfc_base.specs.declared.event.Fate.{Fate}
 use Rattle.air_core.specs.Conversation.{Note, Next, LightUp, AreTurns, FatesFrom, EachDue, Moment, receptions}
 use Rattle.bench_script.specs.declared.command.Command.{Command}
-use Rattle.bench_script.specs.declared.command.Command.TheVariants.{Skip, Fates, PlaceT2, PlaceT3, PlaceT4, PlaceT5, PlacePeer, Lock, Busy, Offer, Remove, Dump, Inbox, Find, Crowd, Poll3, Read, Read3, Write, Write3, Link, Forge, Put, Get, Lookup, Unlink}
+use Rattle.bench_script.specs.declared.command.Command.TheVariants.{Skip, Fates, PlaceT2, PlaceT3, PlaceT4, PlaceT5, PlacePeer, Lock, Busy, Offer, Remove, Dump, Inbox, Find, Crowd, Poll3, Read, Read3, Write, Write3, Link, Forge, Raw, Put, Get, Lookup, OnPut, OnGet, Puts, Unlink}
 use Rattle.bench_script.specs.declared.command.DeviceId.{DeviceId}
 use Rattle.bench_script.specs.declared.command.DeviceId.TheVariants.{A, V}
 use Rattle.bench_script.specs.declared.message.Msg.{Msg}
@@ -168,6 +168,10 @@ module _ (s t : State) (g : Given) (line : List ℕ) (e : Entry) (r : IsReady s.
   by_command (Write3 i m) is id of = absurd cc
   by_command (Link i miu window) is id of = let same : A i ≡ id = cc in subst (λ x. AnswersAll x e) same (link_answered i miu window is)
   by_command (Forge i payloads) is id of = let same : A i ≡ id = cc in subst (λ x. AnswersAll x e) same (forge_answered i payloads is)
+  by_command (Raw i frames) is id of = absurd cc
+  by_command (OnPut slot m) is id of = absurd cc
+  by_command (OnGet slot most key) is id of = absurd cc
+  by_command (Puts puts) is id of = absurd cc
   by_command (Put m) is id of = absurd cc
   by_command (Get most key) is id of = absurd cc
   by_command (Lookup name) is id of = absurd cc
@@ -225,6 +229,10 @@ passes_still s line (Read id) h q sp = h
 passes_still s line (Write id m) h q sp = h
 passes_still s line (Link id miu window) h q sp = h
 passes_still s line (Forge id payloads) h q sp = h
+passes_still s line (Raw id frames) h q sp = h
+passes_still s line (OnPut slot m) h q sp = h
+passes_still s line (OnGet slot most key) h q sp = h
+passes_still s line (Puts puts) h q sp = h
 passes_still s line (Put m) h q sp = h
 passes_still s line (Get most key) h q sp = h
 passes_still s line (Lookup name) h q sp = h

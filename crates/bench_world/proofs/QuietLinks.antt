@@ -1,32 +1,36 @@
 -- On quiet air each command on the open link is answered as its peer answers it.
-use Rattle.std.proofs.Common.{◌≡◌, ◌↔◌, ℕ, ◌<◌, nat_lt, List, [], ◌∷◌, length, Bool, true, false, if◌then◌else◌, Option, Some, None, refl, sym, ◌∙◌, ap, subst, arith}
+use Rattle.std.proofs.Common.{◌≡◌, ◌↔◌, ℕ, ◌<◌, ◌==◌, ◌||◌, nat_lt, List, [], ◌∷◌, length, map, Bool, true, false, if◌then◌else◌, Option, Some, None, refl, sym, ◌∙◌, ap, subst, arith}
+use Rattle.std.proofs.lemmas.Bool.{eqb-true}
+use Rattle.std.proofs.lemmas.Bool.Decides.{nat_tests}
 use Rattle.nfc_base.specs.Trace.{noise}
 use Rattle.nfc_base.specs.declared.carrier.EndCause.TheVariants.{FieldLost, SixBad, Protocol, Memory}
 use Rattle.nfc_base.specs.declared.event.Event.{Event}
-use Rattle.snep_core.specs.declared.job.Ending.{Ending}
-use Rattle.snep_core.specs.declared.job.Ending.TheVariants.{Done, Value, Sap, Refused}
-use Rattle.snep_core.specs.declared.job.Refusal.TheVariants as refusals
-use Rattle.snep_core.specs.Accord.{from_client}
+use Rattle.snep_core.specs.Accord.{from_sap}
 use Rattle.snep_core.specs.Server.{Received}
-use Rattle.snep_core.specs.Talk.{Goes, Ends, GivesUp, Task, Puts, Gets, Finds, Leaves}
+use Rattle.snep_core.specs.Talk.{Goes, Ends, GivesUp, sap_of_slot}
 use Rattle.link_calls.specs.CallDue.{CallStanding, Carries, Comes, BrokenBy, Strays}
+use Rattle.snep_core.specs.Links.{Told, Success, Rejected, Unanswered}
+use Rattle.snep_core.specs.Payloads.{accepted_from}
+use Rattle.link_calls.specs.AtOnce.{EachOf}
+use Rattle.link_calls.specs.declared.request.SlotMessage.{SlotMessage}
+use Rattle.bench_world.proofs.StoriesOnLink.{jobs_told}
+use Rattle.bench_world.proofs.PutsTold.{AreTold}
 use Rattle.bench_world.specs.declared.entry.Answer.{Answer}
 use Rattle.bench_world.specs.declared.entry.Answer.TheVariants as answers
 use Rattle.bench_world.specs.declared.entry.Entry.{Entry}
 use Rattle.bench_world.specs.declared.entry.Loss.TheVariants as losses
-use Rattle.bench_world.specs.Calls.{HadSixBad, IsTold, OfEnd, PeerAdds, PutAdds, asked_behind, told_asked, told_ending, told_call, link_behind, stands_on, with_accepted}
+use Rattle.bench_world.specs.Calls.{AllAdd, CallAdds, EachAdds, HadSixBad, IsTold, MessageAdds, OfEnd, PeerAdds, asked_behind, told_asked, told_call, told_each, link_behind, stands_on}
 use Rattle.bench_world.specs.CompletingLinks.{peer_answer, IsUndisturbedOn}
 use Rattle.bench_world.specs.Legal.{State, Given, LegalStep, CallLaw, changed, link_left, world_after, end_of}
-use Rattle.link_calls.specs.Asking.{LinkAsking, Does, Closes}
+use Rattle.link_calls.specs.Asking.{LinkAsking, Call, Does, Closes, Finding, Getting, Putting}
 use Rattle.bench_world.specs.Asked.{asked_on_link}
 use Rattle.bench_world.specs.Links.{OpenLink}
 use Rattle.bench_world.specs.Quiet.{AllPass}
-use Rattle.bench_world.specs.QuietLinks.{gained, gained_by, IsQuietly, StaysBehind, QuietTalks}
+use Rattle.bench_world.specs.QuietLinks.{gained, GainsAll, GainsBy, IsQuietly, StaysBehind, QuietTalks}
 use Rattle.bench_world.specs.World.{FarEnd, WholeWorld, stable}
 use Rattle.bench_world.proofs.Complete.{told_once}
-use Rattle.bench_world.proofs.CompleteLinks.{GoesOn, IsEnded, call_ended, call_law, complete, had_six, six_bad, six_told, within, beyond, none_told}
+use Rattle.bench_world.proofs.CompleteLinks.{CameSo, GoesOn, call_ended, call_law, complete, had_six, jobs_on, six_bad, six_told, within, beyond, none_told}
 use Rattle.bench_world.proofs.Quiet.{no_breaks, quiet_of}
-use Rattle.bench_world.proofs.Talking.{ending_on}
 use Rattle.bench_world.proofs.Talks.{on_link, still_on}
 
 -- Without noise no wait has six bad receptions.
@@ -41,35 +45,68 @@ record GoesOnWith (peer : ℕ) (o : Option OpenLink) : Type 0 where
   pub is : o ≡ Some now
   pub same : now.peer ≡ peer
 
-goes_on : (peer : ℕ) (c : CallStanding) (answer : Answer) → told_call c ≡ Some answer → GoesOn answer → GoesOnWith peer (link_behind peer c)
-goes_on peer (Carries (w, ns) s) answer told on = absurd (none_told answer told)
-goes_on peer (Comes (Goes w) i) answer told on = absurd (none_told answer told)
-goes_on peer (Comes (GivesUp l) i) answer told on = absurd (none_told answer told)
-goes_on peer (Comes (Ends jobs l) i) answer told on = record { now = record { peer = peer; initiator = i; client = l }; is = refl; same = refl }
-goes_on peer (BrokenBy FieldLost) answer told on = absurd (on losses.FieldLost (told_once (answers.LinkEnded losses.FieldLost) answer told))
-goes_on peer (BrokenBy SixBad) answer told on = absurd (on losses.SixBad (told_once (answers.LinkEnded losses.SixBad) answer told))
-goes_on peer (BrokenBy Protocol) answer told on = absurd (none_told answer told)
-goes_on peer (BrokenBy Memory) answer told on = absurd (none_told answer told)
-goes_on peer Strays answer told on = absurd (none_told answer told)
+goes_on : (call : Call) (peer : ℕ) (c : CallStanding) (answer : Answer) → told_call call c ≡ Some answer → GoesOn answer → GoesOnWith peer (link_behind peer c)
+goes_on call peer (Carries (w, ns) s) answer told on = absurd (none_told answer told)
+goes_on call peer (Comes (Goes w) i) answer told on = absurd (none_told answer told)
+goes_on call peer (Comes (GivesUp l) i) answer told on = absurd (none_told answer told)
+goes_on call peer (Comes (Ends jobs l) i) answer told on = record { now = record { peer = peer; initiator = i; client = l }; is = refl; same = refl }
+goes_on call peer (BrokenBy FieldLost) answer told on = absurd (on losses.FieldLost (told_once (answers.LinkEnded losses.FieldLost) answer told))
+goes_on call peer (BrokenBy SixBad) answer told on = absurd (on losses.SixBad (told_once (answers.LinkEnded losses.SixBad) answer told))
+goes_on call peer (BrokenBy Protocol) answer told on = absurd (none_told answer told)
+goes_on call peer (BrokenBy Memory) answer told on = absurd (none_told answer told)
+goes_on call peer Strays answer told on = absurd (none_told answer told)
 
--- A put adds the message, or nothing of one that is longer than the limit.
-either : (v w : Bool) (xs ys : List Received) → v ≡ w → (if v then xs else ys) ≡ (if w then xs else ys)
+-- Of what was put the peer's server gains what is within the limit.
+either : (v w : Bool) (xs ys : List (List ℕ)) → v ≡ w → (if v then xs else ys) ≡ (if w then xs else ys)
 either v w xs ys e = ap (λ x. if x then xs else ys) e
 
-put_gains : (m : List ℕ) (end : FarEnd) (more : List Received) (x : Ending) → PutAdds m end (told_ending x) more → more ≡ gained m end
-put_gains m end more Done h = h.1 ∙ sym (either (nat_lt end.service.limit (length m)) false [] (from_client m ∷ []) (within end.service.limit (length m) h.0))
-put_gains m end more (Value v) h = absurd h
-put_gains m end more (Sap n) h = absurd h
-put_gains m end more (Refused refusals.Reject) h = h.1 ∙ sym (either (nat_lt end.service.limit (length m)) true [] (from_client m ∷ []) (beyond end.service.limit (length m) h.0))
-put_gains m end more (Refused refusals.NotFound) h = absurd h
-put_gains m end more (Refused refusals.Excess) h = absurd h
-put_gains m end more (Refused refusals.NotImplemented) h = absurd h
+message_gains : (m : List ℕ) (limit : ℕ) (t : Told) (xs : List (List ℕ)) → MessageAdds m limit t xs → (t ≡ Unanswered → ⊥) → xs ≡ gained limit m
+message_gains m limit Success xs h told = h.1 ∙ sym (either (nat_lt limit (length m)) false [] (m ∷ []) (within limit (length m) h.0))
+message_gains m limit Rejected xs h told = h.1 ∙ sym (either (nat_lt limit (length m)) true [] (m ∷ []) (beyond limit (length m) h.0))
+message_gains m limit Unanswered xs h told = absurd (told refl)
 
-gains_so : (task : Task) (end : FarEnd) (more : List Received) (x : Ending) → PeerAdds (Does task) end (told_ending x) more → more ≡ gained_by (Does task) end
-gains_so (Puts m) end more x adds = put_gains m end more x adds
-gains_so (Gets most key) end more x adds = adds
-gains_so (Finds name) end more x adds = adds
-gains_so Leaves end more x adds = adds
+each_gains : (limit : ℕ) (more : List Received) (ws : List SlotMessage) (ts : List Told) → EachAdds ws limit ts more → AreTold ts → EachOf (λ slot m. accepted_from (sap_of_slot slot) more ≡ gained limit m) ws
+each_gains limit more [] ts h told = tt
+each_gains limit more (w ∷ ws) [] h told = absurd h
+each_gains limit more (w ∷ ws) (t ∷ ts) h told =
+    (message_gains w.message limit t (accepted_from (sap_of_slot w.slot) more) h.0 told.0, each_gains limit more ws ts h.1 told.1)
+
+-- what came from one SAP alone
+eq_sym : (m n : ℕ) → (m == n) ≡ false → (n == m) ≡ false
+eq_sym m n h = grind (arith, nat_tests, h)
+
+eq_self : (n : ℕ) → (n == n) ≡ true
+eq_self n = grind (arith, nat_tests)
+
+only_from : (sap : ℕ) (more : List Received) → ((s : ℕ) → (sap == s) ≡ false → accepted_from s more ≡ []) → more ≡ map (from_sap sap) (accepted_from sap more)
+only_from sap [] none = refl
+only_from sap (r ∷ rs) none = by (r.source == sap) refl (λ h. only_from sap rs h)
+  where
+    rest : (r.source ≡ sap) → (s : ℕ) → (sap == s) ≡ false → accepted_from s rs ≡ []
+    rest e s apart = sym (ap (λ v. if v then r.message ∷ accepted_from s rs else accepted_from s rs) (ap (λ n. n == s) e ∙ apart)) ∙ none s apart
+
+    by : (v : Bool) → (r.source == sap) ≡ v → (((s : ℕ) → (sap == s) ≡ false → accepted_from s rs ≡ []) → rs ≡ map (from_sap sap) (accepted_from sap rs)) → r ∷ rs ≡ map (from_sap sap) (accepted_from sap (r ∷ rs))
+    by true e more =
+        let same : r.source ≡ sap = eqb-true r.source sap e in
+        let first : r ≡ from_sap sap r.message = ap (λ n. record { source = n; message = r.message }) same in
+        ap (λ x. x ∷ rs) first ∙ ap (λ xs. from_sap sap r.message ∷ xs) (more (rest same))
+        ∙ ap (map (from_sap sap)) (sym (ap (λ v. if v then r.message ∷ accepted_from sap rs else accepted_from sap rs) e))
+    by false e more =
+        let own : accepted_from r.source (r ∷ rs) ≡ r.message ∷ accepted_from r.source rs = ap (λ v. if v then r.message ∷ accepted_from r.source rs else accepted_from r.source rs) (eq_self r.source) in
+        absurd (let clash : r.message ∷ accepted_from r.source rs ≡ [] = sym own ∙ none r.source (eq_sym r.source sap e) in cc)
+
+-- so messages that were put at once gain, and one alone
+all_gain : (ws : List SlotMessage) (end : FarEnd) (more : List Received) (ts : List Told) → AllAdd ws end ts more → AreTold ts → GainsAll ws end.service.limit more
+all_gain [] end more ts h told = record { each = tt; others = h.others }
+all_gain (w ∷ []) end more ts h told =
+    let sap : ℕ = sap_of_slot w.slot in
+    only_from sap more (λ s apart. h.others s (ap (λ v. v || false) apart)) ∙ ap (map (from_sap sap)) (each_gains end.service.limit more (w ∷ []) ts h.each told).0
+all_gain (w ∷ v ∷ ws) end more ts h told = record { each = each_gains end.service.limit more (w ∷ v ∷ ws) ts h.each told; others = h.others }
+
+gains_so : (call : Call) (end : FarEnd) (more : List Received) (answer : Answer) → CameSo call answer → CallAdds call end answer more → GainsBy (Does call) end more
+gains_so (Putting ws) end more answer x adds = all_gain ws end more (told_each ws answer) adds (jobs_told (Putting ws) x.jobs answer x.told)
+gains_so (Getting sap most key) end more answer x adds = adds
+gains_so (Finding name) end more answer x adds = adds
 
 both_ends : (P Q R : FarEnd → Type 0) → ((end : FarEnd) → P end → Q end → R end) → (o : Option FarEnd) → OfEnd P o → OfEnd Q o → OfEnd R o
 both_ends P Q R h None p q = absurd p
@@ -99,22 +136,21 @@ module _ (s t : State) (g : Given) (e : Entry) (step : LegalStep s g e t) (pass 
       ap (λ (x : State). x.link) step.front.after ∙ ap (λ o. link_left o s g.joins e.command e.events (Some e.answer)) asks
       ∙ ap (λ o. asked_behind asked (Some e.answer) o g.joins.own e.events) up
 
-  -- what a call told, and that its link stays open
-  ended : (task : Task) → IsTold (told_asked (Does task) l g.joins.own e.events) e.events e.answer → (HadSixBad (Does task) l g.joins.own e.events → ⊥) → IsEnded e.answer
-  ended task told none = call_ended (stands_on l g.joins.own task e.events) e.events e.answer told calm.lit none
+  -- what a call came to, and that its link stays open
+  ended : (call : Call) → IsTold (told_asked (Does call) l g.joins.own e.events) e.events e.answer → (HadSixBad (Does call) l g.joins.own e.events → ⊥) → CameSo call e.answer
+  ended call told none = call_ended call (stands_on l g.joins.own call e.events) e.events e.answer told calm.lit none
 
   stays : (a : LinkAsking) → IsTold (told_asked a l g.joins.own e.events) e.events e.answer → (HadSixBad a l g.joins.own e.events → ⊥)
       → t.link ≡ asked_behind a (Some e.answer) (Some l) g.joins.own e.events → StaysBehind a l t
-  stays (Does task) told none link =
-      let x : IsEnded e.answer = ended task told none in
-      let r : GoesOnWith l.peer (link_behind l.peer (stands_on l g.joins.own task e.events)) =
-      goes_on l.peer (stands_on l g.joins.own task e.events) e.answer told.tells (subst GoesOn (sym x.told) (ending_on x.ending)) in
+  stays (Does call) told none link =
+      let x : CameSo call e.answer = ended call told none in
+      let r : GoesOnWith l.peer (link_behind l.peer (stands_on l g.joins.own call e.events)) =
+      goes_on call l.peer (stands_on l g.joins.own call e.events) e.answer told.tells (jobs_on call x.jobs e.answer x.told) in
       (r.now, link ∙ r.is, r.same)
   stays Closes told none link = tt
 
-  gains : (a : LinkAsking) → IsTold (told_asked a l g.joins.own e.events) e.events e.answer → (HadSixBad a l g.joins.own e.events → ⊥) → (end : FarEnd) → PeerAdds a end e.answer law.more → law.more ≡ gained_by a end
-  gains (Does task) told none end adds =
-      let x : IsEnded e.answer = ended task told none in gains_so task end law.more x.ending (subst (λ answer. PeerAdds (Does task) end answer law.more) x.told adds)
+  gains : (a : LinkAsking) → IsTold (told_asked a l g.joins.own e.events) e.events e.answer → (HadSixBad a l g.joins.own e.events → ⊥) → (end : FarEnd) → PeerAdds a end e.answer law.more → GainsBy a end law.more
+  gains (Does call) told none end adds = gains_so call end law.more e.answer (ended call told none) adds
   gains Closes told none end adds = adds
 
   none_had : HadSixBad asked l g.joins.own e.events → ⊥
@@ -125,8 +161,9 @@ module _ (s t : State) (g : Given) (e : Entry) (step : LegalStep s g e t) (pass 
     both_ends (λ end. PeerAdds asked end e.answer law.more) (λ end. (e.answer ≡ peer_answer asked end) ↔ IsUndisturbedOn l g.joins.own e.command e.events) (IsQuietly s l asked e.answer t)
         (λ end adds so. record {
           told = so.1 calm;
-          gains = ap (λ (w : WholeWorld). (stable w).ends) world ∙ law.ends
-              ∙ ap (λ more. with_accepted more l.peer s.peers.numbers (stable s.world).ends) (gains asked law.told none_had end adds);
+          more = law.more;
+          gains = gains asked law.told none_had end adds;
+          ends = ap (λ (w : WholeWorld). (stable w).ends) world ∙ law.ends;
         })
         (end_of s l) law.adds (complete s t g e l asked step asks up),
     stays asked law.told none_had link_then,

@@ -11,7 +11,7 @@ use Rattle.isodep_link.specs.Reader.{longest_extension}
 use Rattle.isodep_link.proofs.Heeding.{AreBytes, no_bytes}
 use Rattle.t4t_tag.specs.Store.{file_size}
 use Rattle.bench_script.specs.declared.command.Command.{Command}
-use Rattle.bench_script.specs.declared.command.Command.TheVariants.{Skip, Fates, PlaceT2, PlaceT3, PlaceT4, PlaceT5, PlacePeer, Lock, Busy, Offer, Remove, Dump, Inbox, Find, Crowd, Poll3, Read, Read3, Write, Write3, Link, Forge, Put, Get, Lookup, Unlink}
+use Rattle.bench_script.specs.declared.command.Command.TheVariants.{Skip, Fates, PlaceT2, PlaceT3, PlaceT4, PlaceT5, PlacePeer, Lock, Busy, Offer, Remove, Dump, Inbox, Find, Crowd, Poll3, Read, Read3, Write, Write3, Link, Forge, Raw, Put, Get, Lookup, OnPut, OnGet, Puts, Unlink}
 use Rattle.bench_script.specs.declared.message.Msg.{Msg}
 use Rattle.bench_script.specs.declared.message.Msg.TheVariants.{Hex, Gen}
 use Rattle.bench_script.specs.DeviceIds.{bytes_of}
@@ -245,6 +245,10 @@ ready_changed s line (Write3 id m) sp is r = r
 ready_changed s line (Write id m) sp is r = r
 ready_changed s line (Link id miu window) sp is r = r
 ready_changed s line (Forge id payloads) sp is r = r
+ready_changed s line (Raw id frames) sp is r = absurd is
+ready_changed s line (OnPut slot m) sp is r = r
+ready_changed s line (OnGet slot most key) sp is r = r
+ready_changed s line (Puts puts) sp is r = r
 ready_changed s line (Put m) sp is r = r
 ready_changed s line (Get most key) sp is r = r
 ready_changed s line (Lookup name) sp is r = r

@@ -16,33 +16,13 @@ use Rattle.nfc_base.specs.declared.event.Event.{Event}
 use Rattle.nfc_base.specs.declared.event.Event.TheVariants.{Reset, Request, Answer, Clash}
 use Rattle.nfc_base.specs.declared.event.Fate.{Fate}
 use Rattle.nfc_base.specs.declared.event.Fate.TheVariants.{Pass, Damage, Lose, Break}
-use Rattle.bench_script.specs.Canonical.{hex_text}
+use Rattle.bench_script.specs.Script.{tail_text}
+use Rattle.bench_script.specs.Canonical.{hex_text, frame_text}
+use Rattle.bench_script.proofs.Frames.{first, Begins, cut, tail_begins, tail_tells}
 use Rattle.bench_world.specs.declared.entry.Answer.{Answer as Said}
-use Rattle.bench_world.specs.declared.entry.Answer.TheVariants.{Done, Store, Found, Crowd, T3None, T3One, T3Crowd, Message, NotNdef, Version, NoRead, Sectors, BadSize, NoMessageTlv, BadTlv, Unfinished, Disturbed, FieldLost, NotFound, SixBad, Written, Refused, ReadOnly, TooLong, ShortMlc, WrongKind, Inbox, Linked, Success, Reject, Value, NoValue, Excess, NotImplemented, Sap, LinkEnded, Replies, Unlinked, NoLink}
-use Rattle.bench_world.specs.Report.{tail_text, frame_text, fate_text, sent_text, event_text, answer_text, line_text}
+use Rattle.bench_world.specs.declared.entry.Answer.TheVariants.{Done, Store, Found, Crowd, T3None, T3One, T3Crowd, Message, NotNdef, Version, NoRead, Sectors, BadSize, NoMessageTlv, BadTlv, Unfinished, Disturbed, FieldLost, NotFound, SixBad, Written, Refused, ReadOnly, TooLong, ShortMlc, WrongKind, Inbox, Linked, Success, Reject, Value, NoValue, Excess, NotImplemented, Sap, LinkEnded, Replies, Heard, Puts, Unlinked, NoLink}
+use Rattle.bench_world.specs.Report.{fate_text, sent_text, event_text, answer_text, line_text}
 use Rattle.bench_world.specs.ReadBack.{IsOf, LinesTellEvents, AnswersApart}
-
--- the first byte of a text
-abbrev first : List ℕ → ℕ
-first [] = 0
-first (b ∷ bs) = b
-
--- a text that goes on goes on by this byte
-abbrev Begins : ℕ → List ℕ → Type 0
-Begins s [] = Unit {0}
-Begins s (b ∷ bs) = b ≡ s
-
--- what stands before the first such byte, and what stands behind
-cut : (s : ℕ) (xs ys us vs : List ℕ) → All (λ b. b ≢ s) xs → All (λ b. b ≢ s) us → Begins s ys → Begins s vs → xs ++ ys ≡ us ++ vs → (xs ≡ us) × (ys ≡ vs)
-cut s [] ys [] vs none other at there e = (refl, e)
-cut s [] [] (u ∷ us) vs none other at there e = absurd (omega (arith, ap length e))
-cut s [] (y ∷ ys) (u ∷ us) vs none other at there e = absurd (other 0 0 (omega arith) (sym (ap first e) ∙ at))
-cut s (x ∷ xs) ys [] [] none other at there e = absurd (omega (arith, ap length e))
-cut s (x ∷ xs) ys [] (v ∷ vs) none other at there e = absurd (none 0 0 (omega arith) (ap first e ∙ there))
-cut s (x ∷ xs) ys (u ∷ us) vs none other at there e =
-    let head : x ≡ u = ap first e in
-    let rest = cut s xs ys us vs (λ k d small. none (suc k) d (omega arith)) (λ k d small. other (suc k) d (omega arith)) at there (ap (drop 1) e) in
-    (ap (λ b. b ∷ xs) head ∙ ap (λ l. u ∷ l) rest.0, rest.1)
 
 -- what stands before the LF
 before_lf : (xs us : List ℕ) → xs ++ 10 ∷ [] ≡ us ++ 10 ∷ [] → xs ≡ us
@@ -121,16 +101,6 @@ tail_by : (v : Bool) (t : ℕ) → t < 2 ^ 32 → All (λ b. b ≢ 32) (if v the
 tail_by true t small = All-nil (λ b. b ≢ 32)
 tail_by false t small = All-cons (λ b. b ≢ 32) 47 (decimal t) (λ e. omega arith) (no_space (decimal t) (decimal_above t small))
 
-begins_by : (v : Bool) (t : ℕ) → Begins 47 (if v then [] else codes "/" ++ decimal t)
-begins_by true t = tt
-begins_by false t = refl
-
-tells_by : (v w : Bool) (t u : ℕ) → (t == 0) ≡ v → (u == 0) ≡ w → t < 8 → u < 8 → (if v then [] else codes "/" ++ decimal t) ≡ (if w then [] else codes "/" ++ decimal u) → t ≡ u
-tells_by true true t u zero none small less e = grind (arith, zero, none)
-tells_by true false t u zero none small less e = absurd (omega (arith, ap length e))
-tells_by false true t u zero none small less e = absurd (omega (arith, ap length e))
-tells_by false false t u zero none small less e = decimal_injective t u (omega arith) (omega arith) (ap (drop 1) e)
-
 frame_no_space : (f : Signal) → IsSignal f → All (λ b. b ≢ 32) (frame_text f)
 frame_no_space f is =
     let small : f.tail < 8 = is.small in
@@ -140,9 +110,9 @@ frame_no_space f is =
 frame_tells : (f g : Signal) → IsSignal f → IsSignal g → f.tech ≡ g.tech → frame_text f ≡ frame_text g → f ≡ g
 frame_tells f g is are tech e =
     let parts = cut 47 (hex_text f.bytes) (tail_text f.tail) (hex_text g.bytes) (tail_text g.tail) (hex_no_slash f.bytes is.bytes) (hex_no_slash g.bytes are.bytes)
-    (begins_by (f.tail == 0) f.tail) (begins_by (g.tail == 0) g.tail) e in
+    (tail_begins (f.tail == 0) f.tail) (tail_begins (g.tail == 0) g.tail) e in
     let bytes : f.bytes ≡ g.bytes = hex_tells f.bytes g.bytes is.bytes are.bytes parts.0 in
-    let tail : f.tail ≡ g.tail = tells_by (f.tail == 0) (g.tail == 0) f.tail g.tail refl refl is.small are.small parts.1 in
+    let tail : f.tail ≡ g.tail = tail_tells (f.tail == 0) (g.tail == 0) f.tail g.tail refl refl is.small are.small parts.1 in
     ap (λ x. signal x f.bytes f.tail) tech ∙ ap (λ x. signal g.tech x f.tail) bytes ∙ ap (λ x. signal g.tech g.bytes x) tail
 
 fate_tells : (x y : Fate) → fate_text x ≡ fate_text y → x ≡ y
@@ -240,6 +210,8 @@ letter_first NotImplemented = omega arith
 letter_first (Sap sap) = omega arith
 letter_first (LinkEnded loss) = omega arith
 letter_first (Replies replies) = omega arith
+letter_first (Heard all) = omega arith
+letter_first (Puts done) = omega arith
 letter_first Unlinked = omega arith
 letter_first NoLink = omega arith
 

@@ -8,7 +8,7 @@ use Rattle.llcp_link.specs.State.{restarted}
 use Rattle.snep_core.specs.Server.{serving}
 use Rattle.nfc_base.specs.declared.event.Event.{Event}
 use Rattle.bench_script.specs.declared.command.Command.{Command}
-use Rattle.bench_script.specs.declared.command.Command.TheVariants.{Remove, Find, Crowd, Poll3, Read, Read3, Write, Write3, Link, Forge, Put, Get, Lookup, Unlink}
+use Rattle.bench_script.specs.declared.command.Command.TheVariants.{Remove, Find, Crowd, Poll3, Read, Read3, Write, Write3, Link, Forge, Put, Get, Lookup, Unlink, OnPut, OnGet, Puts}
 use Rattle.bench_world.specs.declared.entry.Answer.{Answer}
 use Rattle.bench_world.specs.declared.entry.Answer.TheVariants as answers
 use Rattle.bench_world.specs.declared.entry.Entry.{Entry}
@@ -170,6 +170,9 @@ pub ended_in : (s : State) (joins : Joins) (c : Command) (es : List Event) (a : 
 ended_in s joins (Put m) es a l open_ ended = unless_numbers (link_after s joins (Put m) es a) s.link (world_after s joins (Put m) es).fars s.peers
 ended_in s joins (Get most key) es a l open_ ended = unless_numbers (link_after s joins (Get most key) es a) s.link (world_after s joins (Get most key) es).fars s.peers
 ended_in s joins (Lookup name) es a l open_ ended = unless_numbers (link_after s joins (Lookup name) es a) s.link (world_after s joins (Lookup name) es).fars s.peers
+ended_in s joins (OnPut slot m) es a l open_ ended = unless_numbers (link_after s joins (OnPut slot m) es a) s.link (world_after s joins (OnPut slot m) es).fars s.peers
+ended_in s joins (OnGet slot most key) es a l open_ ended = unless_numbers (link_after s joins (OnGet slot most key) es a) s.link (world_after s joins (OnGet slot most key) es).fars s.peers
+ended_in s joins (Puts puts) es a l open_ ended = unless_numbers (link_after s joins (Puts puts) es a) s.link (world_after s joins (Puts puts) es).fars s.peers
 ended_in s joins Unlink es a l open_ ended = same_numbers s.link s.peers (world_after s joins Unlink es).fars
 ended_in s joins (Link id miu window) es a l open_ ended = absurd (let clash : None ≡ Some l = open_ in cc)
 ended_in s joins (Forge id payloads) es a l open_ ended = absurd (let clash : None ≡ Some l = open_ in cc)

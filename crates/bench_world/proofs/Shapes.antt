@@ -6,7 +6,7 @@ use Rattle.std.specs.Cmp.Lexicographic.{pointwise}
 use Rattle.nfc_base.specs.declared.event.Event.{Event}
 use Rattle.air_core.specs.Conversation.{replay}
 use Rattle.bench_script.specs.declared.command.Command.{Command}
-use Rattle.bench_script.specs.declared.command.Command.TheVariants.{Skip, Fates, PlaceT2, PlaceT3, PlaceT4, PlaceT5, PlacePeer, Lock, Busy, Offer, Remove, Dump, Inbox, Find, Crowd, Poll3, Read, Read3, Write, Write3, Link, Forge, Put, Get, Lookup, Unlink}
+use Rattle.bench_script.specs.declared.command.Command.TheVariants.{Skip, Fates, PlaceT2, PlaceT3, PlaceT4, PlaceT5, PlacePeer, Lock, Busy, Offer, Remove, Dump, Inbox, Find, Crowd, Poll3, Read, Read3, Write, Write3, Link, Forge, Raw, Put, Get, Lookup, OnPut, OnGet, Puts, Unlink}
 use Rattle.bench_script.specs.DeviceIds.{bytes_of}
 use Rattle.bench_script.specs.Script.{Spells, is_skipped}
 use Rattle.bench_script.proofs.Spelling.{spells_one}
@@ -158,6 +158,10 @@ accepts_too s t (Write3 id m) alike is = tt
 accepts_too s t (Write id m) alike is = tt
 accepts_too s t (Link id miu window) alike is = is
 accepts_too s t (Forge id payloads) alike is = is
+accepts_too s t (Raw id frames) alike is = is
+accepts_too s t (OnPut slot m) alike is = is
+accepts_too s t (OnGet slot most key) alike is = is
+accepts_too s t (Puts puts) alike is = is
 accepts_too s t (Put m) alike is = is
 accepts_too s t (Get most key) alike is = is
 accepts_too s t (Lookup name) alike is = is
@@ -232,6 +236,10 @@ changes_alike s t (Write3 id m) alike = alike
 changes_alike s t (Write id m) alike = alike
 changes_alike s t (Link id miu window) alike = alike
 changes_alike s t (Forge id payloads) alike = alike
+changes_alike s t (Raw id frames) alike = alike
+changes_alike s t (OnPut slot m) alike = alike
+changes_alike s t (OnGet slot most key) alike = alike
+changes_alike s t (Puts puts) alike = alike
 changes_alike s t (Put m) alike = alike
 changes_alike s t (Get most key) alike = alike
 changes_alike s t (Lookup name) alike = alike

@@ -1,26 +1,27 @@
--- The stories of the links of a state, and what a stretch adds to them where it changes none, and where it puts a message.
-use Rattle.std.proofs.Common.{◌≡◌, ◌⊎◌, inl, inr, ℕ, ◌<◌, ◌≤◌, List, [], ◌∷◌, ◌++◌, map, length, drop, Option, Some, None, refl, sym, ◌∙◌, ap, subst}
+-- The stories of the links of a state, and what a stretch adds to them where it changes none, and where it puts messages.
+use Rattle.std.proofs.Common.{◌≡◌, ◌⊎◌, ℕ, ◌<◌, ◌≤◌, false, List, [], ◌∷◌, ◌++◌, map, length, drop, Option, Some, None, refl, sym, ◌∙◌, ap, subst}
 use Rattle.std.proofs.lemmas.List.{append-nil}
 use Rattle.std.proofs.Math.Seq.{drop-length, drop-append_seam}
 use Rattle.nfc_base.specs.declared.event.Event.{Event}
-use Rattle.snep_core.specs.Accord.{from_client}
-use Rattle.snep_core.specs.Links.{LinkAccepts, Told, Success, Rejected, Unanswered, Put}
+use Rattle.snep_core.specs.Links.{LinkAccepts, Told, Put}
+use Rattle.snep_core.specs.Payloads.{accepted_from}
 use Rattle.snep_core.specs.Server.{Received as Accepted}
-use Rattle.snep_core.specs.Talk.{client_sap}
+use Rattle.link_calls.specs.AtOnce.{AreApart, is_from}
+use Rattle.link_calls.specs.declared.request.SlotMessage.{SlotMessage}
 use Rattle.bench_world.specs.declared.entry.Answer.{Answer}
 use Rattle.bench_world.specs.declared.entry.Answer.TheVariants as answers
 use Rattle.bench_world.specs.declared.entry.Loss.{Loss}
 use Rattle.bench_world.specs.World.{FarEnd}
 use Rattle.bench_world.specs.Arrivals.{Arrival}
-use Rattle.bench_world.specs.Calls.{OfEnd, PutAdds}
+use Rattle.bench_world.specs.Calls.{AllAdd, EachAdds, OfEnd}
 use Rattle.bench_world.specs.Legal.{State}
 use Rattle.bench_world.specs.Links.{OpenLink, accepted_by, end_numbered, accepted_at, ended, with_last_ended}
 use Rattle.bench_world.specs.LinkLaw.{AcceptsPuts, KeepsLinkLaw}
 use Rattle.bench_world.specs.Peers.{Peers, next_number}
-use Rattle.bench_world.specs.Stories.{Opener, ByLink, ByForge, LinkPut, Story, Stretch, arrived_by, told_put, puts_in, last_goes_on, open_goes_on}
+use Rattle.bench_world.specs.Stories.{Opener, ByLink, ByForge, LinkPut, Story, Stretch, arrived_by, puts_in, puts_told, last_goes_on, open_goes_on}
 use Rattle.bench_world.proofs.AtNumbers.{Held, held, held_at}
 use Rattle.bench_world.proofs.PeersNumbered.{HavePlaces}
-use Rattle.bench_world.proofs.PutsTold.{InStep, in_step_accepts, taken_more, refused_more, none_more, one_more, with_none, with_one}
+use Rattle.bench_world.proofs.PutsTold.{AreTold, InStep, all_accept, all_in_step, with_all}
 use Rattle.bench_world.proofs.StoriesStand.{View, at, Closed, Opened, Open, IsInStep, in_step_keeps, closed_here, view_ended, came, went_on, open_came}
 use Rattle.bench_world.proofs.Tales.{accepted_of, accepted_in, gained_by, goes_on}
 
@@ -98,72 +99,34 @@ pub ended_closed : (o : Option OpenLink) (p : Peers) (fars : List (Option FarEnd
 ended_closed None p fars ys stand = stand
 ended_closed (Some l) p fars ys stand = over_closed p fars l.peer ys stand.opened
 
--- How a put is told, and what the peer accepted of it.
-abbrev pub TakesSo : ℕ → List ℕ → Answer → List Accepted → Type 0
-TakesSo limit m a more =
-    ((told_put (Some a) ≡ Success) × (length m ≤ limit) × (more ≡ from_client m ∷ []))
-    ⊎ (((told_put (Some a) ≡ Rejected) × (limit < length m) × (more ≡ []))
-    ⊎ ((told_put (Some a) ≡ Unanswered) × ((loss : Loss) × (a ≡ answers.LinkEnded loss)) × ((more ≡ []) ⊎ ((length m ≤ limit) × (more ≡ from_client m ∷ [])))))
-
-takes_end : (m : List ℕ) (end : FarEnd) (a : Answer) (more : List Accepted) → PutAdds m end a more → TakesSo end.service.limit m a more
-takes_end m end answers.Success more h = inl (refl, h.0, h.1)
-takes_end m end answers.Reject more h = inr (inl (refl, h.0, h.1))
-takes_end m end (answers.LinkEnded loss) more h = inr (inr (refl, (loss, refl), h))
-takes_end m end a more h = absurd h
-
-pub takes_so : (m : List ℕ) (o : Option FarEnd) (k : Held) (a : Answer) (more : List Accepted) → held o ≡ Some k → OfEnd (λ end. PutAdds m end a more) o → TakesSo k.limit m a more
-takes_so m None k a more e h = absurd h
-takes_so m (Some end) k a more e h =
+-- What messages that were put at once add, at the end of a link's peer.
+pub adds_so : (ws : List SlotMessage) (o : Option FarEnd) (k : Held) (ts : List Told) (more : List Accepted) → held o ≡ Some k → OfEnd (λ end. AllAdd ws end ts more) o
+    → EachAdds ws k.limit ts more × ((s : ℕ) → is_from s ws ≡ false → accepted_from s more ≡ [])
+adds_so ws None k ts more e h = absurd h
+adds_so ws (Some end) k ts more e h =
     let is : record { limit = end.service.limit; accepted = end.service.accepted } ≡ k = cc in
-    subst (λ (x : Held). TakesSo x.limit m a more) is (takes_end m end a more h)
+    (subst (λ (x : Held). EachAdds ws x.limit ts more) is h.each, h.others)
 
 -- so a story goes on that was in step
-abbrev pub put_to : Story → List Event → List Arrival → List ℕ → Told → List Accepted → Story
-put_to y es arrivals m told more = went_on es arrivals (record { source = client_sap; put = record { message = m; told = told } } ∷ []) more y
+abbrev pub put_to : Story → List Event → List Arrival → List SlotMessage → List Told → List Accepted → Story
+put_to y es arrivals ws ts more = went_on es arrivals (puts_told ws ts) more y
 
-module _ (y : Story) (step : IsInStep y) (es : List Event) (arrivals : List Arrival) (m : List ℕ) where
+module _ (y : Story) (step : IsInStep y) (es : List Event) (arrivals : List Arrival) (ws : List SlotMessage) (apart : AreApart ws) (ts : List Told) (more : List Accepted)
+    (adds : EachAdds ws y.begun.service.limit ts more) (others : (s : ℕ) → is_from s ws ≡ false → accepted_from s more ≡ []) where
   abbrev Step : List Put → List (List ℕ) → Type 0
   Step = InStep y.begun.service.limit
 
-  itself : (ps : List Put) (xs : List (List ℕ)) → Step ps xs → Step ps xs
-  itself ps xs s = s
+  abbrev Now : Story
+  Now = put_to y es arrivals ws ts more
 
-  taken_story : length m ≤ y.begun.service.limit → IsInStep (put_to y es arrivals m Success (from_client m ∷ []))
-  taken_story within =
-      with_one Step Step itself y.puts y.gained step (record { message = m; told = Success }) m (λ ps xs s. taken_more y.begun.service.limit ps xs s m within)
-
-  refused_story : y.begun.service.limit < length m → IsInStep (put_to y es arrivals m Rejected [])
-  refused_story beyond =
-      with_none Step Step itself y.puts y.gained step (record { message = m; told = Rejected }) (λ ps xs s. refused_more y.begun.service.limit ps xs s m beyond)
-
-  unanswered_none : (o : Opener) → AcceptsPuts o (put_to y es arrivals m Unanswered [])
-  unanswered_none ByForge = tt
-  unanswered_none ByLink =
-      with_none Step (LinkAccepts y.begun.service.limit) (in_step_accepts y.begun.service.limit) y.puts y.gained step (record { message = m; told = Unanswered })
-      (λ ps xs s. none_more y.begun.service.limit ps xs s m)
-
-  unanswered_one : length m ≤ y.begun.service.limit → (o : Opener) → AcceptsPuts o (put_to y es arrivals m Unanswered (from_client m ∷ []))
-  unanswered_one within ByForge = tt
-  unanswered_one within ByLink =
-      with_one Step (LinkAccepts y.begun.service.limit) (in_step_accepts y.begun.service.limit) y.puts y.gained step (record { message = m; told = Unanswered }) m
-      (λ ps xs s. one_more y.begun.service.limit ps xs s m within)
-
-  -- it keeps the law, and is in step still unless the link ended
-  abbrev pub KeptBy : Answer → Story → Type 0
-  KeptBy a z = KeepsLinkLaw z × (((loss : Loss) → a ≡ answers.LinkEnded loss → ⊥) → IsInStep z)
-
-  in_step_kept : (a : Answer) (z : Story) → IsInStep z → KeptBy a z
-  in_step_kept a z s = (in_step_keeps z s, λ never. s)
-
-  pub kept_by : (a : Answer) (more : List Accepted) → TakesSo y.begun.service.limit m a more → KeptBy a (put_to y es arrivals m (told_put (Some a)) more)
-  kept_by a more (inl h) =
-      subst (λ xs. KeptBy a (put_to y es arrivals m (told_put (Some a)) xs)) (sym h.2) (subst (λ t. KeptBy a (put_to y es arrivals m t (from_client m ∷ []))) (sym h.0)
-      (in_step_kept a (put_to y es arrivals m Success (from_client m ∷ [])) (taken_story h.1)))
-  kept_by a more (inr (inl h)) =
-      subst (λ xs. KeptBy a (put_to y es arrivals m (told_put (Some a)) xs)) (sym h.2) (subst (λ t. KeptBy a (put_to y es arrivals m t [])) (sym h.0)
-      (in_step_kept a (put_to y es arrivals m Rejected []) (refused_story h.1)))
-  kept_by a more (inr (inr h)) = subst (λ t. KeptBy a (put_to y es arrivals m t more)) (sym h.0) (by h.2)
+  -- it keeps the law
+  pub puts_keep : KeepsLinkLaw Now
+  puts_keep = by y.opener
     where
-      by : (more ≡ []) ⊎ ((length m ≤ y.begun.service.limit) × (more ≡ from_client m ∷ [])) → KeptBy a (put_to y es arrivals m Unanswered more)
-      by (inl none) = subst (λ xs. KeptBy a (put_to y es arrivals m Unanswered xs)) (sym none) (unanswered_none y.opener, λ never. absurd (never h.1.0 h.1.1))
-      by (inr one) = subst (λ xs. KeptBy a (put_to y es arrivals m Unanswered xs)) (sym one.1) (unanswered_one one.0 y.opener, λ never. absurd (never h.1.0 h.1.1))
+      by : (o : Opener) → AcceptsPuts o Now
+      by ByForge = tt
+      by ByLink = with_all Step (LinkAccepts y.begun.service.limit) y.puts y.gained step (puts_told ws ts) more (all_accept ws apart y.begun.service.limit ts more adds others)
+
+  -- and is in step still, where each was told of
+  pub puts_step : AreTold ts → IsInStep Now
+  puts_step told = with_all Step Step y.puts y.gained step (puts_told ws ts) more (all_in_step ws apart y.begun.service.limit ts more adds others told)

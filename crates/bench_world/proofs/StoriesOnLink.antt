@@ -1,5 +1,5 @@
 -- What a legal step does to the stories of links where it opens one, and where it goes on with the one that is open.
-use Rattle.std.proofs.Common.{◌≡◌, ℕ, ◌+◌, List, [], ◌∷◌, ◌++◌, map, length, Option, Some, None, Result, Ok, Err, refl, sym, ◌∙◌, ap, subst}
+use Rattle.std.proofs.Common.{◌≡◌, ℕ, ◌+◌, Bool, true, false, if◌then◌else◌, List, [], ◌∷◌, ◌++◌, map, length, Option, Some, None, Result, Ok, Err, refl, sym, ◌∙◌, ap, subst}
 use Rattle.std.proofs.lemmas.List.{append-nil}
 use Rattle.nfc_base.specs.declared.event.Event.{Event}
 use Rattle.nfc_base.specs.declared.event.Fate.{Fate}
@@ -12,63 +12,92 @@ use Rattle.nfca_poll.specs.declared.fault.PollFault.{PollFault}
 use Rattle.nfca_poll.specs.declared.fault.PollFault.TheVariants as faults
 use Rattle.link_calls.specs.CallDue.{CallStanding, Carries, Comes, BrokenBy, Strays}
 use Rattle.snep_core.specs.Server.{Received as Accepted}
+use Rattle.snep_core.specs.declared.slot.Outcome.{Outcome}
+use Rattle.snep_core.specs.declared.slot.Outcome.TheVariants as outcomes
+use Rattle.snep_core.specs.Links.{Told, Success, Rejected, Unanswered}
+use Rattle.snep_core.specs.Payloads.{accepted_from}
+use Rattle.snep_core.specs.declared.job.OnSap.{OnSap}
 use Rattle.snep_core.specs.Talk.{Goes, Ends, GivesUp}
-use Rattle.snep_core.specs.declared.job.Ending.{Ending}
-use Rattle.snep_core.specs.declared.job.Ending.TheVariants as endings
-use Rattle.snep_core.specs.declared.job.Refusal.TheVariants as refusals
-use Rattle.snep_core.specs.declared.job.Job.{Job}
-use Rattle.snep_core.specs.declared.job.Job.TheVariants as jobs
-use Rattle.bench_script.specs.declared.command.Command.TheVariants as commands
+use Rattle.link_calls.specs.Asking.{LinkAsking, Call, Does, Closes, Finding, Getting, Putting}
+use Rattle.link_calls.specs.AtOnce.{AreApart, is_from, told_on}
+use Rattle.link_calls.specs.declared.request.SlotMessage.{SlotMessage}
 use Rattle.bench_script.specs.declared.command.DeviceId.{DeviceId}
-use Rattle.bench_script.specs.declared.message.Msg.{Msg}
-use Rattle.bench_script.specs.Messages.{message_of}
 use Rattle.bench_devices.specs.declared.device.Device.{Device}
 use Rattle.bench_devices.specs.declared.polling.SeenKind.{SeenKind}
 use Rattle.bench_devices.specs.declared.polling.SeenKind.TheVariants as seen
 use Rattle.bench_devices.specs.Answering.{TellsStanding}
 use Rattle.bench_world.specs.declared.entry.Answer.{Answer}
 use Rattle.bench_world.specs.declared.entry.Answer.TheVariants as answers
-use Rattle.bench_world.specs.declared.entry.Loss.{Loss}
 use Rattle.bench_world.specs.World.{FarEnd, WholeWorld}
 use Rattle.bench_world.specs.Answering.{poll_answer}
-use Rattle.bench_world.specs.Calls.{OfEnd, PutAdds, link_behind, told_call, told_ending, told_job}
+use Rattle.bench_world.specs.declared.entry.SlotDone.{SlotDone}
+use Rattle.bench_world.specs.Calls.{AllAdd, EachAdds, OfEnd, all_done, asked_behind, link_behind, stands_on, told_asked, told_at_once, told_call, told_done, told_each, told_jobs, told_one, told_several}
 use Rattle.bench_world.specs.Legal.{State, Joins, end_of}
 use Rattle.bench_world.specs.Linking.{LinkTells, LinkEnds, TellsLoss, link_if}
 use Rattle.bench_world.specs.Links.{OpenLink, ended_unless, begun_if, end_numbered, accepted_at}
 use Rattle.bench_world.specs.Peers.{Peers, next_number, placed_under}
 use Rattle.bench_world.specs.LinkLaw.{KeepsLinkLaw}
-use Rattle.bench_world.specs.Stories.{Story, Stretch, arrived_by, puts_in, last_goes_on, first_of, story_if, told_put}
+use Rattle.bench_world.specs.Stories.{LinkPut, Story, Stretch, arrived_by, puts_in, puts_told, last_goes_on, first_of, story_if, told_all}
 use Rattle.bench_world.proofs.AtNumbers.{Held, held, held_at, at_number, at_own_place, with_held}
 use Rattle.bench_world.proofs.PeersNumbered.{HavePlaces}
-use Rattle.bench_world.proofs.StoriesHere.{view_at, view_of, Stand, gain, over_closed, count_is, taken_by, TakesSo, takes_so, put_to, KeptBy, kept_by}
+use Rattle.bench_world.proofs.StoriesHere.{view_at, view_of, Stand, adds_so, gain, over_closed, count_is, taken_by, put_to, puts_keep, puts_step}
+use Rattle.bench_world.proofs.PutsTold.{AreTold}
 use Rattle.bench_world.proofs.StoriesStand.{at, Closed, Opened, Open, IsInStep, opened_more, view_more, open_here, view_begun, found_after}
 use Rattle.bench_world.proofs.Tales.{gained_by, goes_on}
 
--- A call that came to its end doesn't tell of a link that ended; and only then is the link still open, to the same peer.
-never_lost : (e : Ending) (loss : Loss) → told_ending e ≡ answers.LinkEnded loss → ⊥
-never_lost endings.Done loss h = cc
-never_lost (endings.Value v) loss h = cc
-never_lost (endings.Sap n) loss h = cc
-never_lost (endings.Refused refusals.Reject) loss h = cc
-never_lost (endings.Refused refusals.NotFound) loss h = cc
-never_lost (endings.Refused refusals.Excess) loss h = cc
-never_lost (endings.Refused refusals.NotImplemented) loss h = cc
+-- What a call came to that was told of tells of each message that it put; and only then is the link still open, to the same peer.
+abbrev pub messages_of : LinkAsking → List SlotMessage
+messages_of (Does (Putting ws)) = ws
+messages_of asked = []
 
-never_told : (j : Job) (a : Answer) → told_job j ≡ Some a → (loss : Loss) → a ≡ answers.LinkEnded loss → ⊥
-never_told (jobs.Over e) a told loss is = let same : told_ending e ≡ a = cc in never_lost e loss (same ∙ is)
-never_told j a told loss is = cc
+abbrev pub tolds_of : LinkAsking → Option Answer → List Told
+tolds_of (Does (Putting ws)) told = told_all ws told
+tolds_of asked told = []
 
-pub came_to_end : (n : ℕ) (s : CallStanding) (a : Answer) (m : OpenLink) → told_call s ≡ Some a → link_behind n s ≡ Some m → (m.peer ≡ n) × ((loss : Loss) → a ≡ answers.LinkEnded loss → ⊥)
-came_to_end n (Comes (Ends [] k) i) a m told is = absurd cc
-came_to_end n (Comes (Ends (x ∷ []) k) i) a m told is =
+done_told : (ds : List SlotDone) → AreTold (map told_done ds)
+done_told [] = tt
+done_told (d ∷ ds) = (by d.success, done_told ds)
+  where
+    by : (v : Bool) → (if v then Success else Rejected) ≡ Unanswered → ⊥
+    by true e = cc
+    by false e = cc
+
+one_told : (w : SlotMessage) (o : Outcome) (a : Answer) → told_one o ≡ Some a → AreTold (told_each (w ∷ []) a)
+one_told w outcomes.Success a e = let same : answers.Success ≡ a = cc in subst (λ x. AreTold (told_each (w ∷ []) x)) same ((λ q. cc), tt)
+one_told w outcomes.Rejected a e = let same : answers.Reject ≡ a = cc in subst (λ x. AreTold (told_each (w ∷ []) x)) same ((λ q. cc), tt)
+one_told w outcomes.Staged a e = absurd cc
+one_told w outcomes.NoMessage a e = absurd cc
+
+several_told : (ws : List SlotMessage) (r : Option (List SlotDone)) (a : Answer) → told_several r ≡ Some a → AreTold (told_each ws a)
+several_told ws None a e = absurd cc
+several_told ws (Some ds) a e = let same : answers.Puts ds ≡ a = cc in subst (λ x. AreTold (told_each ws x)) same (done_told ds)
+
+at_once_told : (ws : List SlotMessage) (jobs : List OnSap) (a : Answer) → told_at_once ws jobs ≡ Some a → AreTold (told_each ws a)
+at_once_told [] jobs a e = several_told [] (all_done [] jobs) a e
+at_once_told (w ∷ []) jobs a e = one_told w (told_on jobs w.slot) a e
+at_once_told (w ∷ v ∷ ws) jobs a e = several_told (w ∷ v ∷ ws) (all_done (w ∷ v ∷ ws) jobs) a e
+
+pub jobs_told : (call : Call) (jobs : List OnSap) (a : Answer) → told_jobs call jobs ≡ Some a → AreTold (tolds_of (Does call) (Some a))
+jobs_told (Putting ws) jobs a e = at_once_told ws jobs a e
+jobs_told (Getting sap most key) jobs a e = tt
+jobs_told (Finding name) jobs a e = tt
+
+came_to_end : (call : Call) (n : ℕ) (s : CallStanding) (a : Answer) (m : OpenLink) → told_call call s ≡ Some a → link_behind n s ≡ Some m → (m.peer ≡ n) × AreTold (tolds_of (Does call) (Some a))
+came_to_end call n (Comes (Ends jobs k) i) a m told is =
     let same : record { peer = n; initiator = i; client = k } ≡ m = cc in
-    (sym (ap (λ (o : OpenLink). o.peer) same), never_told x.job a told)
-came_to_end n (Comes (Ends (x ∷ y ∷ xs) k) i) a m told is = absurd cc
-came_to_end n (Comes (Goes w) i) a m told is = absurd cc
-came_to_end n (Comes (GivesUp k) i) a m told is = absurd cc
-came_to_end n (Carries (w, ns) s) a m told is = absurd cc
-came_to_end n (BrokenBy why) a m told is = absurd cc
-came_to_end n Strays a m told is = absurd cc
+    (sym (ap (λ (o : OpenLink). o.peer) same), jobs_told call jobs a told)
+came_to_end call n (Comes (Goes w) i) a m told is = absurd cc
+came_to_end call n (Comes (GivesUp k) i) a m told is = absurd cc
+came_to_end call n (Carries (w, ns) s) a m told is = absurd cc
+came_to_end call n (BrokenBy why) a m told is = absurd cc
+came_to_end call n Strays a m told is = absurd cc
+
+-- so behind whatever was asked, or cut off
+pub left_open : (asked : LinkAsking) (told : Option Answer) (l m : OpenLink) (joins : List ℕ) (es : List Event) → ((a : Answer) → told ≡ Some a → told_asked asked l joins es ≡ Some a)
+    → asked_behind asked told (Some l) joins es ≡ Some m → (m.peer ≡ l.peer) × AreTold (tolds_of asked told)
+left_open (Does call) None l m joins es tells is = absurd cc
+left_open (Does call) (Some a) l m joins es tells is = came_to_end call l.peer (stands_on l joins call es) a m (tells a refl) is
+left_open Closes told l m joins es tells is = absurd cc
 
 -- Behind a call the link is open still, and all was told on it as it is, or it ended.
 pub call_over : (w : WholeWorld) (q : List Fate) (p : Peers) (l : OpenLink) (ys : List Story) (o : Opened (view_at p w.fars) l.peer ys) (left : Option OpenLink)
@@ -83,20 +112,17 @@ pub same_opened : (p : Peers) (fars now : List (Option FarEnd)) (n : ℕ) (ys : 
 same_opened p fars now n ys same o =
     subst (λ ks. Open (record { numbers = p.numbers; placed = next_number p; links = p.links; held = ks }) n ys) (sym same) o
 
--- A put.
-module _ (s t : State) (l : OpenLink) (ys : List Story) (o : Open (view_of s) l.peer ys) (m : Msg) (joins : Joins) (events : List Event) (a : Answer) (more : List Accepted)
-    (adds : OfEnd (λ end. PutAdds (message_of m) end a more) (end_of s l)) (numbers : t.peers.numbers ≡ s.peers.numbers)
+-- A command on it, which puts these messages, told of so.
+module _ (s t : State) (l : OpenLink) (ys : List Story) (o : Open (view_of s) l.peer ys) (x : Stretch) (ws : List SlotMessage) (apart : AreApart ws) (ts : List Told) (puts : puts_in x.command x.told ≡ puts_told ws ts)
+    (more : List Accepted) (adds : OfEnd (λ end. AllAdd ws end ts more) (end_of s l)) (numbers : t.peers.numbers ≡ s.peers.numbers)
     (accepted : map held t.world.fars ≡ with_held more l.peer s.peers.numbers (map held s.world.fars)) where
   abbrev y : Story
   y = o.opened.now.story
 
-  abbrev x : Stretch
-  x = record { command = commands.Put m; joins = joins; events = events; told = Some a }
-
-  takes : TakesSo y.begun.service.limit (message_of m) a more
-  takes =
-      subst (λ n. TakesSo n (message_of m) a more) o.opened.going.limit
-      (takes_so (message_of m) (end_of s l) o.opened.going.there a more (held_at l.peer s.peers.numbers s.world.fars ∙ o.opened.going.found) adds)
+  both : EachAdds ws y.begun.service.limit ts more × ((c : ℕ) → is_from c ws ≡ false → accepted_from c more ≡ [])
+  both =
+      let h = adds_so ws (end_of s l) o.opened.going.there ts more (held_at l.peer s.peers.numbers s.world.fars ∙ o.opened.going.found) adds in
+      (subst (λ n. EachAdds ws n ts more) o.opened.going.limit h.0, h.1)
 
   abbrev grown : Held
   grown = record { limit = o.opened.going.there.limit; accepted = o.opened.going.there.accepted ++ more }
@@ -106,19 +132,18 @@ module _ (s t : State) (l : OpenLink) (ys : List Story) (o : Open (view_of s) l.
       ap (λ ns. at_number l.peer ns (map held t.world.fars)) numbers ∙ ap (at_number l.peer s.peers.numbers) accepted
       ∙ found_after (view_of s) l.peer ys o.opened more
 
-  goes : goes_on s x t y ≡ put_to y events (arrived_by s x y) (message_of m) (told_put (Some a)) more
+  goes : goes_on s x t y ≡ put_to y x.events (arrived_by s x y) ws ts more
   goes =
       let gained : gained_by y.peer s t ≡ more =
       ap (λ n. gained_by n s t) o.opened.going.own ∙ gain l.peer s t o.opened.going.there grown more o.opened.going.found there_now refl in
-      ap (λ gs. put_to y events (arrived_by s x y) (message_of m) (told_put (Some a)) gs) gained
+      let S : List LinkPut → List Accepted → Story = λ ps gs. record y { events = y.events ++ x.events; arrivals = y.arrivals ++ arrived_by s x y; puts = y.puts ++ ps; gained = y.gained ++ gs } in
+      ap (λ ps. S ps (gained_by y.peer s t)) puts ∙ ap (S (puts_told ws ts)) gained
 
-  kept : KeptBy y o.step events (arrived_by s x y) (message_of m) a (put_to y events (arrived_by s x y) (message_of m) (told_put (Some a)) more)
-  kept = kept_by y o.step events (arrived_by s x y) (message_of m) a more takes
-
-  pub put_over : (z : Opened (view_more (view_of s) l.peer more) l.peer (last_goes_on (goes_on s x t) ys)) × (((loss : Loss) → a ≡ answers.LinkEnded loss → ⊥) → IsInStep z.now.story)
-  put_over =
-      let z = opened_more (view_of s) l.peer ys o.opened more (goes_on s x t) events (arrived_by s x y) (puts_in (commands.Put m) (Some a)) goes (subst KeepsLinkLaw (sym goes) kept.0) in
-      (z.0, λ unlost. subst IsInStep (sym (z.1 ∙ goes)) (kept.1 unlost))
+  pub talk_over : (z : Opened (view_more (view_of s) l.peer more) l.peer (last_goes_on (goes_on s x t) ys)) × (AreTold ts → IsInStep z.now.story)
+  talk_over =
+      let keeps : KeepsLinkLaw (put_to y x.events (arrived_by s x y) ws ts more) = puts_keep y o.step x.events (arrived_by s x y) ws apart ts more both.0 both.1 in
+      let z = opened_more (view_of s) l.peer ys o.opened more (goes_on s x t) x.events (arrived_by s x y) (puts_told ws ts) goes (subst KeepsLinkLaw (sym goes) keeps) in
+      (z.0, λ told. subst IsInStep (sym (z.1 ∙ goes)) (puts_step y o.step x.events (arrived_by s x y) ws apart ts more both.0 both.1 told))
 
 -- `linked` tells the next number.
 polled_unlinked : (e : PollFault) (n : ℕ) → poll_answer e ≡ Some (answers.Linked n) → ⊥

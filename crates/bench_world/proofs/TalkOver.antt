@@ -13,12 +13,19 @@ use Rattle.snep_core.specs.declared.job.Ending.{Ending}
 use Rattle.snep_core.specs.declared.job.Ending.TheVariants.{Done, Value, Sap, Refused}
 use Rattle.snep_core.specs.declared.job.Job.TheVariants.{Over as Ended}
 use Rattle.snep_core.specs.Accord.{Accords}
-use Rattle.snep_core.specs.Talk.{EndState, Ends, Task, Puts, Gets, Finds, Leaves, all_closed, alone, begins, closes}
-use Rattle.link_calls.specs.Asking.{LinkAsking, Does, Closes, is_closing}
-use Rattle.link_calls.specs.Called.{Called, ClosingCalled, OpenAir, Served, TaskCalled}
+use Rattle.snep_core.specs.declared.slot.Slot.{Slot}
+use Rattle.snep_core.specs.declared.job.OnSap.{OnSap}
+use Rattle.snep_core.specs.Talk.{EndState, Ends, Task, Puts, Gets, Finds, all_closed, client_sap, closes, one_on, sap_of_slot}
+use Rattle.link_calls.specs.Asking.{LinkAsking, Call, Does, Closes, Finding, Getting, Putting, asking_of, call_begins, is_closing, put_from}
+use Rattle.link_calls.specs.AtOnce.{AreApart, IsAtRest, ServedAtOnce}
+use Rattle.link_calls.specs.Called.{AllCalled, AllFailed, Called, ClosingCalled, OpenAir, Served, TaskCalled}
+use Rattle.link_calls.specs.declared.request.LinkRequest.{LinkRequest}
+use Rattle.link_calls.specs.declared.request.LinkRequest.TheVariants as requests
+use Rattle.link_calls.specs.declared.request.SlotMessage.{SlotMessage}
 use Rattle.link_calls.specs.Calls.{CallFails, IsCutOff, IsMade}
 use Rattle.bench_script.specs.declared.command.Command.{Command}
-use Rattle.bench_script.specs.declared.command.Command.TheVariants.{Put, Get, Lookup, Unlink}
+use Rattle.bench_script.specs.declared.command.Command.TheVariants.{Put, Get, Lookup, OnPut, OnGet, Unlink}
+use Rattle.bench_script.specs.declared.command.Command.TheVariants as commands
 use Rattle.bench_devices.specs.declared.device.Device.{Device}
 use Rattle.bench_devices.specs.Device.{device_end}
 use Rattle.bench_devices.specs.Keeping.{ghosts}
@@ -28,16 +35,18 @@ use Rattle.bench_world.specs.declared.entry.Answer.TheVariants as answers
 use Rattle.bench_world.specs.declared.entry.Loss.TheVariants as losses
 use Rattle.bench_world.specs.World.{FarEnd}
 use Rattle.bench_world.specs.Asked.{IsOnLink, asked_on_link}
-use Rattle.bench_world.specs.Calls.{told_ending, told_loss}
+use Rattle.bench_world.specs.Calls.{told_at_once, told_ending, told_jobs, told_loss}
 use Rattle.bench_world.specs.Legal.{Accepts, AnswerLaw, FrontOf, IsAskedBy, Joins, due, joins_for, state_after}
 use Rattle.bench_world.specs.Links.{OpenLink}
-use Rattle.bench_world.specs.LinkTaken.{TakesLink, fault_told, put_back, put_down}
+use Rattle.bench_world.specs.LinkTaken.{TakesLink, fault_told, put_back, put_down, told_slots}
 use Rattle.bench_world.specs.Obeying.{Machines, IsCutOffBy, IsSettled, ObeyedBy, state_at, under}
 use Rattle.bench_world.specs.Peers.{Peers}
 use Rattle.bench_world.proofs.OnCall.{given_by}
 use Rattle.bench_world.proofs.OnLink.{Ends as FarEnds}
 use Rattle.bench_world.proofs.CloseOver as closing
 use Rattle.bench_world.proofs.LinkOver.{Before, GoneAt, accords, called, counted, far_is, gone_so, its, link, open_so, short_so, so, spot}
+use Rattle.bench_world.proofs.Saying.{Left, LeftBy, Says, all_left, find_left, get_left, put_left, says_all, says_find, says_get, says_put}
+use Rattle.bench_world.proofs.SlotsTold.{told_by_slots}
 use Rattle.bench_world.proofs.Talking as talking
 use Rattle.bench_world.proofs.Talks.{off, on_link}
 
@@ -67,6 +76,9 @@ module _ (air : Air Device) (ends : FarEnds) (peers : Peers) (settled : IsSettle
   none_open (Put m) on may = none_so (Put m) may refl refl refl (λ ns. refl) (λ es. refl)
   none_open (Get most key) on may = none_so (Get most key) may refl refl refl (λ ns. refl) (λ es. refl)
   none_open (Lookup name) on may = none_so (Lookup name) may refl refl refl (λ ns. refl) (λ es. refl)
+  none_open (OnPut slot m) on may = none_so (OnPut slot m) may refl refl refl (λ ns. refl) (λ es. refl)
+  none_open (OnGet slot most key) on may = none_so (OnGet slot most key) may refl refl refl (λ ns. refl) (λ es. refl)
+  none_open (commands.Puts puts) on may = none_so (commands.Puts puts) may refl refl refl (λ ns. refl) (λ es. refl)
   none_open Unlink on may = none_so Unlink may refl refl refl (λ ns. refl) (λ es. refl)
   none_open c on may = off on
 
@@ -82,13 +94,6 @@ nowhere old new settled none same joins c asked asks may =
 closes_is : (c : Command) → asked_on_link c ≡ Some Closes → Unlink ≡ c
 closes_is Unlink e = refl
 closes_is c e = absurd cc
-
--- a peer of this project is never given up
-never_bad : (task : Task) (far : FarEnd) (client : EndState) (after : FarEnd) → Served task far (Err faults.BadPeer) client after → ⊥
-never_bad (Puts m) far client after s = s
-never_bad (Gets most key) far client after s = s
-never_bad (Finds name) far client after s = s
-never_bad Leaves far client after s = s
 
 module _ (old mid : Machines) (settled : IsSettled old) (q : ℕ) (l : OpenLink) (far : Choosing FarEnd) (t : TakesLink old q l far.end mid) (joins : Joins) (counts : far.numbers ≡ joins.far)
     (b : Air Device) (j : InitState) (after : Choosing FarEnd) (client : EndState) where
@@ -129,72 +134,74 @@ module _ (old mid : Machines) (settled : IsSettled old) (q : ℕ) (l : OpenLink)
     may_then : Accepts (state_at Stood) c
     may_then = subst (λ o. Accepts (state_at (under old.ends old.peers o old.air)) c) t.linked may
 
-    module _ (task : Task) (asks : asked_on_link c ≡ Some (Does task)) where
-      abbrev Did : Result Ending SnepFault → Type 0
-      Did result = TaskCalled ghosts device_end joins.own task l.client Was result client Now
+    module _ (call : Call) (asks : asked_on_link c ≡ Some (Does call)) where
+      abbrev Made : List OnSap → Choosing FarEnd → Air Device → Type 0
+      Made jobs f a = IsMade ghosts device_end joins.own (call_begins l.client call) a l.initiator f b j after (Ends jobs client)
 
-      served : (result : Result Ending SnepFault) → Did result → Served task Own result client after.end
-      served result k = of_own (λ f a. Served task f.end result client after.end) (k.serves accord)
-
-      ended : (ending : Ending) (new : Machines) → new ≡ Back → Did (Ok ending) → ObeyedBy joins old new c (told_ending ending)
-      ended ending new back k =
-          open_so old mid settled q l far.end t joins b j after client c new (told_ending ending) back
-          (talking.made_so old.air old.ends old.peers l (so old mid settled q l far.end t) c task asks may_then joins b j after client ending
-          (of_own (λ f a. IsMade ghosts device_end joins.own (begins l.client task) a l.initiator f b j after (Ends (alone (Ended ending)) client)) k.goes) (served (Ok ending) k))
+      ended : (jobs : List OnSap) (answer : Answer) (new : Machines) → new ≡ Back → Made jobs far mid.air → told_jobs call jobs ≡ Some answer → Says call Own answer client after.end → ObeyedBy joins old new c answer
+      ended jobs answer new back made told says =
+          open_so old mid settled q l far.end t joins b j after client c new answer back
+          (talking.made_so old.air old.ends old.peers l (so old mid settled q l far.end t) c call asks may_then joins b j after client jobs answer (of_own (Made jobs) made) told says)
 
       abbrev Fails : SnepFault → Choosing FarEnd → Air Device → Type 0
-      Fails x f a = CallFails ghosts device_end joins.own (begins l.client task) a l.initiator f b j after client x
+      Fails x f a = CallFails ghosts device_end joins.own (call_begins l.client call) a l.initiator f b j after client x
 
-      lost : (why : EndCause) (answer : Answer) (new : Machines) → new ≡ Down → Did (Err (faults.LinkEnded why)) → told_loss why ≡ Some answer → ObeyedBy joins old new c answer
-      lost why answer new down k told =
-          gone_so old mid settled q l far.end t joins b j after client c new answer down
-          (by why told (of_own (Fails (faults.LinkEnded why)) k.goes) (served (Err (faults.LinkEnded why)) k))
+      lost : (why : EndCause) (answer : Answer) (new : Machines) → new ≡ Down → Fails (faults.LinkEnded why) far mid.air → Left call Own after.end → told_loss why ≡ Some answer → ObeyedBy joins old new c answer
+      lost why answer new down goes left told =
+          gone_so old mid settled q l far.end t joins b j after client c new answer down (by why told (of_own (Fails (faults.LinkEnded why)) goes))
         where
-          by : (w : EndCause) → told_loss w ≡ Some answer → Fails (faults.LinkEnded w) (Of Own) old.air → Served task Own (Err (faults.LinkEnded w)) client after.end → ObeyedBy joins Stood Gone c answer
-          by w e (inl (bad, came, made)) s = absurd cc
-          by cause.FieldLost e (inr end) s = talking.lost_so old.air old.ends old.peers l (so old mid settled q l far.end t) c task asks may_then joins b j after client cause.FieldLost answer end e s
-          by cause.SixBad e (inr end) s = talking.lost_so old.air old.ends old.peers l (so old mid settled q l far.end t) c task asks may_then joins b j after client cause.SixBad answer end e s
-          by cause.Protocol e (inr never) s = absurd never
-          by cause.Memory e (inr never) s = absurd never
+          by : (w : EndCause) → told_loss w ≡ Some answer → Fails (faults.LinkEnded w) (Of Own) old.air → ObeyedBy joins Stood Gone c answer
+          by w e (inl (bad, came, made)) = absurd cc
+          by cause.FieldLost e (inr end) = talking.lost_so old.air old.ends old.peers l (so old mid settled q l far.end t) c call asks may_then joins b j after client cause.FieldLost answer end e left
+          by cause.SixBad e (inr end) = talking.lost_so old.air old.ends old.peers l (so old mid settled q l far.end t) c call asks may_then joins b j after client cause.SixBad answer end e left
+          by cause.Protocol e (inr never) = absurd never
+          by cause.Memory e (inr never) = absurd never
 
-      short : (new : Machines) → new ≡ Down → Did (Err faults.Memory) → IsCutOffBy joins old new c
-      short new down k =
-          short_so old mid settled q l far.end t joins b j after client c new down (by (of_own (Fails faults.Memory) k.goes) (served (Err faults.Memory) k))
+      short : (new : Machines) → new ≡ Down → Fails faults.Memory far mid.air → Left call Own after.end → IsCutOffBy joins old new c
+      short new down goes left = short_so old mid settled q l far.end t joins b j after client c new down (by (of_own (Fails faults.Memory) goes))
         where
-          by : Fails faults.Memory (Of Own) old.air → Served task Own (Err faults.Memory) client after.end → IsCutOffBy joins Stood Gone c
-          by (inl (bad, came, made)) s = absurd cc
-          by (inr cut) s = talking.short_so old.air old.ends old.peers l (so old mid settled q l far.end t) c task asks may_then joins b j after client cut s
+          by : Fails faults.Memory (Of Own) old.air → IsCutOffBy joins Stood Gone c
+          by (inl (bad, came, made)) = absurd cc
+          by (inr cut) = talking.short_so old.air old.ends old.peers l (so old mid settled q l far.end t) c call asks may_then joins b j after client cut left
 
       -- nothing else ends one
-      none_else : (x : SnepFault) → (x ≡ faults.BadPeer → ⊥) → (Fails x far mid.air → IsCutOff ghosts device_end joins.own (begins l.client task) mid.air l.initiator far b j after x)
+      none_else : (x : SnepFault) → (x ≡ faults.BadPeer → ⊥) → (Fails x far mid.air → IsCutOff ghosts device_end joins.own (call_begins l.client call) mid.air l.initiator far b j after x)
       none_else x apart (inl (bad, came, made)) = absurd (apart bad)
       none_else x apart (inr cut) = cut
 
-      told : (x : SnepFault) (new : Machines) → new ≡ Down → Did (Err x) → IfOk (fault_told x) (λ answer. ObeyedBy joins old new c answer)
-      told (faults.LinkEnded cause.FieldLost) new down k = lost cause.FieldLost (answers.LinkEnded losses.FieldLost) new down k refl
-      told (faults.LinkEnded cause.SixBad) new down k = lost cause.SixBad (answers.LinkEnded losses.SixBad) new down k refl
-      told (faults.LinkEnded cause.Protocol) new down k = tt
-      told (faults.LinkEnded cause.Memory) new down k = tt
-      told faults.Reject new down k = tt
-      told faults.NotFound new down k = tt
-      told faults.Excess new down k = tt
-      told faults.NotImplemented new down k = tt
-      told faults.Memory new down k = tt
-      told faults.BadPeer new down k = tt
-      told faults.SlotBusy new down k = tt
+      told : (x : SnepFault) (new : Machines) → new ≡ Down → Fails x far mid.air → LeftBy call Own after.end x → IfOk (fault_told x) (λ answer. ObeyedBy joins old new c answer)
+      told (faults.LinkEnded cause.FieldLost) new down goes left = lost cause.FieldLost (answers.LinkEnded losses.FieldLost) new down goes left refl
+      told (faults.LinkEnded cause.SixBad) new down goes left = lost cause.SixBad (answers.LinkEnded losses.SixBad) new down goes left refl
+      told (faults.LinkEnded cause.Protocol) new down goes left = tt
+      told (faults.LinkEnded cause.Memory) new down goes left = tt
+      told faults.Reject new down goes left = tt
+      told faults.NotFound new down goes left = tt
+      told faults.Excess new down goes left = tt
+      told faults.NotImplemented new down goes left = tt
+      told faults.Memory new down goes left = tt
+      told faults.BadPeer new down goes left = tt
+      told faults.SlotBusy new down goes left = tt
 
-      cut : (x : SnepFault) (new : Machines) → new ≡ Down → Did (Err x) → IsErr (fault_told x) → IsCutOffBy joins old new c
-      cut (faults.LinkEnded cause.FieldLost) new down k e = absurd cc
-      cut (faults.LinkEnded cause.SixBad) new down k e = absurd cc
-      cut (faults.LinkEnded cause.Protocol) new down k e = absurd (none_else (faults.LinkEnded cause.Protocol) (λ q. cc) k.goes)
-      cut (faults.LinkEnded cause.Memory) new down k e = absurd (none_else (faults.LinkEnded cause.Memory) (λ q. cc) k.goes)
-      cut faults.Reject new down k e = absurd (none_else faults.Reject (λ q. cc) k.goes)
-      cut faults.NotFound new down k e = absurd (none_else faults.NotFound (λ q. cc) k.goes)
-      cut faults.Excess new down k e = absurd (none_else faults.Excess (λ q. cc) k.goes)
-      cut faults.NotImplemented new down k e = absurd (none_else faults.NotImplemented (λ q. cc) k.goes)
-      cut faults.Memory new down k e = short new down k
-      cut faults.SlotBusy new down k e = absurd (none_else faults.SlotBusy (λ q. cc) k.goes)
-      cut faults.BadPeer new down k e = absurd (never_bad task Own client after.end (served (Err faults.BadPeer) k))
+      cut : (x : SnepFault) (new : Machines) → new ≡ Down → Fails x far mid.air → LeftBy call Own after.end x → IsErr (fault_told x) → IsCutOffBy joins old new c
+      cut (faults.LinkEnded cause.FieldLost) new down goes left e = absurd cc
+      cut (faults.LinkEnded cause.SixBad) new down goes left e = absurd cc
+      cut (faults.LinkEnded cause.Protocol) new down goes left e = absurd (none_else (faults.LinkEnded cause.Protocol) (λ q. cc) goes)
+      cut (faults.LinkEnded cause.Memory) new down goes left e = absurd (none_else (faults.LinkEnded cause.Memory) (λ q. cc) goes)
+      cut faults.Reject new down goes left e = absurd (none_else faults.Reject (λ q. cc) goes)
+      cut faults.NotFound new down goes left e = absurd (none_else faults.NotFound (λ q. cc) goes)
+      cut faults.Excess new down goes left e = absurd (none_else faults.Excess (λ q. cc) goes)
+      cut faults.NotImplemented new down goes left e = absurd (none_else faults.NotImplemented (λ q. cc) goes)
+      cut faults.Memory new down goes left e = short new down goes left
+      cut faults.SlotBusy new down goes left e = absurd (none_else faults.SlotBusy (λ q. cc) goes)
+      cut faults.BadPeer new down goes left e = absurd left
+
+    -- what a call of one task did at the peer
+    module _ (sap : ℕ) (task : Task) where
+      abbrev Did : Result Ending SnepFault → Type 0
+      Did result = TaskCalled ghosts device_end joins.own sap task l.client Was result client Now
+
+      served : (result : Result Ending SnepFault) → Did result → Served sap task Own result client after.end
+      served result k = of_own (λ f a. Served sap task f.end result client after.end) (k.serves accord)
 
     -- the same of the closing
     module _ (asks : asked_on_link c ≡ Some Closes) where
@@ -242,34 +249,57 @@ module _ (old mid : Machines) (settled : IsSettled old) (q : ℕ) (l : OpenLink)
       closing_cut faults.SlotBusy new down k e = absurd k.goes
 
   -- by what was asked
-  module _ (c : Command) (asked : LinkAsking) (asks : asked_on_link c ≡ Some asked) (may : Accepts (state_at old) c) (new : Machines) where
-    abbrev Asked : LinkAsking → Result Ending SnepFault → Type 0
-    Asked a result = Called ghosts device_end joins.own a l.client Was result client Now
+  module _ (c : Command) (may : Accepts (state_at old) c) (new : Machines) where
+    abbrev Asked : LinkRequest → Result Ending SnepFault → Type 0
+    Asked r result = Called ghosts device_end joins.own r l.client Was result client Now
 
-    pub asked_ended : (ending : Ending) → is_closing asked ≡ false → new ≡ Back → Asked asked (Ok ending) → ObeyedBy joins old new c (told_ending ending)
-    asked_ended ending open_ back = by asked asks open_
-      where
-        by : (a : LinkAsking) → asked_on_link c ≡ Some a → is_closing a ≡ false → Asked a (Ok ending) → ObeyedBy joins old new c (told_ending ending)
-        by (Does task) e p k = ended c may task e ending new back k
-        by Closes e p k = absurd cc
+    pub asked_ended : (r : LinkRequest) (ending : Ending) → asked_on_link c ≡ Some (asking_of r) → is_closing (asking_of r) ≡ false → new ≡ Back → Asked r (Ok ending) → ObeyedBy joins old new c (told_ending ending)
+    asked_ended (requests.Put m) ending e open_ back k =
+        let x = says_put m.now Own ending client after.end (served c may client_sap (Puts m.now) (Ok ending) k) in
+        ended c may (put_from 0 m.now) e (one_on client_sap (Ended ending)) (told_ending ending) new back k.goes x.1 x.0
+    asked_ended (requests.Get slot most key) ending e open_ back k =
+        ended c may (Getting (sap_of_slot slot) most key.now) e (one_on (sap_of_slot slot) (Ended ending)) (told_ending ending) new back k.goes refl
+        (says_get (sap_of_slot slot) most key.now Own ending client after.end (served c may (sap_of_slot slot) (Gets most key.now) (Ok ending) k))
+    asked_ended (requests.Lookup name) ending e open_ back k =
+        ended c may (Finding name.now) e (one_on client_sap (Ended ending)) (told_ending ending) new back k.goes refl
+        (says_find name.now Own ending client after.end (served c may client_sap (Finds name.now) (Ok ending) k))
+    asked_ended requests.Close ending e open_ back k = absurd cc
 
-    pub asked_closed : (ending : Ending) → is_closing asked ≡ true → new ≡ Down → Asked asked (Ok ending) → ObeyedBy joins old new c answers.Unlinked
-    asked_closed ending over down = by asked asks over
-      where
-        by : (a : LinkAsking) → asked_on_link c ≡ Some a → is_closing a ≡ true → Asked a (Ok ending) → ObeyedBy joins old new c answers.Unlinked
-        by (Does task) e p k = absurd cc
-        by Closes e p k = closed c may e ending new down k
+    pub asked_closed : (r : LinkRequest) (ending : Ending) → asked_on_link c ≡ Some (asking_of r) → is_closing (asking_of r) ≡ true → new ≡ Down → Asked r (Ok ending) → ObeyedBy joins old new c answers.Unlinked
+    asked_closed requests.Close ending e over down k = closed c may e ending new down k
+    asked_closed (requests.Put m) ending e over down k = absurd cc
+    asked_closed (requests.Get slot most key) ending e over down k = absurd cc
+    asked_closed (requests.Lookup name) ending e over down k = absurd cc
 
-    pub asked_told : (x : SnepFault) → new ≡ Down → Asked asked (Err x) → IfOk (fault_told x) (λ answer. ObeyedBy joins old new c answer)
-    asked_told x down = by asked asks
-      where
-        by : (a : LinkAsking) → asked_on_link c ≡ Some a → Asked a (Err x) → IfOk (fault_told x) (λ answer. ObeyedBy joins old new c answer)
-        by (Does task) e k = told c may task e x new down k
-        by Closes e k = told_closing_fault c may e x new down k
+    pub asked_told : (r : LinkRequest) (x : SnepFault) → asked_on_link c ≡ Some (asking_of r) → new ≡ Down → Asked r (Err x) → IfOk (fault_told x) (λ answer. ObeyedBy joins old new c answer)
+    asked_told (requests.Put m) x e down k = told c may (put_from 0 m.now) e x new down k.goes (put_left m.now Own x client after.end (served c may client_sap (Puts m.now) (Err x) k))
+    asked_told (requests.Get slot most key) x e down k =
+        told c may (Getting (sap_of_slot slot) most key.now) e x new down k.goes (get_left (sap_of_slot slot) most key.now Own x client after.end (served c may (sap_of_slot slot) (Gets most key.now) (Err x) k))
+    asked_told (requests.Lookup name) x e down k = told c may (Finding name.now) e x new down k.goes (find_left name.now Own x client after.end (served c may client_sap (Finds name.now) (Err x) k))
+    asked_told requests.Close x e down k = told_closing_fault c may e x new down k
 
-    pub asked_cut : (x : SnepFault) → new ≡ Down → Asked asked (Err x) → IsErr (fault_told x) → IsCutOffBy joins old new c
-    asked_cut x down = by asked asks
-      where
-        by : (a : LinkAsking) → asked_on_link c ≡ Some a → Asked a (Err x) → IsErr (fault_told x) → IsCutOffBy joins old new c
-        by (Does task) e k err = cut c may task e x new down k err
-        by Closes e k err = closing_cut c may e x new down k err
+    pub asked_cut : (r : LinkRequest) (x : SnepFault) → asked_on_link c ≡ Some (asking_of r) → new ≡ Down → Asked r (Err x) → IsErr (fault_told x) → IsCutOffBy joins old new c
+    asked_cut (requests.Put m) x e down k err = cut c may (put_from 0 m.now) e x new down k.goes (put_left m.now Own x client after.end (served c may client_sap (Puts m.now) (Err x) k)) err
+    asked_cut (requests.Get slot most key) x e down k err =
+        cut c may (Getting (sap_of_slot slot) most key.now) e x new down k.goes (get_left (sap_of_slot slot) most key.now Own x client after.end (served c may (sap_of_slot slot) (Gets most key.now) (Err x) k)) err
+    asked_cut (requests.Lookup name) x e down k err = cut c may (Finding name.now) e x new down k.goes (find_left name.now Own x client after.end (served c may client_sap (Finds name.now) (Err x) k)) err
+    asked_cut requests.Close x e down k err = closing_cut c may e x new down k err
+
+    -- of messages that were put at once
+    pub all_ended : (ws : List SlotMessage) (slots told_now : List Slot) → asked_on_link c ≡ Some (Does (Putting ws)) → AreApart ws → IsAtRest slots → new ≡ Back
+        → AllCalled ghosts device_end joins.own ws l.client slots Was client told_now Now → ObeyedBy joins old new c (told_slots ws told_now)
+    all_ended ws slots told_now e apart rest back k =
+        let told_is : told_at_once ws k.jobs ≡ Some (told_slots ws told_now) = told_by_slots ws slots told_now k.jobs apart rest k.told_is k.rest in
+        ended c may (Putting ws) e k.jobs (told_slots ws told_now) new back k.goes told_is
+        (says_all ws Own k.jobs (told_slots ws told_now) client after.end told_is (of_own (λ f a. ServedAtOnce ws f.end (Ok k.jobs) client after.end) (k.serves accord)))
+
+    all_served : (ws : List SlotMessage) (x : SnepFault) → AllFailed ghosts device_end joins.own ws l.client Was x client Now → LeftBy (Putting ws) Own after.end x
+    all_served ws x k = all_left ws Own x client after.end (of_own (λ f a. ServedAtOnce ws f.end (Err x) client after.end) (k.serves accord))
+
+    pub all_told : (ws : List SlotMessage) (x : SnepFault) → asked_on_link c ≡ Some (Does (Putting ws)) → new ≡ Down → AllFailed ghosts device_end joins.own ws l.client Was x client Now
+        → IfOk (fault_told x) (λ answer. ObeyedBy joins old new c answer)
+    all_told ws x e down k = told c may (Putting ws) e x new down k.goes (all_served ws x k)
+
+    pub all_cut : (ws : List SlotMessage) (x : SnepFault) → asked_on_link c ≡ Some (Does (Putting ws)) → new ≡ Down → AllFailed ghosts device_end joins.own ws l.client Was x client Now
+        → IsErr (fault_told x) → IsCutOffBy joins old new c
+    all_cut ws x e down k err = cut c may (Putting ws) e x new down k.goes (all_served ws x k) err

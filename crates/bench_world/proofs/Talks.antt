@@ -3,10 +3,10 @@ use Rattle.std.proofs.Common.{◌≡◌, ℕ, List, [], ◌∷◌, Bool, true, f
 use Rattle.nfc_base.specs.declared.event.Event.{Event}
 use Rattle.air_core.specs.Conversation.{LightUp, Note}
 use Rattle.snep_core.specs.Server.{Received}
-use Rattle.snep_core.specs.Talk.{begins, closes}
-use Rattle.link_calls.specs.Asking.{LinkAsking, Does, Closes}
+use Rattle.snep_core.specs.Talk.{closes}
+use Rattle.link_calls.specs.Asking.{LinkAsking, Does, Closes, call_begins}
 use Rattle.bench_script.specs.declared.command.Command.{Command}
-use Rattle.bench_script.specs.declared.command.Command.TheVariants.{Put, Get, Lookup, Unlink, Read, Read3, Write, Write3}
+use Rattle.bench_script.specs.declared.command.Command.TheVariants.{Put, Get, Lookup, OnPut, OnGet, Puts, Unlink, Read, Read3, Write, Write3}
 use Rattle.bench_world.specs.Asked.{IsOnLink, asked_on_link}
 use Rattle.bench_world.specs.Calls.{OfEnd, accepting_if, due_asked, with_accepted}
 use Rattle.bench_world.specs.Legal.{State, CutFront, CutShort, IsAskedBy, Joins, changed, end_of}
@@ -26,6 +26,9 @@ pub still_on : (s : State) (c : Command) → IsOnLink c → changed s c ≡ s
 still_on s (Put m) on = refl
 still_on s (Get most key) on = refl
 still_on s (Lookup name) on = refl
+still_on s (OnPut slot m) on = refl
+still_on s (OnGet slot most key) on = refl
+still_on s (Puts puts) on = refl
 still_on s Unlink on = refl
 still_on s c on = off on
 
@@ -47,7 +50,7 @@ short_of joins s c cut t on f = f
 
 -- what is due on the link is no reset
 pub never_lit : (asked : LinkAsking) (l : OpenLink) (joins : List ℕ) (ns : List Note) → due_asked asked l joins ns ≡ LightUp → ⊥
-never_lit (Does task) l joins ns = (calls_plain joins (begins l.client task) l.initiator ns).lit
+never_lit (Does call) l joins ns = (calls_plain joins (call_begins l.client call) l.initiator ns).lit
 never_lit Closes l joins ns = (closings_plain joins (closes l.client) l.initiator ns).lit
 
 -- Nothing accepted more.

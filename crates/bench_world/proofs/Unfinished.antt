@@ -7,7 +7,7 @@ use Rattle.nfc_base.specs.declared.event.Event.{Event}
 use Rattle.air_core.specs.Conversation.{replay}
 use Rattle.tag_writer.specs.Law.{Stopped}
 use Rattle.bench_script.specs.declared.command.Command.{Command}
-use Rattle.bench_script.specs.declared.command.Command.TheVariants.{Find, Crowd, Poll3, Read, Read3, Write, Write3, Link, Forge, Put, Get, Lookup, Unlink}
+use Rattle.bench_script.specs.declared.command.Command.TheVariants.{Find, Crowd, Poll3, Read, Read3, Write, Write3, Link, Forge, Put, Get, Lookup, Unlink, OnPut, OnGet, Puts}
 use Rattle.bench_script.specs.declared.command.DeviceId.{DeviceId}
 use Rattle.bench_script.specs.declared.message.Msg.{Msg}
 use Rattle.bench_script.specs.DeviceIds.{bytes_of}
@@ -19,9 +19,9 @@ use Rattle.bench_devices.specs.Placed.{device_with, IfPlaced}
 use Rattle.bench_devices.proofs.ImagesJoin.{law_start}
 use Rattle.bench_devices.proofs.TagOrPeer.{if_read}
 use Rattle.bench_world.specs.World.{Stable, WholeWorld}
-use Rattle.snep_core.specs.Talk.{Puts, Gets, Finds}
-use Rattle.link_calls.specs.Asking.{LinkAsking, Does, Closes}
-use Rattle.bench_world.specs.Asked.{IsOnLink}
+use Rattle.snep_core.specs.Talk.{client_sap, sap_of_slot}
+use Rattle.link_calls.specs.Asking.{LinkAsking, Does, Closes, Finding, Getting, put_from, Putting}
+use Rattle.bench_world.specs.Asked.{IsOnLink, slot_messages}
 use Rattle.bench_world.specs.Calls.{IfLinked}
 use Rattle.bench_world.specs.Links.{OpenLink}
 use Rattle.bench_world.specs.Legal.{State, Given, Joins, CutCall, CutFront, CutOff, CutShort, CutStores, FrontOf, LeavesStable, PeerHalts, StoresLaw, Stores3Law, changed, world_after}
@@ -141,9 +141,12 @@ front_left s t g (Read3 id) cut front stores = front_stays s t g (Read3 id) cut 
 front_left s t g (Write3 id m) cut front stores = front_written_three s t g id m cut front stores
 front_left s t g (Link id miu window) cut front stores = front_stays s t g (Link id miu window) cut front (ap (λ (z : Stable). z.devices) stores)
 front_left s t g (Forge id payloads) cut front stores = front_stays s t g (Forge id payloads) cut front (cut_devices (opens_link id payloads cut) s g.joins id payloads cut stores)
-front_left s t g (Put m) cut front stores = front_stays s t g (Put m) cut front (call_stays s g.joins (Does (Puts (message_of m))) (Put m) cut s.link refl stores)
-front_left s t g (Get most key) cut front stores = front_stays s t g (Get most key) cut front (call_stays s g.joins (Does (Gets most key)) (Get most key) cut s.link refl stores)
-front_left s t g (Lookup name) cut front stores = front_stays s t g (Lookup name) cut front (call_stays s g.joins (Does (Finds name)) (Lookup name) cut s.link refl stores)
+front_left s t g (Put m) cut front stores = front_stays s t g (Put m) cut front (call_stays s g.joins (Does (put_from 0 (message_of m))) (Put m) cut s.link refl stores)
+front_left s t g (Get most key) cut front stores = front_stays s t g (Get most key) cut front (call_stays s g.joins (Does (Getting client_sap most key)) (Get most key) cut s.link refl stores)
+front_left s t g (Lookup name) cut front stores = front_stays s t g (Lookup name) cut front (call_stays s g.joins (Does (Finding name)) (Lookup name) cut s.link refl stores)
+front_left s t g (OnPut slot m) cut front stores = front_stays s t g (OnPut slot m) cut front (call_stays s g.joins (Does (put_from slot (message_of m))) (OnPut slot m) cut s.link refl stores)
+front_left s t g (OnGet slot most key) cut front stores = front_stays s t g (OnGet slot most key) cut front (call_stays s g.joins (Does (Getting (sap_of_slot slot) most key)) (OnGet slot most key) cut s.link refl stores)
+front_left s t g (Puts puts) cut front stores = front_stays s t g (Puts puts) cut front (call_stays s g.joins (Does (Putting (slot_messages puts))) (Puts puts) cut s.link refl stores)
 front_left s t g Unlink cut front stores = front_stays s t g Unlink cut front (call_stays s g.joins Closes Unlink cut s.link refl stores)
 front_left s t g c cut front stores = absurd stores
 

@@ -10,10 +10,11 @@ use Rattle.nfca_poll.proofs.OneLevel.{pointwise_self}
 use Rattle.t5t_tag.proofs.Bytes.{equal_bytes}
 use Rattle.t3t_access.specs.OwnWriting.{IsBegun, IsNew}
 use Rattle.tag_writer.specs.Law.{Ending}
-use Rattle.snep_core.specs.Talk.{Puts, Gets, Finds}
-use Rattle.link_calls.specs.Asking.{LinkAsking, Does, Closes}
+use Rattle.snep_core.specs.Talk.{client_sap, sap_of_slot}
+use Rattle.link_calls.specs.Asking.{LinkAsking, Does, Closes, Finding, Getting, put_from, Putting}
 use Rattle.bench_script.specs.declared.command.Command.{Command}
-use Rattle.bench_script.specs.declared.command.Command.TheVariants.{Skip, Fates, PlaceT2, PlaceT3, PlaceT4, PlaceT5, PlacePeer, Lock, Busy, Offer, Remove, Dump, Inbox, Find, Crowd, Poll3, Read, Read3, Write, Write3, Link, Forge, Put, Get, Lookup, Unlink}
+use Rattle.bench_script.specs.declared.command.Command.TheVariants as commands
+use Rattle.bench_script.specs.declared.command.Command.TheVariants.{Skip, Fates, PlaceT2, PlaceT3, PlaceT4, PlaceT5, PlacePeer, Lock, Busy, Offer, Remove, Dump, Inbox, Find, Crowd, Poll3, Read, Read3, Write, Write3, Link, Forge, Raw, Put, Get, Lookup, OnPut, OnGet, Unlink}
 use Rattle.bench_script.specs.DeviceIds.{bytes_of}
 use Rattle.bench_script.specs.Messages.{message_of}
 use Rattle.bench_devices.specs.declared.device.Device.{Device}
@@ -25,7 +26,7 @@ use Rattle.bench_devices.specs.Placed.{IfPlaced, device_with, with_changed, with
 use Rattle.bench_devices.specs.Threes.{KeepsWrite3Law}
 use Rattle.bench_devices.specs.Writing.{KeepsWriteLaw}
 use Rattle.bench_world.specs.declared.entry.Entry.{Entry}
-use Rattle.bench_world.specs.Asked.{asked_on_link}
+use Rattle.bench_world.specs.Asked.{asked_on_link, slot_messages}
 use Rattle.bench_world.specs.Calls.{IfLinked, due_asked, due_if}
 use Rattle.bench_world.specs.Forging.{opens_link}
 use Rattle.bench_world.specs.Links.{OpenLink}
@@ -276,9 +277,13 @@ module _ (s t : State) (g : Given) (e : Entry) (step : LegalStep s g e t) (sound
   by_command (Forge i payloads) is =
       let law : ForgeLaw s g.joins i payloads e.events e.answer = law_of (Forge i payloads) is in
       asked_well (Forge i payloads) is refl (forge_devices (opens_link i payloads e.events) s g.joins i payloads e.events law.leaves)
-  by_command (Put m) is = talk_well (Does (Puts (message_of m))) (Put m) is refl (law_of (Put m) is)
-  by_command (Get most key) is = talk_well (Does (Gets most key)) (Get most key) is refl (law_of (Get most key) is)
-  by_command (Lookup name) is = talk_well (Does (Finds name)) (Lookup name) is refl (law_of (Lookup name) is)
+  by_command (Raw i frames) is = absurd (law_of (Raw i frames) is)
+  by_command (Put m) is = talk_well (Does (put_from 0 (message_of m))) (Put m) is refl (law_of (Put m) is)
+  by_command (Get most key) is = talk_well (Does (Getting client_sap most key)) (Get most key) is refl (law_of (Get most key) is)
+  by_command (Lookup name) is = talk_well (Does (Finding name)) (Lookup name) is refl (law_of (Lookup name) is)
+  by_command (OnPut slot m) is = talk_well (Does (put_from slot (message_of m))) (OnPut slot m) is refl (law_of (OnPut slot m) is)
+  by_command (OnGet slot most key) is = talk_well (Does (Getting (sap_of_slot slot) most key)) (OnGet slot most key) is refl (law_of (OnGet slot most key) is)
+  by_command (commands.Puts puts) is = talk_well (Does (Putting (slot_messages puts))) (commands.Puts puts) is refl (law_of (commands.Puts puts) is)
   by_command Unlink is = talk_well Closes Unlink is refl (law_of Unlink is)
 
   pub stored_step : AreWellStored t.world.field.listeners

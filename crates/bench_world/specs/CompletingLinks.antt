@@ -1,7 +1,7 @@
 -- What commands of links answer where noise doesn't keep them from it: no Break was used, no wait had six bad
 -- receptions, and where a link is opened, polling had one round without noise (why a server refuses, and what a peer
 -- tells of a name, is from NFC Forum SNEP 1.0 and LLCP 1.3; rounds and six receptions are this project's own).
-use Rattle.std.specs.Prelude.{◌≡◌, ◌↔◌, ℕ, ◌+◌, ◌≤◌, nat_lt, List, [], ◌∷◌, length, true, false, Option, Some, None, Ok, if◌then◌else◌}
+use Rattle.std.specs.Prelude.{◌≡◌, ◌↔◌, ℕ, ◌+◌, ◌≤◌, nat_lt, not, List, [], ◌∷◌, length, map, true, false, Option, Some, None, Ok, if◌then◌else◌}
 use Rattle.nfc_base.specs.Signal.{Signal}
 use Rattle.nfc_base.specs.Trace.{breaks}
 use Rattle.nfc_base.specs.declared.event.Event.{Event}
@@ -11,8 +11,8 @@ use Rattle.air_core.specs.Waits.{Broken, stand}
 use Rattle.dep_link.specs.Activating.{atr_frame}
 use Rattle.llcp_link.specs.Names.{found}
 use Rattle.snep_core.specs.Session.{Offer, value_of}
-use Rattle.snep_core.specs.Talk.{Puts, Gets, Finds, Leaves}
-use Rattle.link_calls.specs.Asking.{LinkAsking, Does, Closes}
+use Rattle.link_calls.specs.Asking.{LinkAsking, Does, Closes, Finding, Getting, Putting, put_from}
+use Rattle.link_calls.specs.declared.request.SlotMessage.{SlotMessage}
 use Rattle.bench_script.specs.declared.command.Command.{Command}
 use Rattle.bench_script.specs.declared.command.Command.TheVariants.{Link}
 use Rattle.bench_script.specs.declared.command.DeviceId.TheVariants.{A}
@@ -25,6 +25,7 @@ use Rattle.bench_devices.specs.Polling.{Told, selecting}
 use Rattle.bench_world.specs.declared.entry.Answer.{Answer}
 use Rattle.bench_world.specs.declared.entry.Answer.TheVariants as answers
 use Rattle.bench_world.specs.declared.entry.Entry.{Entry}
+use Rattle.bench_world.specs.declared.entry.SlotDone.{SlotDone}
 use Rattle.bench_world.specs.Asked.{asked_on_link}
 use Rattle.bench_world.specs.Calls.{HadSixBad, OfEnd}
 use Rattle.bench_world.specs.Completing.{IsQuietOnce}
@@ -37,6 +38,15 @@ use Rattle.bench_world.specs.World.{FarEnd}
 -- What a peer answers to a message that is put: its server takes one within its limit.
 abbrev pub put_answer : List ℕ → FarEnd → Answer
 put_answer m end = if nat_lt end.service.limit (length m) then answers.Reject else answers.Success
+
+-- To several that are put at once, of each the same.
+abbrev pub done_so : ℕ → SlotMessage → SlotDone
+done_so limit w = record { slot = w.slot; success = not (nat_lt limit (length w.message)) }
+
+abbrev pub puts_answer : List SlotMessage → FarEnd → Answer
+puts_answer (w ∷ []) end = put_answer w.message end
+puts_answer [] end = answers.Puts []
+puts_answer (w ∷ v ∷ ws) end = answers.Puts (map (done_so end.service.limit) (w ∷ v ∷ ws))
 
 -- What it answers to a get of at most so many bytes, by the first cause to refuse it: the key is longer than the limit;
 -- the server has no values; none of this key; or a longer one.
@@ -66,10 +76,9 @@ pub record IsUndisturbedOn (l : OpenLink) (joins : List ℕ) (c : Command) (es :
 
 -- what a peer answers to what is asked
 abbrev pub peer_answer : LinkAsking → FarEnd → Answer
-peer_answer (Does (Puts m)) end = put_answer m end
-peer_answer (Does (Gets most key)) end = get_answer most key end
-peer_answer (Does (Finds name)) end = answers.Sap (found end.bound name)
-peer_answer (Does Leaves) end = answers.Success
+peer_answer (Does (Putting ws)) end = puts_answer ws end
+peer_answer (Does (Getting sap most key)) end = get_answer most key end
+peer_answer (Does (Finding name)) end = answers.Sap (found end.bound name)
 peer_answer Closes end = answers.Unlinked
 
 -- Exactly so what is asked is answered as the peer answers it, and the link is closed.
@@ -81,26 +90,33 @@ IsComplete asked =
 abbrev pub AskedComplete : Type 0
 AskedComplete = (asked : LinkAsking) → IsComplete asked
 
--- so it is of a put, a get, a lookup and a close
+-- so it is of one message and of several, of a get, a lookup and a close
 abbrev pub PutsComplete : Type 0
-PutsComplete = (m : List ℕ) → IsComplete (Does (Puts m))
+PutsComplete = (slot : ℕ) (m : List ℕ) → IsComplete (Does (put_from slot m))
+
+abbrev pub SeveralComplete : Type 0
+SeveralComplete = (ws : List SlotMessage) → IsComplete (Does (Putting ws))
 
 abbrev pub GetsComplete : Type 0
-GetsComplete = (most : ℕ) (key : List ℕ) → IsComplete (Does (Gets most key))
+GetsComplete = (sap most : ℕ) (key : List ℕ) → IsComplete (Does (Getting sap most key))
 
 abbrev pub LookupsComplete : Type 0
-LookupsComplete = (name : List ℕ) → IsComplete (Does (Finds name))
+LookupsComplete = (name : List ℕ) → IsComplete (Does (Finding name))
 
 abbrev pub UnlinksComplete : Type 0
 UnlinksComplete = IsComplete Closes
 
--- What is asked is valid where the peer has no cause to refuse it: the message or the key is within the limit, and the
+-- each message is within the limit
+abbrev pub EachWithin : ℕ → List SlotMessage → Type 0
+EachWithin limit [] = Unit {0}
+EachWithin limit (w ∷ ws) = (length w.message ≤ limit) × EachWithin limit ws
+
+-- What is asked is valid where the peer has no cause to refuse it: each message or the key is within the limit, and the
 -- key has a value, which isn't longer than the client takes. A lookup and a close always are.
 abbrev pub IsValidAsking : LinkAsking → FarEnd → Type 0
-IsValidAsking (Does (Puts m)) end = length m ≤ end.service.limit
-IsValidAsking (Does (Gets most key)) end = (length key ≤ end.service.limit) × (value : List ℕ) × (value_of key end.service.table ≡ Some value) × (length value ≤ most)
-IsValidAsking (Does (Finds name)) end = Unit {0}
-IsValidAsking (Does Leaves) end = Unit {0}
+IsValidAsking (Does (Putting ws)) end = EachWithin end.service.limit ws
+IsValidAsking (Does (Getting sap most key)) end = (length key ≤ end.service.limit) × (value : List ℕ) × (value_of key end.service.table ≡ Some value) × (length value ≤ most)
+IsValidAsking (Does (Finding name)) end = Unit {0}
 IsValidAsking Closes end = Unit {0}
 
 abbrev pub IsValidBy : Option LinkAsking → FarEnd → Type 0
@@ -110,12 +126,17 @@ IsValidBy (Some asked) end = IsValidAsking asked end
 abbrev pub IsValid : FarEnd → Command → Type 0
 IsValid end c = IsValidBy (asked_on_link c) end
 
+-- all are told to be taken
+abbrev pub all_taken : List SlotMessage → Answer
+all_taken (w ∷ []) = answers.Success
+all_taken [] = answers.Puts []
+all_taken (w ∷ v ∷ ws) = answers.Puts (map (λ (x : SlotMessage). record { slot = x.slot; success = true }) (w ∷ v ∷ ws))
+
 -- what a valid one is answered
 abbrev pub IsOkAsking : LinkAsking → FarEnd → Answer → Type 0
-IsOkAsking (Does (Puts m)) end answer = answer ≡ answers.Success
-IsOkAsking (Does (Gets most key)) end answer = (value : List ℕ) × (value_of key end.service.table ≡ Some value) × (answer ≡ answers.Value value)
-IsOkAsking (Does (Finds name)) end answer = answer ≡ answers.Sap (found end.bound name)
-IsOkAsking (Does Leaves) end answer = answer ≡ answers.Unlinked
+IsOkAsking (Does (Putting ws)) end answer = answer ≡ all_taken ws
+IsOkAsking (Does (Getting sap most key)) end answer = (value : List ℕ) × (value_of key end.service.table ≡ Some value) × (answer ≡ answers.Value value)
+IsOkAsking (Does (Finding name)) end answer = answer ≡ answers.Sap (found end.bound name)
 IsOkAsking Closes end answer = answer ≡ answers.Unlinked
 
 abbrev pub IsOkBy : Option LinkAsking → FarEnd → Answer → Type 0

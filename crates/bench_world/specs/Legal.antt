@@ -14,7 +14,7 @@ use Rattle.t4t_tag.specs.Store.{IsT4Store, file_size}
 use Rattle.t5t_tag.specs.Store.{IsT5Store}
 use Rattle.t3t_access.specs.declared.fault.T3Fault.TheVariants as three_fault
 use Rattle.bench_script.specs.declared.command.Command.{Command}
-use Rattle.bench_script.specs.declared.command.Command.TheVariants.{Skip, Fates, PlaceT2, PlaceT3, PlaceT4, PlaceT5, PlacePeer, Lock, Busy, Offer, Remove, Dump, Inbox, Find, Crowd, Poll3, Read, Read3, Write, Write3, Link, Forge, Put, Get, Lookup, Unlink}
+use Rattle.bench_script.specs.declared.command.Command.TheVariants.{Skip, Fates, PlaceT2, PlaceT3, PlaceT4, PlaceT5, PlacePeer, Lock, Busy, Offer, Remove, Dump, Inbox, Find, Crowd, Poll3, Read, Read3, Write, Write3, Link, Forge, Raw, Put, Get, Lookup, OnPut, OnGet, Puts, Unlink}
 use Rattle.bench_script.specs.declared.command.DeviceId.{DeviceId}
 use Rattle.bench_devices.specs.Crowding.{crowding}
 use Rattle.bench_devices.specs.declared.device.Device.{Device}
@@ -27,6 +27,8 @@ use Rattle.isodep_link.specs.Reader.{longest_extension}
 use Rattle.bench_devices.specs.TagAsking.{tag_due}
 use Rattle.bench_devices.specs.ThreeAsking.{three_due}
 use Rattle.bench_script.specs.DeviceIds.{bytes_of}
+use Rattle.bench_script.specs.Slots.{have_own_slots}
+use Rattle.bench_script.specs.declared.command.SlotPut.{SlotPut}
 use Rattle.bench_script.specs.Messages.{message_of}
 use Rattle.bench_devices.specs.Polling.{asks, finding_all}
 use Rattle.bench_devices.specs.Sensing.{sensing}
@@ -44,7 +46,7 @@ use Rattle.bench_world.specs.declared.entry.Received.{Received}
 use Rattle.bench_world.specs.Inbox.{inbox_at}
 use Rattle.bench_world.specs.Peers.{Peers, no_peers, with_tag, with_peer, without_place, with_place_changed, placed_under, without_number, new_end, end_offered}
 use Rattle.snep_core.specs.Server.{Received as Accepted}
-use Rattle.bench_script.specs.Script.{SpellsName, longest_message, longest_payload, most_payloads}
+use Rattle.bench_script.specs.Script.{SpellsName, longest_message, longest_payload, most_payloads, least_puts, most_puts}
 use Rattle.bench_devices.specs.Opening.{linking}
 use Rattle.bench_world.specs.Links.{OpenLink, ended, is_with, end_numbered, begun_if, ended_unless, with_link_if, with_link_within}
 use Rattle.bench_world.specs.Linking.{LinkTells, link_if, own_general}
@@ -139,6 +141,36 @@ pub record MayGet (most : ℕ) (name : List ℕ) : Type 0 where
   pub value : most ≤ longest_message
   pub key : length name ≤ longest_message
 
+-- a client's slots are 0 to 7
+abbrev pub last_slot : ℕ
+last_slot = 7
+
+-- the slot of a client of its own, which isn't the first
+abbrev pub IsOwnSlot : ℕ → Type 0
+IsOwnSlot slot = (1 ≤ slot) × (slot ≤ last_slot)
+
+-- A client of its own may put a message, and ask for a value: likewise.
+pub record MayPutOn (slot : ℕ) (message : List ℕ) : Type 0 where
+  pub own : IsOwnSlot slot
+  pub short : length message ≤ longest_message
+
+pub record MayGetOn (slot most : ℕ) (name : List ℕ) : Type 0 where
+  pub own : IsOwnSlot slot
+  pub value : most ≤ longest_message
+  pub key : length name ≤ longest_message
+
+-- what a client puts, by its slot
+pub record IsSlotPut (p : SlotPut) : Type 0 where
+  pub slot : p.slot ≤ last_slot
+  pub short : length (message_of p.message) ≤ longest_message
+
+-- Several clients may put at once: there are two of them at least, not too many, and no two are one.
+pub record MayPuts (puts : List SlotPut) : Type 0 where
+  pub some : least_puts ≤ length puts
+  pub few : length puts ≤ most_puts
+  pub own : have_own_slots puts ≡ true
+  pub each : All IsSlotPut puts
+
 -- a payload of a link that is written by hand has some bytes, and no more than one may have
 abbrev pub IsPayload : List ℕ → Type 0
 IsPayload p = (0 < length p) × (length p ≤ longest_payload)
@@ -202,9 +234,13 @@ Accepts s (Write id message) = Unit {0}
 Accepts s (Write3 id message) = Unit {0}
 Accepts s (Link id miu window) = MayLink miu window
 Accepts s (Forge id payloads) = MayForge payloads
+Accepts s (Raw id frames) = ⊥
 Accepts s (Put message) = length (message_of message) ≤ longest_message
 Accepts s (Get most key) = MayGet most key
 Accepts s (Lookup name) = SpellsName name name
+Accepts s (OnPut slot message) = MayPutOn slot (message_of message)
+Accepts s (OnGet slot most key) = MayGetOn slot most key
+Accepts s (Puts puts) = MayPuts puts
 Accepts s Unlink = Unit {0}
 
 -- the state with one more tag, which has no far end

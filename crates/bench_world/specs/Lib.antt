@@ -32,8 +32,10 @@ pub mod QuietHearing
 pub mod Taking
 pub mod SameCommands
 pub mod Report
+pub mod Listing
 pub mod ReadBack
 pub mod Digits
 pub mod Stories
 pub mod ByPayloads
 pub mod LinkLaw
+pub mod Gains

@@ -1,13 +1,19 @@
 -- The open link, taken out of the machines of a bench for a command, with its peer's end, and put back behind it.
-use Rattle.std.specs.Prelude.{◌≡◌, ◌<◌, ℕ, List, length, get_or, slice_set, Option, Some, None, Result, Ok, Err}
+use Rattle.std.specs.Prelude.{◌≡◌, ◌<◌, ℕ, Bool, true, false, if◌then◌else◌, List, [], ◌∷◌, map, length, get_or, slice_set, Option, Some, None, Result, Ok, Err}
 use Rattle.nfc_base.specs.declared.carrier.EndCause.TheVariants as cause
 use Rattle.snep_core.specs.declared.fault.SnepFault.{SnepFault}
 use Rattle.snep_core.specs.declared.fault.SnepFault.TheVariants.{LinkEnded}
+use Rattle.snep_core.specs.declared.slot.Outcome.{Outcome}
+use Rattle.snep_core.specs.declared.slot.Outcome.TheVariants as outcomes
+use Rattle.snep_core.specs.declared.slot.Slot.{Slot}
+use Rattle.snep_core.specs.Slots.{outcome_of, slot_at}
+use Rattle.link_calls.specs.declared.request.SlotMessage.{SlotMessage}
 use Rattle.bench_world.specs.declared.bench.ObeyFault.{ObeyFault}
 use Rattle.bench_world.specs.declared.bench.ObeyFault.TheVariants.{Memory}
 use Rattle.bench_world.specs.declared.entry.Answer.{Answer}
 use Rattle.bench_world.specs.declared.entry.Answer.TheVariants as answers
 use Rattle.bench_world.specs.declared.entry.Loss.TheVariants as losses
+use Rattle.bench_world.specs.declared.entry.SlotDone.{SlotDone}
 use Rattle.bench_world.specs.World.{FarEnd}
 use Rattle.bench_world.specs.Links.{OpenLink, accepted_by, end_numbered, with_last_ended}
 use Rattle.bench_world.specs.Obeying.{Machines, under}
@@ -33,3 +39,26 @@ abbrev pub fault_told : SnepFault → Result Answer ObeyFault
 fault_told (LinkEnded cause.FieldLost) = Ok (answers.LinkEnded losses.FieldLost)
 fault_told (LinkEnded cause.SixBad) = Ok (answers.LinkEnded losses.SixBad)
 fault_told fault = Err Memory
+
+-- What is told of messages that were put at once, once all were answered, by what their slots tell, in their order.
+abbrev pub is_success : Outcome → Bool
+is_success outcomes.Success = true
+is_success _ = false
+
+abbrev pub is_taken : List Slot → ℕ → Bool
+is_taken slots slot = is_success (outcome_of (slot_at slots slot))
+
+abbrev pub done_at : List Slot → SlotMessage → SlotDone
+done_at slots w = record { slot = w.slot; success = is_taken slots w.slot }
+
+abbrev pub told_slots : List SlotMessage → List Slot → Answer
+told_slots [] slots = answers.Puts []
+told_slots (w ∷ []) slots = if is_taken slots w.slot then answers.Success else answers.Reject
+told_slots (w ∷ v ∷ ws) slots = answers.Puts (map (done_at slots) (w ∷ v ∷ ws))
+
+-- a slot's message isn't answered yet; and once it is
+abbrev pub not_yet : SlotMessage → SlotDone
+not_yet w = record { slot = w.slot; success = false }
+
+abbrev pub marked_done : List Slot → SlotDone → SlotDone
+marked_done slots d = record { slot = d.slot; success = is_taken slots d.slot }

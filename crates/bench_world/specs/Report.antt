@@ -10,24 +10,19 @@ use Rattle.nfc_base.specs.declared.event.Event.TheVariants.{Reset, Request, Answ
 use Rattle.nfc_base.specs.declared.event.Fate.{Fate}
 use Rattle.nfc_base.specs.declared.event.Fate.TheVariants.{Pass, Damage, Lose, Break}
 use Rattle.bench_world.specs.declared.entry.Answer.{Answer as Said}
-use Rattle.bench_world.specs.declared.entry.Answer.TheVariants.{Done, Store, Found, Crowd, T3None, T3One, T3Crowd, Message, NotNdef, Version, NoRead, Sectors, BadSize, NoMessageTlv, BadTlv, Unfinished, Disturbed, FieldLost, NotFound, SixBad, Written, Refused, ReadOnly, TooLong, ShortMlc, WrongKind, Inbox, Linked, Success, Reject, Value, NoValue, Excess, NotImplemented, Sap, LinkEnded, Replies, Unlinked, NoLink}
+use Rattle.bench_world.specs.declared.entry.Answer.TheVariants.{Done, Store, Found, Crowd, T3None, T3One, T3Crowd, Message, NotNdef, Version, NoRead, Sectors, BadSize, NoMessageTlv, BadTlv, Unfinished, Disturbed, FieldLost, NotFound, SixBad, Written, Refused, ReadOnly, TooLong, ShortMlc, WrongKind, Inbox, Linked, Success, Reject, Value, NoValue, Excess, NotImplemented, Sap, LinkEnded, Replies, Heard, Puts, Unlinked, NoLink}
 use Rattle.bench_world.specs.declared.entry.Entry.{Entry}
 use Rattle.bench_world.specs.declared.entry.Loss.{Loss}
 use Rattle.bench_world.specs.declared.entry.Loss.TheVariants as losses
 use Rattle.bench_world.specs.declared.entry.Received.{Received}
+use Rattle.bench_world.specs.declared.entry.RawHeard.{RawHeard}
+use Rattle.bench_world.specs.declared.entry.RawHeard.TheVariants as heard
+use Rattle.bench_world.specs.declared.entry.SlotDone.{SlotDone}
 use Rattle.bench_world.specs.declared.entry.Seen.{Seen}
 use Rattle.bench_devices.specs.declared.polling.SeenKind.{SeenKind}
 use Rattle.bench_devices.specs.declared.polling.SeenKind.TheVariants as kinds
 use Rattle.bench_script.specs.DeviceIds.{bytes_of}
-use Rattle.bench_script.specs.Canonical.{hex_text}
-
--- how many bits of the last byte are sent, where not all are
-abbrev pub tail_text : ℕ → List ℕ
-tail_text tail = if tail == 0 then [] else codes "/" ++ decimal tail
-
--- FRAME
-abbrev pub frame_text : Signal → List ℕ
-frame_text f = hex_text f.bytes ++ tail_text f.tail
+use Rattle.bench_script.specs.Canonical.{hex_text, frame_text}
 
 -- FATE
 abbrev pub fate_text : Fate → List ℕ
@@ -106,6 +101,27 @@ reply_text reply = codes " " ++ hex_text reply
 abbrev pub replies_text : List (List ℕ) → List ℕ
 replies_text replies = codes "heard" ++ flat_map reply_text replies
 
+-- what was heard behind each frame that a script sent, each behind a space
+abbrev pub heard_text : RawHeard → List ℕ
+heard_text (heard.Whole f) = codes " " ++ frame_text f
+heard_text heard.Silent = codes " silent"
+heard_text heard.Damaged = codes " damaged"
+heard_text heard.Clash = codes " clash"
+
+abbrev pub all_heard_text : List RawHeard → List ℕ
+all_heard_text all = codes "heard" ++ flat_map heard_text all
+
+-- what each client was told of its put, each behind a space: K:success or K:reject
+abbrev pub outcome_text : Bool → List ℕ
+outcome_text true = codes ":success"
+outcome_text false = codes ":reject"
+
+abbrev pub slot_done_text : SlotDone → List ℕ
+slot_done_text d = codes " " ++ decimal d.slot ++ outcome_text d.success
+
+abbrev pub puts_text : List SlotDone → List ℕ
+puts_text done = codes "puts" ++ flat_map slot_done_text done
+
 -- ANSWER
 abbrev pub answer_text : Said → List ℕ
 answer_text Done = codes "ok"
@@ -145,6 +161,8 @@ answer_text NotImplemented = codes "not implemented"
 answer_text (Sap sap) = codes "sap " ++ decimal sap
 answer_text (LinkEnded loss) = codes "link ended " ++ loss_text loss
 answer_text (Replies replies) = replies_text replies
+answer_text (Heard all) = all_heard_text all
+answer_text (Puts done) = puts_text done
 answer_text Unlinked = codes "unlinked"
 answer_text NoLink = codes "no link"
 

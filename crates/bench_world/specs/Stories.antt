@@ -5,11 +5,12 @@ use Rattle.std.specs.Prelude.{ℕ, ◌+◌, zero, suc, drop, get_or, length, Lis
 use Rattle.nfc_base.specs.declared.event.Event.{Event}
 use Rattle.dep_link.specs.DepLinks.{brought}
 use Rattle.llcp_link.specs.State.{restarted}
-use Rattle.snep_core.specs.Links.{Told, Success, Rejected, Unanswered, Put}
+use Rattle.snep_core.specs.Links.{Told, Put}
 use Rattle.snep_core.specs.Server.{Received as Accepted, serving}
 use Rattle.snep_core.specs.Session.{Offer}
-use Rattle.snep_core.specs.Talk.{Puts, client_sap}
-use Rattle.link_calls.specs.Asking.{LinkAsking, Does}
+use Rattle.snep_core.specs.Talk.{sap_of_slot}
+use Rattle.link_calls.specs.Asking.{LinkAsking, Does, Putting}
+use Rattle.link_calls.specs.declared.request.SlotMessage.{SlotMessage}
 use Rattle.bench_script.specs.declared.command.Command.{Command}
 use Rattle.bench_script.specs.declared.command.Command.TheVariants as commands
 use Rattle.bench_world.specs.declared.entry.Answer.{Answer}
@@ -17,6 +18,7 @@ use Rattle.bench_world.specs.declared.entry.Answer.TheVariants as answers
 use Rattle.bench_world.specs.declared.entry.Entry.{Entry}
 use Rattle.bench_world.specs.declared.inbox.LinkRange.{LinkRange}
 use Rattle.bench_world.specs.Asked.{asked_on_link}
+use Rattle.bench_world.specs.Calls.{none_told, told_each}
 use Rattle.bench_world.specs.Arrivals.{Arrival, arrivals_of}
 use Rattle.bench_world.specs.World.{FarEnd}
 use Rattle.bench_world.specs.Inbox.{gained_in}
@@ -63,15 +65,19 @@ pub record Story : Type 0 where
   pub puts : List LinkPut
   pub gained : List Accepted
 
--- How a put was told by its answer: where the link ended, and where it was cut off, it wasn't.
-abbrev pub told_put : Option Answer → Told
-told_put (Some answers.Success) = Success
-told_put (Some answers.Reject) = Rejected
-told_put told = Unanswered
+-- How messages that were put were told of, in their order: by the answer, and where they were cut off they weren't.
+abbrev pub told_all : List SlotMessage → Option Answer → List Told
+told_all ws None = none_told ws
+told_all ws (Some answer) = told_each ws answer
+
+-- each is put from the SAP of its slot
+abbrev pub puts_told : List SlotMessage → List Told → List LinkPut
+puts_told (w ∷ ws) (t ∷ ts) = record { source = sap_of_slot w.slot; put = record { message = w.message; told = t } } ∷ puts_told ws ts
+puts_told _ _ = []
 
 -- what a stretch puts
 abbrev pub puts_of : Option LinkAsking → Option Answer → List LinkPut
-puts_of (Some (Does (Puts m))) told = record { source = client_sap; put = record { message = m; told = told_put told } } ∷ []
+puts_of (Some (Does (Putting ws))) told = puts_told ws (told_all ws told)
 puts_of asked told = []
 
 abbrev pub puts_in : Command → Option Answer → List LinkPut

@@ -7,9 +7,12 @@ ghost use Rattle.bench_devices.specs.Placed.{device_with};
 ghost use Rattle.bench_world.specs.Obeying.{Obeys, Obeyed, ObeyedBy, IsSettled, IsCutOffBy, RefusedOnly, ObeyedBelow, RefusedBelow, LacksMemory, FieldOf, FarAt, begun_anew, new_bench, obey_fault_number};
 ghost use Rattle.bench_world.specs.Links.{OpenLink};
 ghost use Rattle.bench_devices.specs.Phases.{IsIdle};
+ghost use Rattle.bench_world.specs.Stories.{gained_on};
 ghost use Rattle.snep_core.specs.Calling.{ClientState};
+ghost use Rattle.snep_core.specs.Server.{messages_of, sources_of};
 
 use crate::asking::{find, find_tags, read_tag, write_message};
+use crate::at_once::{on_get, on_put, puts};
 use crate::calling::{get, lookup, put, unlink};
 use crate::entry::{Answer, Entry};
 use crate::forging::forge;
@@ -378,9 +381,17 @@ fn run_command(
         Command::Forge { id, payloads } => {
             forge(alloc, machines, joins, id, payloads.as_slice())
         }
+        Command::Raw { .. } => Err(ObeyFault::Refused),
         Command::Put { message } => put(alloc, machines, joins, message),
         Command::Get { acceptable, key } => get(machines, joins, *acceptable, key.as_slice()),
         Command::Lookup { name } => lookup(machines, joins, name.as_slice()),
+        Command::OnPut { slot, message } => on_put(alloc, machines, joins, *slot, message),
+        Command::OnGet {
+            slot,
+            acceptable,
+            key,
+        } => on_get(machines, joins, *slot, *acceptable, key.as_slice()),
+        Command::Puts(all) => puts(alloc, machines, joins, all.as_slice()),
         Command::Unlink => unlink(machines, joins),
     }
 }
@@ -532,6 +543,28 @@ impl Bench {
         ensures going { IfSome (option_copied result) (λ c. c.spent ≡ false) }
     {
         self.machines.client()
+    }
+
+    /// How many links there were so far; the first is link 1.
+    pub fn links(&self) -> u32
+        ensures { result ≡ length self.now.state.peers.links }
+    {
+        self.machines.link_count()
+    }
+
+    /// What the server of a link's peer accepted on it so far, message by message, also where the peer was taken away since;
+    /// nothing of a number that no link has.
+    pub fn accepted(&self, link: u32) -> &[Items<u8>]
+        ensures { self.now.spoiled ≡ false → result.now ≡ messages_of (gained_on self.now.state link) }
+    {
+        self.machines.accepted_on(link)
+    }
+
+    /// Of each of these messages the SAP of the client that put it (NFC Forum LLCP 1.3).
+    pub fn sources(&self, link: u32) -> &[u8]
+        ensures { self.now.spoiled ≡ false → result.now ≡ sources_of (gained_on self.now.state link) }
+    {
+        self.machines.sources_on(link)
     }
 
     /// Obeys the command of a line, and adds its entry to the journal, none for a line that asks for nothing.

@@ -4,8 +4,8 @@
 ghost use Rattle.std.specs.Prelude.{false, ◌≡◌, ◌↔◌, ◌≤◌, IsTrue, ◌<◌, length, None, Some, IfOk, IfSome, IsErr, IsErrOf, MatchOption, OnErr};
 ghost use Rattle.std.specs.Char.{is_ascii_graphic};
 ghost use Rattle.std.specs.List.{list_all};
-ghost use Rattle.link_calls.specs.Asking.{IsShort, asking_of};
-ghost use Rattle.snep_core.specs.Slots.{is_staged_at};
+ghost use Rattle.link_calls.specs.Asking.{MayAsk, asking_of};
+ghost use Rattle.link_calls.specs.AtOnce.{IsAtRest};
 ghost use Rattle.bench_script.specs.Messages.{message_of};
 ghost use Rattle.bench_script.specs.Script.{SpellsName, longest_message};
 ghost use Rattle.bench_world.specs.Asked.{asked_on_link};
@@ -27,29 +27,29 @@ use snep_core::{Client, Ending, Refusal, Server, SnepFault};
 use std::alloc::Global;
 
 /// The longest message (NFC Forum SNEP 1.0 has no limit; this one is this project's own).
-const LONGEST_MESSAGE: usize = 65536;
+pub(crate) const LONGEST_MESSAGE: usize = 65536;
 
 /// The longest name of a service (this project's limit).
 const LONGEST_NAME: usize = 64;
 
 /// The open link and its peer's end, which stands at that place, taken out of the machines for a command.
 #[derive(Drop)]
-struct OnLink {
-    place: usize,
-    peer: u64,
-    initiator: Initiator,
-    client: Client,
-    far: Counted<Server>,
+pub(crate) struct OnLink {
+    pub(crate) place: usize,
+    pub(crate) peer: u64,
+    pub(crate) initiator: Initiator,
+    pub(crate) client: Client,
+    pub(crate) far: Counted<Server>,
 }
 
 /// Takes the open link, where there is one, and its peer's end, of which each payload has so many PDUs.
-fn take_link(machines: &mut Machines, counts: Counts) -> Option<OnLink>
+pub(crate) fn take_link(machines: &mut Machines, counts: Counts) -> Option<OnLink>
     requires { IsSettled machines.old }
     ensures none { result ≡ None → (machines.old.link ≡ None) × (machines.new ≡ machines.old) }
     ensures some { IfSome result (λ on. TakesLink machines.old on.place
         (record { peer = on.peer; initiator = on.initiator; client = on.client.llc }) on.far.end machines.new) }
     ensures going { IfSome result (λ on. on.client.spent ≡ false) }
-    ensures free { IfSome result (λ on. is_staged_at on.client.slots 0 ≡ false) }
+    ensures rest { IfSome result (λ on. IsAtRest on.client.slots) }
     ensures counts { IfSome result (λ on. on.far.numbers ≡ counts) }
 {
     let Link {
@@ -73,10 +73,10 @@ fn take_link(machines: &mut Machines, counts: Counts) -> Option<OnLink>
 }
 
 /// Puts the link and its peer's end back: the link stays open.
-fn put_back(machines: &mut Machines, on: OnLink)
+pub(crate) fn put_back(machines: &mut Machines, on: OnLink)
     requires place { on.place < length machines.old.ends }
     requires going { on.client.spent ≡ false }
-    requires free { is_staged_at on.client.slots 0 ≡ false }
+    requires rest { IsAtRest on.client.slots }
     ensures { machines.new ≡ put_back machines.old on.place on.far.end
         (record { peer = on.peer; initiator = on.initiator; client = on.client.llc }) }
 {
@@ -97,7 +97,7 @@ fn put_back(machines: &mut Machines, on: OnLink)
 
 /// Puts the peer's end back: the link is over, and its range goes to the present end of what the peer's server
 /// accepted.
-fn put_down(machines: &mut Machines, on: OnLink)
+pub(crate) fn put_down(machines: &mut Machines, on: OnLink)
     requires { on.place < length machines.old.ends }
     ensures { machines.new ≡ put_down machines.old on.place on.far.end }
 {
@@ -123,7 +123,7 @@ fn answer_of(ending: Ending) -> Answer
 }
 
 /// What is told of a call that has no ending.
-fn fault_told(fault: SnepFault) -> Result<Answer, ObeyFault>
+pub(crate) fn fault_told(fault: SnepFault) -> Result<Answer, ObeyFault>
     ensures { result ≡ fault_told fault }
 {
     match fault {
@@ -134,13 +134,13 @@ fn fault_told(fault: SnepFault) -> Result<Answer, ObeyFault>
 }
 
 /// Asks something on the open link, where there is one: the link stays open behind a call that came to its end.
-fn talk(
+pub(crate) fn talk(
     machines: &mut Machines,
     joins: Joins,
     request: &LinkRequest<'_>,
 ) -> Result<Answer, ObeyFault>
     requires settled { IsSettled machines.old }
-    requires short { IsShort (asking_of request.now) }
+    requires may { MayAsk request.now }
     ensures ok { IfOk result (λ a. (c : Command) → asked_on_link c ≡ Some (asking_of request.now)
         → Accepts (state_at machines.old) c → ObeyedBy joins machines.old machines.new c a) }
     ensures cut { IsErr result → (c : Command) → asked_on_link c ≡ Some (asking_of request.now)
@@ -174,7 +174,7 @@ fn talk(
 }
 
 /// Whether a message is longer than one may be.
-fn is_too_long(message: &Msg) -> bool
+pub(crate) fn is_too_long(message: &Msg) -> bool
     ensures { IsTrue result ↔ (longest_message < length (message_of message.now)) }
 {
     match message {
@@ -222,6 +222,7 @@ pub fn get(
         return Err(ObeyFault::Refused);
     }
     let request = LinkRequest::Get {
+        slot: 0,
         most: acceptable,
         key,
     };

@@ -2,7 +2,7 @@
 
 use bench_devices::SeenKind;
 use bench_script::{Command, DeviceId};
-use nfc_base::{Event, Items};
+use nfc_base::{Event, Frame, Items};
 
 /// A device that was found.
 #[derive(Debug, Drop, PartialEq)]
@@ -26,6 +26,22 @@ pub struct Received {
 pub enum Loss {
     FieldLost,
     SixBad,
+}
+
+/// What was heard behind a frame that a script sent: one frame, nothing, one that was damaged, or several at once.
+#[derive(Debug, Drop, PartialEq)]
+pub enum RawHeard {
+    Whole(Frame),
+    Silent,
+    Damaged,
+    Clash,
+}
+
+/// What a client was told of its put, by the number of its slot: the peer's server took the message, or refused it.
+#[derive(Clone, Copy, Debug, PartialEq, Eq)]
+pub struct SlotDone {
+    pub slot: u8,
+    pub success: bool,
 }
 
 /// The bench's answer to a command.
@@ -96,6 +112,10 @@ pub enum Answer {
     LinkEnded(Loss),
     /// The reply of a peer to each payload that was written by hand.
     Replies(Items<Items<u8>>),
+    /// What was heard behind each frame that a script sent.
+    Heard(Items<RawHeard>),
+    /// What each client was told of its put, in the order of the line.
+    Puts(Items<SlotDone>),
     /// The link was closed.
     Unlinked,
     /// No link is open.

@@ -1,7 +1,8 @@
 //! The report's line of an event.
 
 ghost use Rattle.std.specs.Prelude.{◌≡◌, ◌+◌, ◌≤◌, ◌++◌, length};
-ghost use Rattle.bench_world.specs.Report.{frame_text, fate_text, sent_text, event_text, line_text};
+ghost use Rattle.bench_script.specs.Canonical.{frame_text};
+ghost use Rattle.bench_world.specs.Report.{fate_text, sent_text, event_text, line_text};
 
 use crate::fixed_text::{push_hex, push_number, push_text};
 use arrayvec::ArrayVec;
@@ -44,7 +45,8 @@ fn push_sent(text: &mut ArrayVec<u8, 640>, sign: &[u8; 2], frame: &Frame, fate: 
     push_text(text, fate_name(fate));
 }
 
-fn push_frame(text: &mut ArrayVec<u8, 640>, frame: &Frame)
+/// Puts a frame behind a piece that has room for the longest.
+pub fn push_frame(text: &mut ArrayVec<u8, 640>, frame: &Frame)
     requires { length text.old.items ≤ 23 }
     ensures value { text.new.items ≡ text.old.items ++ frame_text frame.now }
     ensures size { length text.new.items ≤ length text.old.items + 598 }

@@ -3,7 +3,7 @@
 
 ghost use Rattle.bench_world.specs.Behind.{WrittenIsRead, OneOfThreeIsRead, BrokenIsRead, FirstBrokenIsRead};
 ghost use Rattle.bench_world.specs.Completing.{ReadsComplete, WritesComplete, ShownIsWritten, ValidIsWritten, FindsComplete, TagsComplete, ThreesComplete};
-ghost use Rattle.bench_world.specs.CompletingLinks.{AskedComplete, PutsComplete, GetsComplete, LookupsComplete, UnlinksComplete, ValidIsOk, LinkingsComplete, KindsTold};
+ghost use Rattle.bench_world.specs.CompletingLinks.{AskedComplete, PutsComplete, SeveralComplete, GetsComplete, LookupsComplete, UnlinksComplete, ValidIsOk, LinkingsComplete, KindsTold};
 ghost use Rattle.bench_world.specs.CompletingForging.{ForgedKindsTold, ForgingsComplete, QuietForgings};
 ghost use Rattle.bench_world.specs.CompletingThrees.{ThreesRead, ThreesWrite, ThreesWritten, QuietThreesRead, QuietThreesWrite, QuietThreesWritten, Written3IsRead, Written3IsWhole, OneOfTwo3IsRead, Undisturbed3IsRead, Quiet3IsRead};
 ghost use Rattle.bench_world.specs.LinkLaw.{CutArrivalLaw, CutLinkLaw, LinkLaw};
@@ -47,6 +47,7 @@ pub fn finds_complete()
 pub fn links_complete()
     ensures asked { AskedComplete }
     ensures puts { PutsComplete }
+    ensures several { SeveralComplete }
     ensures gets { GetsComplete }
     ensures lookups { LookupsComplete }
     ensures unlinks { UnlinksComplete }

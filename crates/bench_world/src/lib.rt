@@ -3,7 +3,7 @@
 //! `bench` obeys commands, those that ask the devices something by `asking`, Type 3 tags by `threes`, those of peers by `peers`; `machines` are
 //! the field with its devices and the far ends above them, `joins` how many PDUs stand in payloads, and `inbox` tells
 //! what such an end accepted, by its links. `entry` is what the journal keeps of a command, `answering` makes its
-//! answer of what selecting, reading, writing and searching came to. `event_lines` and `pieces` turn an entry to text
+//! answer of what selecting, reading, writing and searching came to. `event_lines`, `pieces` and `listed` turn an entry to text
 //! in pieces that `fixed_text` fills, without memory, and `report` joins them. `specs/Legal.antt` says which entries a
 //! bench may have, `specs/Journal.antt` which journals the lines of a script may have, `specs/Answering.antt` and
 //! `specs/Reading.antt` what each answer tells, `specs/Report.antt` how it is written, `specs/ReadBack.antt` what its
@@ -13,16 +13,19 @@
 
 mod answering;
 mod asking;
+mod at_once;
 mod bench;
 mod calling;
 mod entry;
 mod event_lines;
 mod fixed_text;
 mod forging;
+mod gains;
 mod inbox;
 mod joins;
 mod law;
 mod linking;
+mod listed;
 mod machines;
 mod peers;
 mod pieces;
@@ -31,7 +34,7 @@ mod threes;
 
 pub use bench::{Bench, ObeyFault, Run};
 pub use bench_devices::{Device, SeenKind};
-pub use entry::{Answer, Entry, Loss, Received, Seen};
+pub use entry::{Answer, Entry, Loss, RawHeard, Received, Seen, SlotDone};
 pub use event_lines::event_line;
 pub use inbox::{LinkRange, inbox_of};
 pub use law::{

@@ -9,7 +9,8 @@ ghost use Rattle.bench_world.specs.Links.{accepted_by, end_numbered, is_number, 
 ghost use Rattle.bench_world.specs.Peers.{set_under};
 ghost use Rattle.bench_world.specs.World.{FarEnd};
 ghost use Rattle.snep_core.specs.Calling.{ClientState};
-ghost use Rattle.snep_core.specs.Slots.{fresh_slots, is_staged_at};
+ghost use Rattle.link_calls.specs.AtOnce.{IsAtRest};
+ghost use Rattle.snep_core.specs.Slots.{fresh_slots};
 
 use crate::bench::ObeyFault;
 use crate::entry::{Answer, Loss, Received};
@@ -35,13 +36,13 @@ pub struct Link {
 impl Model for Link {
     ghost use Rattle.std.specs.Prelude.{◌≡◌, false};
     ghost use Rattle.bench_world.specs.Links.{OpenLink};
-    ghost use Rattle.snep_core.specs.Slots.{is_staged_at};
+    ghost use Rattle.link_calls.specs.AtOnce.{IsAtRest};
 
     ghost Value = { OpenLink };
 
     ghost view = { λ l. record { peer = l.peer; initiator = l.initiator; client = l.client.llc } };
 
-    ghost invariant = { λ l. (l.client.spent ≡ false) × (is_staged_at l.client.slots 0 ≡ false) };
+    ghost invariant = { λ l. (l.client.spent ≡ false) × IsAtRest l.client.slots };
 }
 
 /// A far end has accepted so many messages; where none stands, there are none.
@@ -75,7 +76,8 @@ pub(crate) fn own_params(miu: u16) -> LinkParams
 fn new_client(alloc: Global, miu: u16, rw: u8, told: &[u8]) -> Client
     requires miu { IsMiu miu }
     requires window { IsWindow rw }
-    ensures { result ≡ record { llc = new_client miu rw told.now; spent = false; slots = fresh_slots } }
+    ensures new { result ≡ record { llc = new_client miu rw told.now; spent = false; slots = fresh_slots } }
+    ensures rest { IsAtRest result.slots }
 {
     let mut end = Llc::new(alloc, own_params(miu), rw, NoService);
     end.restart(told);
@@ -148,7 +150,7 @@ pub struct Machines {
     pub(crate) field: Field<Device>,
     pub(crate) ends: Vec<Option<Llc<Server>>>,
     pub(crate) numbers: Vec<Option<u64>>,
-    gone: Vec<Option<Llc<Server>>>,
+    pub(crate) gone: Vec<Option<Llc<Server>>>,
     pub(crate) links: Vec<LinkRange>,
     pub(crate) link: Option<Link>,
 }
@@ -372,7 +374,7 @@ impl Machines {
     ) -> Result<Answer, ObeyFault>
         requires few { length self.old.peers.links + 1 < 2 ^ 32 }
         requires fresh { client.spent ≡ false }
-        requires free { is_staged_at client.slots 0 ≡ false }
+        requires rest { IsAtRest client.slots }
         ensures ok { IfOk result (λ a. a ≡ Answer.Linked (length self.old.peers.links + 1)) }
         ensures opened { OnOk result (self.new ≡ begun self.old peer start initiator client.llc) }
         ensures err { IfErr result (λ e. e ≡ ObeyFault.Memory) }

@@ -4,13 +4,12 @@ ghost use Rattle.std.specs.Prelude.{◌≡◌, ◌+◌, ◌*◌, ◌<◌, ◌≤
 ghost use Rattle.std.specs.Fmt.{decimal};
 ghost use Rattle.hex.specs.Hex.{encode_upper};
 ghost use Rattle.bench_script.specs.Canonical.{hex_text};
-ghost use Rattle.bench_world.specs.Report.{access_text, kind_text, seen_text, found_text, tag_text, tags_text, source_text, received_text, inbox_text, reply_text, replies_text, answer_text, code_text, loss_text, line_text};
+ghost use Rattle.bench_world.specs.Report.{access_text, found_text, tags_text, inbox_text, replies_text, all_heard_text, puts_text, answer_text, code_text, loss_text, line_text};
 
-use crate::entry::{Answer, Entry, Loss, Received, Seen};
-use crate::fixed_text::{push_digits, push_hex, push_number, push_text};
+use crate::entry::{Answer, Entry, Loss, RawHeard, Received, Seen, SlotDone};
+use crate::fixed_text::{push_digits, push_number, push_text};
+use crate::listed::{Listed, sign_of_none};
 use arrayvec::ArrayVec;
-use bench_devices::SeenKind;
-use bench_script::DeviceId;
 use nfc_base::Items;
 use std::marker::Model;
 use std::mem;
@@ -18,33 +17,24 @@ use std::mem;
 /// How many bytes one piece brings the digits of at most.
 const MOST_BYTES: usize = 320;
 
-/// The SAP from which a reader's client connects, which a line leaves out.
-const CLIENT_SAP: u8 = 32;
-
 /// Goes over the pieces of an answer's line, none of which is empty. Contracts see the text that is left. It takes no
 /// memory.
 #[derive(Debug, Drop)]
 pub struct AnswerPieces<'a> {
     head: ArrayVec<u8, 640>,
     bytes: &'a [u8],
-    devices: &'a [Seen],
-    messages: &'a [Received],
-    tags: &'a [[u8; 8]],
-    replies: &'a [Items<u8>],
+    listed: Listed<'a>,
     tail: ArrayVec<u8, 640>,
 }
 
 impl<'a> Model for AnswerPieces<'a> {
     ghost use Rattle.std.specs.Prelude.{ℕ, List, ◌++◌};
-    ghost use Rattle.std.specs.List.{flat_map};
     ghost use Rattle.hex.specs.Hex.{encode_upper};
-    ghost use Rattle.bench_world.specs.Report.{seen_text, received_text, reply_text, tag_text};
+    ghost use Rattle.bench_world.specs.Listing.{listed_text};
 
     ghost Value = { List ℕ };
 
-    ghost view = { λ p. p.head.items ++ (encode_upper p.bytes.now
-        ++ (flat_map seen_text p.devices.now ++ (flat_map received_text p.messages.now
-        ++ (flat_map tag_text p.tags.now ++ (flat_map reply_text p.replies.now ++ p.tail.items))))) };
+    ghost view = { λ p. p.head.items ++ (encode_upper p.bytes.now ++ (listed_text p.listed ++ p.tail.items)) };
 }
 
 /// The pieces of the line of an entry's answer.
@@ -91,7 +81,9 @@ pub fn answer_pieces(entry: &Entry) -> AnswerPieces<'_>
         Answer::NotImplemented => in_words(line, b"not implemented"),
         Answer::Sap(sap) => numbered(line, b"sap ", *sap as u64),
         Answer::LinkEnded(loss) => in_words(line, ended_by(*loss)),
-        Answer::Replies(replies) => heard(line, replies.as_slice()),
+        Answer::Replies(all) => replies(line, all.as_slice()),
+        Answer::Heard(all) => heard(line, all.as_slice()),
+        Answer::Puts(done) => puts(line, done.as_slice()),
         Answer::Unlinked => in_words(line, b"unlinked"),
         Answer::NoLink => in_words(line, b"no link"),
     }
@@ -138,10 +130,7 @@ fn whole<'a>(text: ArrayVec<u8, 640>) -> AnswerPieces<'a>
     AnswerPieces {
         head,
         bytes: &[],
-        devices: &[],
-        messages: &[],
-        tags: &[],
-        replies: &[],
+        listed: Listed::Nothing,
         tail: ArrayVec::new(),
     }
 }
@@ -156,23 +145,8 @@ fn with_bytes<'a>(line: u32, words: &[u8], bytes: &'a [u8], end: &[u8]) -> Answe
     AnswerPieces {
         head,
         bytes,
-        devices: &[],
-        messages: &[],
-        tags: &[],
-        replies: &[],
+        listed: Listed::Nothing,
         tail: ended(end),
-    }
-}
-
-/// What stands for no bytes in hex; nothing where there are some.
-fn sign_of_none(bytes: &[u8]) -> &'static [u8]
-    ensures value { hex_text bytes.now ≡ result.now ++ encode_upper bytes.now }
-    ensures size { length result.now ≤ 1 }
-{
-    if bytes.is_empty() {
-        b"-".as_slice()
-    } else {
-        b"".as_slice()
     }
 }
 
@@ -227,10 +201,7 @@ fn found(line: u32, devices: &[Seen], crowd: bool) -> AnswerPieces<'_>
     AnswerPieces {
         head,
         bytes: &[],
-        devices,
-        messages: &[],
-        tags: &[],
-        replies: &[],
+        listed: Listed::Devices(devices),
         tail: ended(crowd_text(crowd)),
     }
 }
@@ -256,10 +227,7 @@ fn inbox(line: u32, messages: &[Received]) -> AnswerPieces<'_>
     AnswerPieces {
         head,
         bytes: &[],
-        devices: &[],
-        messages,
-        tags: &[],
-        replies: &[],
+        listed: Listed::Messages(messages),
         tail: ended(b""),
     }
 }
@@ -273,25 +241,43 @@ fn crowd(line: u32, tags: &[[u8; 8]]) -> AnswerPieces<'_>
     AnswerPieces {
         head,
         bytes: &[],
-        devices: &[],
-        messages: &[],
-        tags,
-        replies: &[],
+        listed: Listed::Tags(tags),
         tail: ended(b""),
     }
 }
 
 /// The reply to each payload that was written by hand.
-fn heard(line: u32, replies: &[Items<u8>]) -> AnswerPieces<'_>
+fn replies(line: u32, replies: &[Items<u8>]) -> AnswerPieces<'_>
     ensures { result ≡ line_text line (replies_text replies.now) }
 {
     AnswerPieces {
         head: begun(line, b"heard"),
         bytes: &[],
-        devices: &[],
-        messages: &[],
-        tags: &[],
-        replies,
+        listed: Listed::Replies(replies),
+        tail: ended(b""),
+    }
+}
+
+/// What was heard behind each frame that a script sent.
+fn heard(line: u32, all: &[RawHeard]) -> AnswerPieces<'_>
+    ensures { result ≡ line_text line (all_heard_text all.now) }
+{
+    AnswerPieces {
+        head: begun(line, b"heard"),
+        bytes: &[],
+        listed: Listed::Heard(all),
+        tail: ended(b""),
+    }
+}
+
+/// What each client was told of its put.
+fn puts(line: u32, done: &[SlotDone]) -> AnswerPieces<'_>
+    ensures { result ≡ line_text line (puts_text done.now) }
+{
+    AnswerPieces {
+        head: begun(line, b"puts"),
+        bytes: &[],
+        listed: Listed::Puts(done),
         tail: ended(b""),
     }
 }
@@ -316,23 +302,9 @@ impl<'a> Iterator for AnswerPieces<'a> {
             self.bytes = rest;
             return Some(digits(front));
         }
-        if let Some((seen, rest)) = self.devices.split_first() {
-            self.devices = rest;
-            return Some(device(seen));
-        }
-        if let Some((received, rest)) = self.messages.split_first() {
-            self.messages = rest;
-            self.bytes = received.message.as_slice();
-            return Some(origin(received));
-        }
-        if let Some((id, rest)) = self.tags.split_first() {
-            self.tags = rest;
-            return Some(tag(*id));
-        }
-        if let Some((reply, rest)) = self.replies.split_first() {
-            self.replies = rest;
-            self.bytes = reply.as_slice();
-            return Some(before_reply(reply));
+        if let Some((piece, bytes)) = self.listed.next_item() {
+            self.bytes = bytes;
+            return Some(piece);
         }
         if !self.tail.is_empty() {
             return Some(mem::replace(&mut self.tail, ArrayVec::new()));
@@ -349,89 +321,4 @@ fn digits(bytes: &[u8]) -> ArrayVec<u8, 640>
     let mut piece = ArrayVec::new();
     push_digits(&mut piece, bytes);
     piece
-}
-
-/// A device that was found.
-fn device(seen: &Seen) -> ArrayVec<u8, 640>
-    ensures value { result.items ≡ seen_text seen.now }
-    ensures some { 0 < length result.items }
-{
-    let mut piece = ArrayVec::new();
-    push_text(&mut piece, b" ");
-    match &seen.id {
-        DeviceId::A(id) => push_hex(&mut piece, id.view()),
-        DeviceId::V(id) => push_uid(&mut piece, *id),
-    }
-    push_text(&mut piece, b":");
-    push_text(&mut piece, kind_name(seen.kind));
-    piece
-}
-
-/// A Type 5 tag that was found.
-fn tag(id: [u8; 8]) -> ArrayVec<u8, 640>
-    ensures value { result.items ≡ tag_text id }
-    ensures some { 0 < length result.items }
-{
-    let mut piece = ArrayVec::new();
-    push_text(&mut piece, b" ");
-    push_uid(&mut piece, id);
-    piece
-}
-
-/// The identifier of a Type 5 tag.
-fn push_uid(piece: &mut ArrayVec<u8, 640>, id: [u8; 8])
-    requires { length piece.old.items ≤ 1 }
-    ensures value { piece.new.items ≡ piece.old.items ++ hex_text id }
-    ensures size { length piece.new.items ≤ length piece.old.items + 17 }
-{
-    push_hex(piece, &id);
-}
-
-fn kind_name(kind: SeenKind) -> &'static [u8]
-    ensures value { result.now ≡ kind_text kind }
-    ensures size { length result.now ≤ 4 }
-{
-    match kind {
-        SeenKind::T2 => b"t2".as_slice(),
-        SeenKind::T4 => b"t4".as_slice(),
-        SeenKind::T5 => b"t5".as_slice(),
-        SeenKind::Peer => b"peer".as_slice(),
-    }
-}
-
-/// What stands before a message's digits: where it came from, and the sign that it has no bytes where it has none.
-fn origin(received: &Received) -> ArrayVec<u8, 640>
-    ensures value { received_text received.now ≡ result.items ++ encode_upper received.now.message }
-    ensures some { 0 < length result.items }
-{
-    let mut piece = ArrayVec::new();
-    push_text(&mut piece, b" ");
-    push_number(&mut piece, received.link as u64);
-    push_source(&mut piece, received.source);
-    push_text(&mut piece, b":");
-    push_text(&mut piece, sign_of_none(received.message.as_slice()));
-    piece
-}
-
-/// What stands before a reply's digits: a space, and the sign that it has no bytes where it has none.
-fn before_reply(reply: &Items<u8>) -> ArrayVec<u8, 640>
-    ensures value { reply_text reply.now ≡ result.items ++ encode_upper reply.now }
-    ensures some { 0 < length result.items }
-{
-    let mut piece = ArrayVec::new();
-    push_text(&mut piece, b" ");
-    push_text(&mut piece, sign_of_none(reply.as_slice()));
-    piece
-}
-
-/// The SAP from which a message came, where it is another than the client's.
-fn push_source(piece: &mut ArrayVec<u8, 640>, source: u8)
-    requires { length piece.old.items ≤ 21 }
-    ensures value { piece.new.items ≡ piece.old.items ++ source_text source }
-    ensures size { length piece.new.items ≤ length piece.old.items + 21 }
-{
-    if source != CLIENT_SAP {
-        push_text(piece, b".");
-        push_number(piece, source as u64);
-    }
 }

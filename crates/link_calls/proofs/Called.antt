@@ -12,7 +12,7 @@ use Rattle.snep_core.specs.declared.job.Refusal.{Refusal}
 use Rattle.snep_core.specs.declared.job.Refusal.TheVariants as refusals
 use Rattle.snep_core.specs.Accord.{Accords, GetFails, PutFails}
 use Rattle.snep_core.specs.Calling.{refused_by}
-use Rattle.snep_core.specs.Talk.{EndState, Ends, Task, Puts, Gets, alone, begins, client_sap}
+use Rattle.snep_core.specs.Talk.{EndState, Ends, Task, Puts, Gets, begins_from, one_on}
 use Rattle.link_calls.specs.Called.{OpenAir, Served, TaskCalled, came_to}
 use Rattle.link_calls.specs.Calls.{CallFails, IsMade, RequestFails}
 
@@ -69,15 +69,15 @@ none_busy refusals.NotFound e = cc
 none_busy refusals.Excess e = cc
 none_busy refusals.NotImplemented e = cc
 
-module _ {L : Type 0} (k : Ghosts L) (target : L → TargetState) (ns : List ℕ) (client left : EndState) (old new : OpenAir L) where
+module _ {L : Type 0} (k : Ghosts L) (target : L → TargetState) (ns : List ℕ) (client left : EndState) (old new : OpenAir L) (sap : ℕ) where
   abbrev Made : Task → Ending → Type 0
-  Made task ending = IsMade k target ns (begins client task) old.air old.initiator old.far new.air new.initiator new.far (Ends (alone (Over ending)) left)
+  Made task ending = IsMade k target ns (begins_from client sap task) old.air old.initiator old.far new.air new.initiator new.far (Ends (one_on sap (Over ending)) left)
 
   abbrev Fell : Task → SnepFault → Type 0
-  Fell task x = RequestFails k target ns (begins client task) old.air old.initiator old.far new.air new.initiator new.far left x
+  Fell task x = RequestFails k target ns (begins_from client sap task) old.air old.initiator old.far new.air new.initiator new.far sap left x
 
   abbrev Failed : Task → SnepFault → Type 0
-  Failed task x = CallFails k target ns (begins client task) old.air old.initiator old.far new.air new.initiator new.far left x
+  Failed task x = CallFails k target ns (begins_from client sap task) old.air old.initiator old.far new.air new.initiator new.far left x
 
   -- it was refused so
   made_refused : (task : Task) (w : Refusal) → Fell task (refused_by w) → Made task (Refused w)
@@ -93,9 +93,9 @@ module _ {L : Type 0} (k : Ghosts L) (target : L → TargetState) (ns : List ℕ
   not_refused task x none (inr f) = f
 
   -- a request that failed, of which this holds by its fault
-  module _ (task : Task) (Left : SnepFault → Type 0) (refused : (w : Refusal) → Left (refused_by w) → Served task old.far.end (Ok (Refused w)) left new.far.end)
-      (failed : (x : SnepFault) → Left x → Served task old.far.end (Err x) left new.far.end) where
-    by_fault : (x : SnepFault) → Fell task x → (Accords client old.far.end → Left x) → TaskCalled k target ns task client old (came_to (λ (e : Ending). e) (Err x)) left new
+  module _ (task : Task) (Left : SnepFault → Type 0) (refused : (w : Refusal) → Left (refused_by w) → Served sap task old.far.end (Ok (Refused w)) left new.far.end)
+      (failed : (x : SnepFault) → Left x → Served sap task old.far.end (Err x) left new.far.end) where
+    by_fault : (x : SnepFault) → Fell task x → (Accords client old.far.end → Left x) → TaskCalled k target ns sap task client old (came_to (λ (e : Ending). e) (Err x)) left new
     by_fault faults.Reject f s = record { goes = made_refused task refusals.Reject f; serves = λ a. refused refusals.Reject (s a) }
     by_fault faults.NotFound f s = record { goes = made_refused task refusals.NotFound f; serves = λ a. refused refusals.NotFound (s a) }
     by_fault faults.Excess f s = record { goes = made_refused task refusals.Excess f; serves = λ a. refused refusals.Excess (s a) }
@@ -105,9 +105,9 @@ module _ {L : Type 0} (k : Ghosts L) (target : L → TargetState) (ns : List ℕ
     by_fault faults.BadPeer f s = record { goes = not_refused task faults.BadPeer none_bad f; serves = λ a. failed faults.BadPeer (s a) }
     by_fault faults.SlotBusy f s = record { goes = not_refused task faults.SlotBusy none_busy f; serves = λ a. failed faults.SlotBusy (s a) }
 
-  pub put_failed : (m : List ℕ) (x : SnepFault) → Fell (Puts m) x → (Accords client old.far.end → PutFails client_sap m old.far.end x left new.far.end) → TaskCalled k target ns (Puts m) client old (came_to (λ (e : Ending). e) (Err x)) left new
-  put_failed m = by_fault (Puts m) (λ e. PutFails client_sap m old.far.end e left new.far.end) (λ w s. s) (λ e s. s)
+  pub put_failed : (m : List ℕ) (x : SnepFault) → Fell (Puts m) x → (Accords client old.far.end → PutFails sap m old.far.end x left new.far.end) → TaskCalled k target ns sap (Puts m) client old (came_to (λ (e : Ending). e) (Err x)) left new
+  put_failed m = by_fault (Puts m) (λ e. PutFails sap m old.far.end e left new.far.end) (λ w s. s) (λ e s. s)
 
-  pub get_failed : (most : ℕ) (key : List ℕ) (x : SnepFault) → Fell (Gets most key) x → (Accords client old.far.end → GetFails client_sap most key old.far.end x left new.far.end)
-      → TaskCalled k target ns (Gets most key) client old (came_to (λ (e : Ending). e) (Err x)) left new
-  get_failed most key = by_fault (Gets most key) (λ e. GetFails client_sap most key old.far.end e left new.far.end) (λ w s. s) (λ e s. s)
+  pub get_failed : (most : ℕ) (key : List ℕ) (x : SnepFault) → Fell (Gets most key) x → (Accords client old.far.end → GetFails sap most key old.far.end x left new.far.end)
+      → TaskCalled k target ns sap (Gets most key) client old (came_to (λ (e : Ending). e) (Err x)) left new
+  get_failed most key = by_fault (Gets most key) (λ e. GetFails sap most key old.far.end e left new.far.end) (λ w s. s) (λ e s. s)

@@ -6,6 +6,9 @@ pub mod Walked
 pub mod Swapping
 pub mod CallWalk
 pub mod Made
+pub mod AtOnce
+pub mod Untouched
+pub mod RunOn
 mod Called
 pub mod Closes
 pub mod Closed

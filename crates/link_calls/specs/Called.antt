@@ -16,8 +16,14 @@ use Rattle.snep_core.specs.declared.job.Job.TheVariants.{Over}
 use Rattle.snep_core.specs.declared.job.Refusal.TheVariants as refusals
 use Rattle.snep_core.specs.Accord.{Accords, AsideFails, GetFails, IsClosed, IsFound, IsGot, IsTaken, PeerState, PutFails}
 use Rattle.snep_core.specs.Calling.{refused_by}
-use Rattle.snep_core.specs.Talk.{EndState, Ends, Task, Puts, Gets, Finds, Leaves, all_closed, alone, begins, client_sap, closes}
-use Rattle.link_calls.specs.Asking.{LinkAsking, Does, Closes}
+use Rattle.snep_core.specs.declared.slot.Slot.{Slot}
+use Rattle.snep_core.specs.Slots.{noted}
+use Rattle.snep_core.specs.declared.job.OnSap.{OnSap}
+use Rattle.snep_core.specs.Talk.{EndState, Ends, Task, Puts, Gets, Finds, Leaves, all_closed, begins_all, begins_from, client_sap, closes, one_on, sap_of_slot}
+use Rattle.link_calls.specs.AtOnce.{IsAtRest, ServedAtOnce, all_staged, puts_at_once}
+use Rattle.link_calls.specs.declared.request.LinkRequest.{LinkRequest}
+use Rattle.link_calls.specs.declared.request.LinkRequest.TheVariants as requests
+use Rattle.link_calls.specs.declared.request.SlotMessage.{SlotMessage}
 use Rattle.link_calls.specs.Calls.{CallFails, IsMade}
 use Rattle.link_calls.specs.Closing.{ClosingFails, IsReleased}
 
@@ -36,34 +42,47 @@ came_to ending (Err faults.Excess) = Ok (Refused refusals.Excess)
 came_to ending (Err faults.NotImplemented) = Ok (Refused refusals.NotImplemented)
 came_to ending (Err fault) = Err fault
 
--- What a call of a task did that came to this, at a peer of this project with which its client accorded.
-abbrev pub Served : Task → PeerState → Result Ending SnepFault → EndState → PeerState → Type 0
-Served (Puts m) old (Ok Done) client new = IsTaken client_sap m old client new
-Served (Puts m) old (Ok (Refused why)) client new = PutFails client_sap m old (refused_by why) client new
-Served (Puts m) old (Ok ending) client new = ⊥
-Served (Puts m) old (Err fault) client new = PutFails client_sap m old fault client new
-Served (Gets most key) old (Ok (Value v)) client new = IsGot client_sap most key v old client new
-Served (Gets most key) old (Ok (Refused why)) client new = GetFails client_sap most key old (refused_by why) client new
-Served (Gets most key) old (Ok ending) client new = ⊥
-Served (Gets most key) old (Err fault) client new = GetFails client_sap most key old fault client new
-Served (Finds name) old (Ok (Sap n)) client new = IsFound name old n client new
-Served (Finds name) old (Ok ending) client new = ⊥
-Served (Finds name) old (Err fault) client new = AsideFails old fault new
-Served Leaves old (Ok Done) client new = IsClosed old client new
-Served Leaves old (Ok ending) client new = ⊥
-Served Leaves old (Err fault) client new = AsideFails old fault new
+-- What a call of a task, on the connection from a SAP, did that came to this, at a peer of this project with which its client accorded.
+abbrev pub Served : ℕ → Task → PeerState → Result Ending SnepFault → EndState → PeerState → Type 0
+Served sap (Puts m) old (Ok Done) client new = IsTaken sap m old client new
+Served sap (Puts m) old (Ok (Refused why)) client new = PutFails sap m old (refused_by why) client new
+Served sap (Puts m) old (Ok ending) client new = ⊥
+Served sap (Puts m) old (Err fault) client new = PutFails sap m old fault client new
+Served sap (Gets most key) old (Ok (Value v)) client new = IsGot sap most key v old client new
+Served sap (Gets most key) old (Ok (Refused why)) client new = GetFails sap most key old (refused_by why) client new
+Served sap (Gets most key) old (Ok ending) client new = ⊥
+Served sap (Gets most key) old (Err fault) client new = GetFails sap most key old fault client new
+Served sap (Finds name) old (Ok (Sap n)) client new = IsFound name old n client new
+Served sap (Finds name) old (Ok ending) client new = ⊥
+Served sap (Finds name) old (Err fault) client new = AsideFails old fault new
+Served sap Leaves old (Ok Done) client new = IsClosed old client new
+Served sap Leaves old (Ok ending) client new = ⊥
+Served sap Leaves old (Err fault) client new = AsideFails old fault new
 
 module _ {L : Type 0} (k : Ghosts L) (target : L → TargetState) (numbers : List ℕ) where
   -- A call came to its end, or it failed.
-  abbrev pub Goes : Task → EndState → OpenAir L → Result Ending SnepFault → EndState → OpenAir L → Type 0
-  Goes task client old (Ok ending) left new =
-      IsMade k target numbers (begins client task) old.air old.initiator old.far new.air new.initiator new.far (Ends (alone (Over ending)) left)
-  Goes task client old (Err fault) left new =
-      CallFails k target numbers (begins client task) old.air old.initiator old.far new.air new.initiator new.far left fault
+  abbrev pub Goes : ℕ → Task → EndState → OpenAir L → Result Ending SnepFault → EndState → OpenAir L → Type 0
+  Goes sap task client old (Ok ending) left new =
+      IsMade k target numbers (begins_from client sap task) old.air old.initiator old.far new.air new.initiator new.far (Ends (one_on sap (Over ending)) left)
+  Goes sap task client old (Err fault) left new =
+      CallFails k target numbers (begins_from client sap task) old.air old.initiator old.far new.air new.initiator new.far left fault
 
-  pub record TaskCalled (task : Task) (client : EndState) (old : OpenAir L) (result : Result Ending SnepFault) (left : EndState) (new : OpenAir L) : Type 0 where
-    pub goes : Goes task client old result left new
-    pub serves : Accords client old.far.end → Served task old.far.end result left new.far.end
+  pub record TaskCalled (sap : ℕ) (task : Task) (client : EndState) (old : OpenAir L) (result : Result Ending SnepFault) (left : EndState) (new : OpenAir L) : Type 0 where
+    pub goes : Goes sap task client old result left new
+    pub serves : Accords client old.far.end → Served sap task old.far.end result left new.far.end
+
+  -- Messages were put at once, from these slots of the client, and all were answered: each slot tells how.
+  pub record AllCalled (ws : List SlotMessage) (client : EndState) (slots : List Slot) (old : OpenAir L) (left : EndState) (told : List Slot) (new : OpenAir L) : Type 0 where
+    pub jobs : List OnSap
+    pub goes : IsMade k target numbers (begins_all client (puts_at_once ws)) old.air old.initiator old.far new.air new.initiator new.far (Ends jobs left)
+    pub told_is : told ≡ noted jobs (all_staged ws slots)
+    pub rest : IsAtRest told
+    pub serves : Accords client old.far.end → ServedAtOnce ws old.far.end (Ok jobs) left new.far.end
+
+  -- They were cut off, by the link or by want of memory.
+  pub record AllFailed (ws : List SlotMessage) (client : EndState) (old : OpenAir L) (fault : SnepFault) (left : EndState) (new : OpenAir L) : Type 0 where
+    pub goes : CallFails k target numbers (begins_all client (puts_at_once ws)) old.air old.initiator old.far new.air new.initiator new.far left fault
+    pub serves : Accords client old.far.end → ServedAtOnce ws old.far.end (Err fault) left new.far.end
 
   -- A closing came to its end, or it failed.
   abbrev pub GoesDown : EndState → OpenAir L → Result Ending SnepFault → EndState → OpenAir L → Type 0
@@ -76,9 +95,11 @@ module _ {L : Type 0} (k : Ghosts L) (target : L → TargetState) (numbers : Lis
   -- What it did is said where no listener hands anything over at RLS_REQ.
   pub record ClosingCalled (client : EndState) (old : OpenAir L) (result : Result Ending SnepFault) (left : EndState) (new : OpenAir L) : Type 0 where
     pub goes : GoesDown client old result left new
-    pub serves : Accords client old.far.end → ((l : L) → k.machine.handed l rls_frame ≡ Untouched) → Served Leaves old.far.end result left new.far.end
+    pub serves : Accords client old.far.end → ((l : L) → k.machine.handed l rls_frame ≡ Untouched) → Served client_sap Leaves old.far.end result left new.far.end
 
   -- This was asked on an open link by a client's end: what it came to, how it leaves the end, and the link.
-  abbrev pub Called : LinkAsking → EndState → OpenAir L → Result Ending SnepFault → EndState → OpenAir L → Type 0
-  Called (Does task) = TaskCalled task
-  Called Closes = ClosingCalled
+  abbrev pub Called : LinkRequest → EndState → OpenAir L → Result Ending SnepFault → EndState → OpenAir L → Type 0
+  Called (requests.Put message) = TaskCalled client_sap (Puts message.now)
+  Called (requests.Get slot most key) = TaskCalled (sap_of_slot slot) (Gets most key.now)
+  Called (requests.Lookup name) = TaskCalled client_sap (Finds name.now)
+  Called requests.Close = ClosingCalled

@@ -15,7 +15,7 @@ use Rattle.snep_core.specs.Accord.{PeerState}
 use Rattle.snep_core.specs.Calling.{gives_up, refused_by}
 use Rattle.snep_core.specs.declared.job.Job.TheVariants.{Over}
 use Rattle.snep_core.specs.declared.job.Ending.TheVariants.{Refused}
-use Rattle.snep_core.specs.Talk.{CameTo, EndState, Step, Ends, alone}
+use Rattle.snep_core.specs.Talk.{CameTo, EndState, Step, Ends, one_on}
 use Rattle.link_calls.specs.CallDue.{CallStanding, by_client, next_of}
 use Rattle.link_calls.specs.Carrying.{WalkComes, IsWalked, IsWalkEnded, IsWalkShort}
 pub use Rattle.link_calls.specs.Carrying.{IsOpen, IsCarried}
@@ -54,7 +54,7 @@ module _ {L : Type 0} (k : Ghosts L) (target : L → TargetState) where
     abbrev pub CallFails : EndState → SnepFault → Type 0
     CallFails client e = ((e ≡ BadPeer) × (came : List CameTo) × IsMade (gives_up came client)) ⊎ IsCutOff e
 
-    -- A request failed: it was refused, the far end was given up, or it was cut off.
-    abbrev pub RequestFails : EndState → SnepFault → Type 0
-    RequestFails client e =
-        ((why : Refusal) × (e ≡ refused_by why) × IsMade (Ends (alone (Over (Refused why))) client)) ⊎ CallFails client e
+    -- A request on the connection from a SAP failed: it was refused, the far end was given up, or it was cut off.
+    abbrev pub RequestFails : ℕ → EndState → SnepFault → Type 0
+    RequestFails sap client e =
+        ((why : Refusal) × (e ≡ refused_by why) × IsMade (Ends (one_on sap (Over (Refused why))) client)) ⊎ CallFails client e

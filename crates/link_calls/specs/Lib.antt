@@ -10,5 +10,6 @@ pub mod CallTurns
 pub mod Calls
 pub mod ClosingDue
 pub mod Closing
+pub mod AtOnce
 pub mod Asking
 pub mod Called

@@ -116,6 +116,7 @@ fn gets(
         client,
         far,
         Counts::most(alloc),
+        0,
         acceptable,
         b"k1",
     )?;

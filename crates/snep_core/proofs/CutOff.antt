@@ -20,7 +20,7 @@ same_front : (xs ys : List Received) → ys ≡ xs → IsFront xs ys
 same_front xs ys e = ([], e ∙ sym (append-nil xs))
 
 -- PDUs that come add to what is accepted
-taking_adds : (l : LlcState ServerState) (is : List Item) → IsFront (Accepted l) (Accepted (steps serving l is))
+pub taking_adds : (l : LlcState ServerState) (is : List Item) → IsFront (Accepted l) (Accepted (steps serving l is))
 taking_adds l is =
     steps_keep serving (λ s. IsFront (Accepted l) s.accepted) (λ s c h. h)
     (λ s c u h. front_more (Accepted l) s.accepted (received c (did s.limit s.table (session_of s c) u).accepts) h) l is (same_front (Accepted l) (Accepted l) refl)

@@ -13,6 +13,8 @@ mod crowd_tests;
 #[cfg(test)]
 mod dep_frame_tests;
 #[cfg(test)]
+mod hand_line_tests;
+#[cfg(test)]
 mod ident_tests;
 #[cfg(test)]
 mod line_rows;

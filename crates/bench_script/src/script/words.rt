@@ -6,7 +6,7 @@ ghost use Rattle.std.specs.List.{list_all};
 ghost use Rattle.nfc_base.specs.declared.event.Fate.{Fate as Becomes};
 ghost use Rattle.std.specs.Option.{option_copied};
 ghost use Rattle.std.specs.Fmt.{decimal};
-ghost use Rattle.bench_script.specs.Script.{words_of, SpellsHex, SpellsIdent, SpellsIdV, SpellsId, SpellsWithin, SpellsSize, SpellsCode, SpellsBlock, fate_letter, SpellsFates, SpellsCounted, SpellsMsg, SpellsName, SpellsPayload, SpellPayloads};
+ghost use Rattle.bench_script.specs.Script.{words_of, SpellsHex, SpellsIdent, SpellsIdV, SpellsId, SpellsWithin, SpellsSize, SpellsCode, SpellsBlock, fate_letter, SpellsFates, SpellsCounted, SpellsMsg, SpellsName};
 ghost use Rattle.bench_script.specs.declared.command.DeviceId.{DeviceId as Named};
 ghost use Rattle.bench_script.specs.declared.script.words.CommandName.{CommandName as Names};
 ghost use Rattle.bench_script.specs.Words.{CutsWord, NoneOf, AreThree, AreFour, AreFive, NotOne, NotTwo, NotThree, NotFour, NotFive, HasNoColon, IsCutAtColon, SpellsNoCount, SpellsNoHex, name_text};
@@ -29,11 +29,6 @@ const LONGEST_MESSAGE: u32 = 65536;
 /// How many characters the name of a service has at most (this project's limit).
 const LONGEST_NAME: usize = 64;
 
-/// How many payloads of a link a line may have, and how many bytes each of these (this project's limits).
-const MOST_PAYLOADS: usize = 16;
-
-const LONGEST_PAYLOAD: usize = 2178;
-
 /// The first word of a line of several words.
 #[derive(Clone, Copy, Debug, PartialEq, Eq)]
 pub enum CommandName {
@@ -51,9 +46,12 @@ pub enum CommandName {
     Write3,
     Link,
     Forge,
+    Raw,
     Put,
     Get,
     Lookup,
+    On,
+    Puts,
 }
 
 /// The name that a word is.
@@ -75,9 +73,12 @@ pub fn name_of(word: &[u8]) -> Option<CommandName>
         b"write3" => Some(CommandName::Write3),
         b"link" => Some(CommandName::Link),
         b"forge" => Some(CommandName::Forge),
+        b"raw" => Some(CommandName::Raw),
         b"put" => Some(CommandName::Put),
         b"get" => Some(CommandName::Get),
         b"lookup" => Some(CommandName::Lookup),
+        b"on" => Some(CommandName::On),
+        b"puts" => Some(CommandName::Puts),
         _ => None,
     }
 }
@@ -290,7 +291,7 @@ pub fn code_word(alloc: Global, word: &[u8]) -> Result<u8, LineFault>
 }
 
 /// What stands before and behind the first colon of a text.
-fn colon_parts(text: &[u8]) -> Option<(&[u8], &[u8])>
+pub fn colon_parts(text: &[u8]) -> Option<(&[u8], &[u8])>
     ensures { MatchOption result (HasNoColon text.now) (IsCutAtColon text.now) }
 {
     for (i, b) in text.iter().enumerate() {
@@ -346,40 +347,6 @@ pub fn name_word(alloc: Global, word: &[u8]) -> Result<Items<u8>, LineFault>
         return Err(LineFault::Refused);
     }
     Ok(Items::from_bytes(alloc, word)?)
-}
-
-/// The payload of a link that a word spells.
-fn payload_word(alloc: Global, word: &[u8]) -> Result<Items<u8>, LineFault>
-    ensures ok { IfOk result (SpellsPayload word.now) }
-    ensures refused { IsErrOf result LineFault.Refused → NoneOf (SpellsPayload word.now) }
-{
-    match hex::decode(alloc, word) {
-        Ok(bytes) if bytes.is_empty() || bytes.len() > LONGEST_PAYLOAD => Err(LineFault::Refused),
-        Ok(bytes) => Ok(Items::new(bytes)),
-        Err(FromHexError::OutOfMemory) => Err(LineFault::Memory),
-        Err(_) => Err(LineFault::Refused),
-    }
-}
-
-/// The payloads of a link that the words of a text spell.
-pub fn payload_words(alloc: Global, text: &[u8]) -> Result<Items<Items<u8>>, LineFault>
-    ensures ok { IfOk result (SpellPayloads (words_of text.now)) }
-    ensures refused { IsErrOf result LineFault.Refused → NoneOf (SpellPayloads (words_of text.now)) }
-{
-    let mut payloads = Vec::new(alloc);
-    let mut left = text;
-    for _ in 0..MOST_PAYLOADS {
-        let (word, rest) = cut_word(left);
-        let payload = payload_word(alloc, word)?;
-        if payloads.push(payload).is_err() {
-            return Err(LineFault::Memory);
-        }
-        match rest {
-            None => return Ok(Items::new(payloads)),
-            Some(rest) => left = rest,
-        }
-    }
-    Err(LineFault::Refused)
 }
 
 /// The fate of a letter.

@@ -39,7 +39,7 @@ returns-in-Err-clause-ok c =
     subst (λ r. IfOk r (λ a. (x : Command) → asked_on_link x ≡ Some (asking_of c.args.request.now) → Accepts (state_at c.args.machines.now) x → ObeyedBy c.args.joins c.args.machines.now c.put_down.new.machines x a)) (sym c.fault_told.ensures)
     (of_each (fault_told c.in-Err.fault) (λ x. asked_on_link x ≡ Some (asking_of c.args.request.now)) (Accepts (state_at c.args.machines.now)) (λ a x. ObeyedBy c.args.joins c.args.machines.now c.put_down.new.machines x a)
     (λ x asks may. subst (λ j. IfOk (fault_told c.in-Err.fault) (λ a. ObeyedBy j c.args.machines.now c.put_down.new.machines x a)) (sym same)
-    (asked_told c.args.machines.now mid c.requires.settled c.in-Some.on.place l c.in-Some.on.far t joins counts c.call_on.new.field c.call_on.new.initiator c.call_on.new.far c.call_on.new.client.llc x (asking_of c.args.request.now) asks may c.put_down.new.machines c.in-Err.fault left c.in-Err.ensures.called)))
+    (asked_told c.args.machines.now mid c.requires.settled c.in-Some.on.place l c.in-Some.on.far t joins counts c.call_on.new.field c.call_on.new.initiator c.call_on.new.far c.call_on.new.client.llc x may c.put_down.new.machines c.args.request.now c.in-Err.fault asks left c.in-Err.ensures.called)))
 
 pub returns-in-Err-clause-cut : goal.returns-in-Err-clause-cut
 returns-in-Err-clause-cut c = λ err x asks may.
@@ -54,7 +54,7 @@ returns-in-Err-clause-cut c = λ err x asks may.
     let counts : c.in-Some.on.far.numbers ≡ joins.far = search rules in
     let left : c.put_down.new.machines ≡ put_down (under mid.ends mid.peers mid.link c.call_on.new.field) c.in-Some.on.place c.call_on.new.far.end = search rules in
     subst (λ j. IsCutOffBy j c.args.machines.now c.put_down.new.machines x) (sym same)
-    (asked_cut c.args.machines.now mid c.requires.settled c.in-Some.on.place l c.in-Some.on.far t joins counts c.call_on.new.field c.call_on.new.initiator c.call_on.new.far c.call_on.new.client.llc x (asking_of c.args.request.now) asks may c.put_down.new.machines c.in-Err.fault left c.in-Err.ensures.called (subst IsErr c.fault_told.ensures err))
+    (asked_cut c.args.machines.now mid c.requires.settled c.in-Some.on.place l c.in-Some.on.far t joins counts c.call_on.new.field c.call_on.new.initiator c.call_on.new.far c.call_on.new.client.llc x may c.put_down.new.machines c.args.request.now c.in-Err.fault asks left c.in-Err.ensures.called (subst IsErr c.fault_told.ensures err))
 
 pub returns-then-closes-clause-ok : goal.returns-then-closes-clause-ok
 returns-then-closes-clause-ok c = λ x asks may.
@@ -69,7 +69,7 @@ returns-then-closes-clause-ok c = λ x asks may.
     let counts : c.in-Some.on.far.numbers ≡ joins.far = search rules in
     let left : c.put_down-then-closes.new.machines ≡ put_down (under mid.ends mid.peers mid.link c.call_on.new.field) c.in-Some.on.place c.call_on.new.far.end = search rules in
     subst (λ j. ObeyedBy j c.args.machines.now c.put_down-then-closes.new.machines x answers.Unlinked) (sym same)
-    (asked_closed c.args.machines.now mid c.requires.settled c.in-Some.on.place l c.in-Some.on.far t joins counts c.call_on.new.field c.call_on.new.initiator c.call_on.new.far c.call_on.new.client.llc x (asking_of c.args.request.now) asks may c.put_down-then-closes.new.machines c.in-Ok.ending (search rules) left c.in-Ok.ensures.called)
+    (asked_closed c.args.machines.now mid c.requires.settled c.in-Some.on.place l c.in-Some.on.far t joins counts c.call_on.new.field c.call_on.new.initiator c.call_on.new.far c.call_on.new.client.llc x may c.put_down-then-closes.new.machines c.args.request.now c.in-Ok.ending asks (search rules) left c.in-Ok.ensures.called)
 
 pub returns-else-closes-clause-ok : goal.returns-else-closes-clause-ok
 returns-else-closes-clause-ok c = λ x asks may.
@@ -86,4 +86,4 @@ returns-else-closes-clause-ok c = λ x asks may.
     (record { peer = l.peer; initiator = c.call_on.new.initiator; client = c.call_on.new.client.llc }) = search rules in
     subst (λ j. ObeyedBy j c.args.machines.now c.put_back.new.machines x c.answer_of.result) (sym same)
     (subst (λ a. ObeyedBy joins c.args.machines.now c.put_back.new.machines x a) (sym c.answer_of.ensures)
-    (asked_ended c.args.machines.now mid c.requires.settled c.in-Some.on.place l c.in-Some.on.far t joins counts c.call_on.new.field c.call_on.new.initiator c.call_on.new.far c.call_on.new.client.llc x (asking_of c.args.request.now) asks may c.put_back.new.machines c.in-Ok.ending (search rules) left c.in-Ok.ensures.called))
+    (asked_ended c.args.machines.now mid c.requires.settled c.in-Some.on.place l c.in-Some.on.far t joins counts c.call_on.new.field c.call_on.new.initiator c.call_on.new.far c.call_on.new.client.llc x may c.put_back.new.machines c.args.request.now c.in-Ok.ending asks (search rules) left c.in-Ok.ensures.called))

@@ -1,6 +1,5 @@
 use Rattle.bench_world.proofs.CompleteForging.{forged_kinds, forgings_complete}
-use Rattle.snep_core.specs.Talk.{Puts, Gets, Finds}
-use Rattle.link_calls.specs.Asking.{Does, Closes}
+use Rattle.link_calls.specs.Asking.{Does, Closes, Finding, Getting, Putting, put_from}
 use Rattle.bench_world.proofs.CompleteLinks.{asked_complete, valid_is_ok}
 use Rattle.bench_world.proofs.CompleteLinkings.{kinds_told, linkings_complete}
 use Rattle.bench_world.proofs.law.links_complete.Goals as goal
@@ -9,13 +8,16 @@ pub returns-clause-asked : goal.returns-clause-asked
 returns-clause-asked c = asked_complete
 
 pub returns-clause-puts : goal.returns-clause-puts
-returns-clause-puts c = λ m. asked_complete (Does (Puts m))
+returns-clause-puts c = λ slot m. asked_complete (Does (put_from slot m))
+
+pub returns-clause-several : goal.returns-clause-several
+returns-clause-several c = λ ws. asked_complete (Does (Putting ws))
 
 pub returns-clause-gets : goal.returns-clause-gets
-returns-clause-gets c = λ most key. asked_complete (Does (Gets most key))
+returns-clause-gets c = λ sap most key. asked_complete (Does (Getting sap most key))
 
 pub returns-clause-lookups : goal.returns-clause-lookups
-returns-clause-lookups c = λ name. asked_complete (Does (Finds name))
+returns-clause-lookups c = λ name. asked_complete (Does (Finding name))
 
 pub returns-clause-unlinks : goal.returns-clause-unlinks
 returns-clause-unlinks c = asked_complete Closes

@@ -4,7 +4,7 @@ use Rattle.air_core.proofs.PlainAside.{Laws}
 use Rattle.dep_link.specs.DepLinks.{seen_pair}
 use Rattle.snep_core.specs.declared.job.Ending.TheVariants.{Done}
 use Rattle.snep_core.specs.declared.job.Job.TheVariants.{Over}
-use Rattle.snep_core.specs.Talk.{Ends, Puts, alone, begins}
+use Rattle.snep_core.specs.Talk.{Ends, Puts, alone, begins, client_sap}
 use Rattle.snep_core.proofs.Peers.{counted_is_peer}
 use Rattle.link_calls.specs.Calls.{RequestFails, IsMade}
 use Rattle.link_calls.proofs.Made.{given_back, made, request_failed}
@@ -31,10 +31,10 @@ returns-clause-ok g c =
 pub returns-clause-err : goal.returns-clause-err
 returns-clause-err g c =
     let from = begins c.args.client.now.llc (Puts c.args.message.now) in
-    given_back (λ a i. IfErr c.put.result (λ e. RequestFails g.L.Listener g.L.PeerListener.target c.args.counts from c.args.field.now c.args.initiator.now c.args.far.now a i c.put.new.far c.put.new.self.llc e))
+    given_back (λ a i. IfErr c.put.result (λ e. RequestFails g.L.Listener g.L.PeerListener.target c.args.counts from c.args.field.now c.args.initiator.now c.args.far.now a i c.put.new.far client_sap c.put.new.self.llc e))
     c.put.new.carrier.field.now _ c.put.new.carrier.initiator.now _ (search rules) (search rules)
     (IfErr-weaker c.put.result _ _ (λ e t. request_failed g.L.Listener g.L.PeerListener.target (seen_pair {L = g.row.L.Denot}) (laws g) c.on-pair.result c.put.new.carrier c.args.far.now c.put.new.far c.args.field.now c.args.initiator.now
-    c.on-pair.ensures.fresh c.requires.open_ c.put.ensures.ready c.args.counts from e c.put.new.self.llc t) (c.put.ensures.err c.requires.going c.requires.free))
+    c.on-pair.ensures.fresh c.requires.open_ c.put.ensures.ready client_sap c.args.counts from e c.put.new.self.llc t) (c.put.ensures.err c.requires.going c.requires.free))
 
 pub returns-clause-taken : goal.returns-clause-taken
 returns-clause-taken g c = λ accords. c.put.ensures.taken (λ p. p.end) counted_is_peer accords

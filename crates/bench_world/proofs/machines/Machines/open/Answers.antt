@@ -62,7 +62,7 @@ returns-in-Ok c = λ peer far numbered there.
     let start : length c.accepted-start.result.now ≡ length c.in-Some-index_mut.end.service.accepted =
     ap length c.accepted-start.ensures ∙ ap (λ (x : ServerState). length (messages_of x.accepted)) c.as_service.ensures ∙ length-map c.in-Some-index_mut.end.service.accepted (λ (r : Accepted). r.message) in
     let client : c.new_client-client.result.llc ≡ new_client c.args.miu c.args.rw c.in-Ok.told.items =
-    ap (λ (x : ClientState). x.llc) c.new_client-client.ensures ∙ ap (new_client c.args.miu c.args.rw) c.deref-in-Ok.ensures.0 in
+    ap (λ (x : ClientState). x.llc) c.new_client-client.ensures.new ∙ ap (new_client c.args.miu c.args.rw) c.deref-in-Ok.ensures.0 in
     subst P is (subst Q n (subst R e
     (opens_ok m place c.args.miu c.args.rw c.in-Some.peer c.in-Some-index_mut.end c.open_link.new.field c.open_link.new.far c.open_link.result asks c.in-Ok.initiator c.in-Ok.told c.in-Ok.is c.begin.result c.begin.new.self
     (on_ok c.begin.result (c.begin.new.self ≡ begun mid c.in-Some.peer (length c.accepted-start.result.now) c.in-Ok.initiator c.new_client-client.result.llc)

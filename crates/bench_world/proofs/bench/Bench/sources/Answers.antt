@@ -1,0 +1,12 @@
+use Rattle.std.proofs.Common.{◌≡◌, false, ◌∙◌, ap}
+use Rattle.snep_core.specs.Server.{sources_of}
+use Rattle.bench_world.specs.Obeying.{Benched}
+use Rattle.bench_world.specs.Stories.{gained_on}
+use Rattle.bench_world.proofs.Gained.{gained_same}
+use Rattle.bench_world.proofs.bench.Bench.sources.Goals as goal
+
+pub returns : goal.returns
+returns c sound =
+    let inside : c.self.inside.spoiled ≡ false = ap (λ (b : Benched). b.spoiled) c.self.view_is ∙ sound in
+    c.sources_on.ensures ∙ ap sources_of (gained_same c.self.inside.machines c.args.link (c.self.invariant inside).places)
+    ∙ ap (λ (b : Benched). sources_of (gained_on b.state c.args.link)) c.self.view_is
