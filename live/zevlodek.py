@@ -244,9 +244,8 @@ class Type2Tag:
 class Type4Tag:
     """A Type 4 tag in memory: its capability container and its NDEF file, one behind the other in `memory`."""
 
-    def __init__(self, memory: bytes):
-        size = int.from_bytes(memory[:2], "big")
-        self.container, self.file, self.standing = memory[:size], bytearray(memory[size:]), Standing4()
+    def __init__(self, container: bytes, file: bytes):
+        self.container, self.file, self.standing = container, bytearray(file), Standing4()
 
     @property
     def memory(self) -> bytes:

@@ -117,7 +117,7 @@ class ProvedTags(unittest.TestCase):
     CONTAINER = bytes.fromhex("000F20003B00340406E10400C80000")
 
     def test_type_4(self):
-        tag = zevlodek.Type4Tag(self.CONTAINER + bytes.fromhex("0003D00000").ljust(200, b"\0"))
+        tag = zevlodek.Type4Tag(self.CONTAINER, bytes.fromhex("0003D00000").ljust(200, b"\0"))
         self.assertEqual(drive(survey(4), tag.obey), Ground(3, 198, True))
         drive(write(4, b"", bytes(range(150))), tag.obey)
         self.assertEqual(drive(read(4), tag.obey), Found(bytes(range(150)), True))
@@ -129,8 +129,22 @@ class ProvedTags(unittest.TestCase):
             drive(write(5, IDENT, bytes(range(60))), tag.obey)
             self.assertEqual(drive(read(5, IDENT), tag.obey), Found(bytes(range(60)), True))
 
+    def test_a_locked_block(self):
+        tag = zevlodek.Type5Tag(IDENT, bytes.fromhex("E14006010303D00000FE").ljust(52, b"\0"), 4, (3,))
+        with self.assertRaises(Fault) as caught:
+            drive(write(5, IDENT, bytes(range(1, 31))), tag.obey)
+        self.assertEqual((caught.exception.number, caught.exception.code), (-108, 0x12))
+
+    def test_a_tag_that_stays_quiet(self):
+        """It hears what is for it, and no command to every tag."""
+        tag = zevlodek.Type5Tag(IDENT, bytes(52))
+        self.assertEqual(tag.obey(b"\x02\x20\x00"), (bytes(5), 0))
+        self.assertIsNone(tag.obey(b"\x22\x02" + IDENT[::-1]))
+        self.assertIsNone(tag.obey(b"\x02\x20\x00"))
+        self.assertEqual(tag.obey(b"\x22\x20" + IDENT[::-1] + b"\x00"), (bytes(5), 0))
+
     def test_what_is_no_tag(self):
-        for tag in (zevlodek.Type4Tag(self.CONTAINER), zevlodek.Type5Tag(IDENT, bytes(20), 8), Type2Tag(bytes(12))):
+        for tag in (zevlodek.Type4Tag(self.CONTAINER, b""), zevlodek.Type5Tag(IDENT, bytes(20), 8), Type2Tag(bytes(12))):
             with self.subTest(type(tag)), self.assertRaises(Fault) as caught:
                 tag.obey(b"\0")
             self.assertEqual(caught.exception.number, zevlodek.BAD_ARGUMENT)

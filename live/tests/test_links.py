@@ -51,7 +51,7 @@ class IsoDep(unittest.TestCase):
 
     def test_a_type_4_tag_over_it(self):
         """The reading gives commands, the link carries them, the tag answers: all of it is the library."""
-        tag = Type4Tag(bytes.fromhex("000F20003B00340406E10400C80000") + bytes(200))
+        tag = Type4Tag(bytes.fromhex("000F20003B00340406E10400C80000"), bytes(200))
         reader, card = IsoReader(2), IsoCard(2, lambda command: tag.obey(command)[0])
         ats = card.hear(b"\xe0\x20")
         self.assertEqual(ats[0], len(ats))
@@ -97,6 +97,13 @@ class NfcDep(unittest.TestCase):
             with self.assertRaises(Fault) as caught:
                 call()
             self.assertEqual(caught.exception.number, -2)
+
+    def test_what_follows_damage_and_silence(self):
+        """NACK, and attention."""
+        for heard, pfb in (((b"", 1), 0x50), (None, 0x80)):
+            job = Initiator(3).exchange(b"x")
+            next(job)
+            self.assertEqual(job.send(heard)[4], pfb)
 
     def test_the_end(self):
         target = Target(IDENT, 3, GENERAL, bytes)

@@ -2,3 +2,4 @@ pub mod Logs
 pub mod Replays
 pub mod Nexts
 pub mod Losing
+pub mod Odd

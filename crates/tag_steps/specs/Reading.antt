@@ -1,5 +1,5 @@
 -- What a reading tells that goes on a command at a time.
-use Rattle.std.specs.Prelude.{◌≡◌, ℕ, ◌≤◌, List, [], length, Option, Some, None, Result, Ok, Err}
+use Rattle.std.specs.Prelude.{◌≡◌, ℕ, ◌<◌, ◌≤◌, List, [], length, take, get_or, Option, Some, None, Result, Ok, Err}
 use Rattle.nfc_base.specs.Signal.{Signal}
 use Rattle.nfc_base.specs.declared.tag_link.AskFault.{AskFault}
 use Rattle.nfc_base.specs.declared.tag_link.AskFault.TheVariants as ask
@@ -8,7 +8,7 @@ use Rattle.tag_reader.specs.declared.found.Found.{Found as FoundMessage}
 use Rattle.tag_reader.specs.declared.fault.ReadFault.{ReadFault}
 use Rattle.tag_reader.specs.declared.fault.ReadFault.TheVariants as faults
 use Rattle.tag_reader.specs.Asked.{ToRead, IsDueFor, AreDueFor}
-use Rattle.tag_reader.specs.Heard.{IsToldBy, IsBroughtBy, asked_for, next_command}
+use Rattle.tag_reader.specs.Heard.{IsToldBy, IsBroughtBy, IsOddly, asked_for, next_command}
 use Rattle.tag_reader.specs.Kinds.{command, OfTag}
 use Rattle.tag_reader.specs.Reading.{KeepsStore, AsksInOrder, TellsMessage, TellsCause}
 use Rattle.tag_steps.specs.Replay.{Tag, commands_of, first_link, link_behind}
@@ -67,3 +67,17 @@ abbrev pub SendsNext : How → Tag → List Turn → NextRead → Type 0
 SendsNext how t turns (Send c) = IsNextBehind how t turns c
 SendsNext how t turns (Found found) = Unit {0}
 SendsNext how t turns (Fault e) = Unit {0}
+
+-- The turns' commands are those that were to be sent: where the turns before one brought pieces, one a command, its own is the
+-- command that follows them.
+abbrev pub AreSent : How → Tag → List Turn → Type 0
+AreSent how t turns =
+    (n : ℕ) (ps : List (List ℕ)) (u : Turn) → n < length turns → u ≡ get_or turns n u → IsBroughtBy how t.step t.start [] ps
+    → commands_of (take n turns) ≡ asked_for how [] ps → u.command ≡ next_command how ps
+
+-- the tag's last answer is one that may not come
+pub record IsOddBehind (how : How) (t : Tag) (turns : List Turn) : Type 0 where
+  pub used : ℕ
+  pub over : Option AskFault
+  pub last : Option Signal
+  pub odd : IsOddly how (first_link t) (link_behind t turns used over last)

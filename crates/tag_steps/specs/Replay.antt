@@ -1,5 +1,5 @@
 -- Turns with a tag, and the link that they were made over, as it stands behind some of them (this project's own).
-use Rattle.std.specs.Prelude.{◌≡◌, ℕ, List, [], ◌∷◌, ◌++◌, take, Option, Some, None, false, true, Bool}
+use Rattle.std.specs.Prelude.{◌≡◌, ◌<◌, ℕ, List, [], ◌∷◌, ◌++◌, take, length, get_or, Option, Some, None, false, true, Bool}
 use Rattle.nfc_base.specs.Signal.{Signal}
 use Rattle.nfc_base.specs.Links.{Counts}
 use Rattle.nfc_base.specs.TagLinks.{TagKind, TagState, TagStep, LinkView, after_all}
@@ -73,3 +73,12 @@ link_behind t turns used over last = link_at t over last (commands_of (take used
 abbrev pub due_of : Option AskFault → Option Signal → Option Signal
 due_of (Some FieldLost) last = last
 due_of over last = None
+
+-- The turn behind the first so many has another command than the one that was asked last.
+pub record Differs (turns : List Turn) (used : ℕ) (last : Option Signal) : Type 0 where
+  pub turn : Turn
+  pub command : Signal
+  pub low : used < length turns
+  pub there : turn ≡ get_or turns used turn
+  pub asked : last ≡ Some command
+  pub other : turn.command ≡ command → ⊥

@@ -3,7 +3,7 @@
 ghost use Rattle.std.specs.Prelude.{◌≡◌};
 ghost use Rattle.tag_reader.specs.Heard.{IsOf};
 ghost use Rattle.tag_steps.specs.Replay.{Agrees, first_link};
-ghost use Rattle.tag_steps.specs.Reading.{TellsRead, SendsNext, SendsDue};
+ghost use Rattle.tag_steps.specs.Reading.{AreSent, IsOddBehind, TellsRead, SendsNext, SendsDue};
 
 use crate::replay::Replay;
 use crate::turn::{RealTag, Turn};
@@ -21,6 +21,7 @@ pub enum NextRead {
 
 /// Goes on with the reading of a tag, with which these turns were made so far. It begins with none, and each further one has the
 /// command that was to be sent. Another command in their place is told as `Protocol`.
+#[tactic(auto, using(crate::proofs::Odd::by_answer))]
 pub fn next_read<G: RealTag>(alloc: Global, tag: &G, how: How, turns: &[Turn]) -> NextRead
     // the tag gave these answers
     requires agrees { Agrees (G.real tag.now) turns.now }
@@ -31,6 +32,9 @@ pub fn next_read<G: RealTag>(alloc: Global, tag: &G, how: How, turns: &[Turn]) -
     ensures next { SendsNext how (G.real tag.now) turns.now result }
     // and of a tag of that kind it is the next one that is due
     ensures due { SendsDue how (G.real tag.now) result }
+    // where the turns' commands are those that were to be sent, an odd answer of the tag alone is told as one
+    ensures odd { AreSent how (G.real tag.now) turns.now → result ≡ NextRead.Fault ReadFault.Protocol
+        → IsOddBehind how (G.real tag.now) turns.now }
 {
     let mut link = Replay {
         tag,

@@ -32,16 +32,17 @@ impl<'a, G> Replay<'a, G> {
 impl<'a, G: RealTag> TagLink for Replay<'a, G> {
     ghost use Rattle.std.specs.Prelude.{◌≡◌, ◌≤◌, [], None, Some, length};
     ghost use Rattle.std.proofs.Common.{refl, ◌∙◌};
-    ghost use Rattle.nfc_base.specs.declared.tag_link.AskFault.TheVariants.{FieldLost};
-    ghost use Rattle.tag_steps.specs.Replay.{Agrees, link_behind};
+    ghost use Rattle.nfc_base.specs.declared.tag_link.AskFault.TheVariants.{FieldLost, Protocol};
+    ghost use Rattle.tag_steps.specs.Replay.{Agrees, Differs, link_behind};
 
     ghost seen = { λ l. link_behind (G.real l.tag.now) l.turns.now l.used l.over l.last };
 
     ghost lenders = { λ _. [] };
 
-    // the turns are those of the tag, and where it ran out none is left
+    // the turns are those of the tag; where it ran out none is left, and where it is odd the next has another command
     ghost ready = { λ l. Agrees (G.real l.tag.now) l.turns.now × (l.used ≤ length l.turns.now)
-        × (l.over ≡ Some FieldLost → (l.used ≡ length l.turns.now) × (l.last ≡ None → ⊥)) };
+        × (l.over ≡ Some FieldLost → (l.used ≡ length l.turns.now) × (l.last ≡ None → ⊥))
+        × (l.over ≡ Some Protocol → Differs l.turns.now l.used l.last) };
 
     ghost moves = { λ a b. (b.tag.now ≡ a.tag.now) × (b.turns.now ≡ a.turns.now) };
 

@@ -78,7 +78,8 @@ target_replied t content _ = None
 -- In the target's log stand frames of the initiator, and replies to the payloads that were delivered.
 abbrev pub target_takes : TargetTurn → Entry → Option TargetTurn
 target_takes n e =
-    if e.kind == a_frame then (if nat_le (length e.content) most_frame then Some (target_table n.state (whole_a e.content)) else None)
+    if e.kind == a_frame
+    then (if nat_le (length e.content) most_frame then Some (target_table n.state (whole_a e.content)) else None)
     else if (e.kind == a_reply) && nat_le (length e.content) most_payload then target_replied n.state e.content n.does
     else None
 

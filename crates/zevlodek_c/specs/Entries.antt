@@ -50,7 +50,8 @@ most_frame = 288
 -- what was heard of the frame that was sent last, where an entry says that
 abbrev pub heard_of : Entry → Option Heard
 heard_of e =
-    if e.kind == a_frame then (if nat_le (length e.content) most_frame then Some (hears.Whole (whole_a e.content)) else None)
+    if e.kind == a_frame
+    then (if nat_le (length e.content) most_frame then Some (hears.Whole (whole_a e.content)) else None)
     else if not (length e.content == 0) then None
     else if e.kind == a_damaged_one then Some hears.Damaged
     else if e.kind == nothing then Some hears.Silent
@@ -68,9 +69,10 @@ end_shown shown None out told = answers bad_log out told
 end_shown shown (Some n) out told = shown n out told
 
 -- What C sees of an end that began so and took what stands in a log.
-pub record EndTells {N : Type 0} (takes : N → Entry → Option N) (begins : N) (shown : N → List ℕ → Told → Seen) (log out : List ℕ)
-    (told : Told) (seen : Seen) : Type 0 where
-  pub taken : (es : List Entry) → SpellsEntries es log → seen ≡ end_shown shown (takes_all takes (Some begins) es) out told
+pub record EndTells {N : Type 0} (takes : N → Entry → Option N) (begins : N) (shown : N → List ℕ → Told → Seen)
+    (log out : List ℕ) (told : Told) (seen : Seen) : Type 0 where
+  pub taken : (es : List Entry) → SpellsEntries es log
+      → seen ≡ end_shown shown (takes_all takes (Some begins) es) out told
   pub no_log : (IsEntryLog log → ⊥) → seen ≡ answers bad_log out told
 
 -- the end itself behind the log, if it takes all of it

@@ -70,7 +70,8 @@ card_replied t content _ = None
 -- In the card's log stand frames of the reader, and replies to the commands that were delivered.
 abbrev pub card_takes : CardTurn → Entry → Option CardTurn
 card_takes n e =
-    if e.kind == a_frame then (if nat_le (length e.content) most_frame then Some (card_table n.state (whole_a e.content)) else None)
+    if e.kind == a_frame
+    then (if nat_le (length e.content) most_frame then Some (card_table n.state (whole_a e.content)) else None)
     else if (e.kind == a_reply) && nat_le (length e.content) most_command then card_replied n.state e.content n.does
     else None
 

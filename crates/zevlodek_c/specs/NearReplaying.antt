@@ -62,7 +62,8 @@ pub record Reaches (from : NearNow) (log : List ℕ) (now : NearNow) (rest : Lis
 pub record IsStopped (from : Step) (f g : LogFar) : Type 0 where
   pub asked : (p : List ℕ) → g.asked ≡ Some p
       → (w : Working) × Reaches (settles from) f.left.now (Under w) [] × (p ≡ payload 0 w)
-  pub odd : g.odd ≡ true → (es : List Entry) → SpellsEntries es f.left.now → takes_all near_takes (Some (settles from)) es ≡ None
+  pub odd : g.odd ≡ true → (es : List Entry) → SpellsEntries es f.left.now
+      → takes_all near_takes (Some (settles from)) es ≡ None
 
 -- what a call does that begins so
 pub record Obeys (from : Step) (f : LogFar) (l : EndState) (g : LogFar) (r : Result CameOut SnepFault) : Type 0 where

@@ -58,11 +58,11 @@ abbrev pub NoTag : Type 0 → ℤ → Type 0
 NoTag IsAsked answer = ((IsAsked → ⊥) × (answer ≡ bad_argument)) ⊎ (answer ≡ no_memory)
 
 -- What a step does: of a tag that may be handed in, its table's step; of what isn't one, nothing.
-pub record T4Steps (container file : List ℕ) (s : T4Standing) (command out : List ℕ) (told : Told) (after : Stepped T4Kept) : Type 0
-  where
-    pub taken : IsT4Asked container file s
-        → (after ≡ t4_stepped container file s command out told)
-        ⊎ (after ≡ undone no_memory (record { file = file; standing = s }) out told)
-    pub refused : (IsT4Asked container file s → ⊥)
-        → (after ≡ undone bad_argument (record { file = file; standing = s }) out told)
-        ⊎ (after ≡ undone no_memory (record { file = file; standing = s }) out told)
+pub record T4Steps (container file : List ℕ) (s : T4Standing) (command out : List ℕ) (told : Told)
+    (after : Stepped T4Kept) : Type 0 where
+  pub taken : IsT4Asked container file s
+      → (after ≡ t4_stepped container file s command out told)
+      ⊎ (after ≡ undone no_memory (record { file = file; standing = s }) out told)
+  pub refused : (IsT4Asked container file s → ⊥)
+      → (after ≡ undone bad_argument (record { file = file; standing = s }) out told)
+      ⊎ (after ≡ undone no_memory (record { file = file; standing = s }) out told)

@@ -45,11 +45,11 @@ t5_stepped id size memory locks s command out told =
     answered (t5_answer t command) (record { memory = memory; standing = s }) (t5_kept (t5_after t command)) out told
 
 -- What a step does: of a tag and a frame that may be handed in, its table's step; else nothing.
-pub record T5Steps (id : List ℕ) (size : ℕ) (memory locks : List ℕ) (s : T5Standing) (command out : List ℕ) (told : Told) (after : Stepped T5Kept) : Type 0
-  where
-    pub taken : IsT5Asked size memory locks → length command ≤ 288
-        → (after ≡ t5_stepped id size memory locks s (whole_v command) out told)
-        ⊎ (after ≡ undone no_memory (record { memory = memory; standing = s }) out told)
-    pub refused : (IsT5Asked size memory locks × (length command ≤ 288) → ⊥)
-        → (after ≡ undone bad_argument (record { memory = memory; standing = s }) out told)
-        ⊎ (after ≡ undone no_memory (record { memory = memory; standing = s }) out told)
+pub record T5Steps (id : List ℕ) (size : ℕ) (memory locks : List ℕ) (s : T5Standing) (command out : List ℕ)
+    (told : Told) (after : Stepped T5Kept) : Type 0 where
+  pub taken : IsT5Asked size memory locks → length command ≤ 288
+      → (after ≡ t5_stepped id size memory locks s (whole_v command) out told)
+      ⊎ (after ≡ undone no_memory (record { memory = memory; standing = s }) out told)
+  pub refused : (IsT5Asked size memory locks × (length command ≤ 288) → ⊥)
+      → (after ≡ undone bad_argument (record { memory = memory; standing = s }) out told)
+      ⊎ (after ≡ undone no_memory (record { memory = memory; standing = s }) out told)

@@ -191,7 +191,8 @@ pub extern "C" fn zev_dep_request(
     out: &mut [u8],
     told: &mut Told,
 ) -> i32
-    ensures { RequestTold id.now general.now out.old told.old (record { answer = result; out = out.new; told = told.new }) }
+    ensures { RequestTold id.now general.now out.old told.old
+        (record { answer = result; out = out.new; told = told.new }) }
 {
     if general.len() > MOST_ASKED {
         return BAD_ARGUMENT;
@@ -209,7 +210,8 @@ pub extern "C" fn zev_dep_request(
 /// Tells the general bytes of ATR_REQ or ATR_RES, and the LR code of the end that sent it.
 #[unsafe(no_mangle)]
 pub extern "C" fn zev_dep_general(frame: &[u8], out: &mut [u8], told: &mut Told) -> i32
-    ensures { record { answer = result; out = out.new; told = told.new } ≡ general_shown (spelled_frame frame.now) out.old told.old }
+    ensures { record { answer = result; out = out.new; told = told.new }
+        ≡ general_shown (spelled_frame frame.now) out.old told.old }
 {
     match DepFrame::read_from(frame) {
         Ok(DepFrame::AtrReq { id: _, lr, general }) => {

@@ -103,7 +103,8 @@ fn get(
     requires fresh { IsFresh far.old }
     requires slot { slot < 8 }
     requires fits { length key.now ≤ 65536 }
-    ensures does { Obeys (begins_from client.old.llc (sap_of_slot slot) (Gets most key.now)) far.old client.new.llc far.new result }
+    ensures does { Obeys (begins_from client.old.llc (sap_of_slot slot) (Gets most key.now)) far.old
+        client.new.llc far.new result }
     ensures going { OnOk result (IsGoing client.new) }
 {
     let mut link = Straight::new(alloc);
@@ -190,7 +191,8 @@ fn obey(
     requires going { IsGoing client.old }
     requires fresh { IsFresh far.old }
     requires short { length content.now < 65536 }
-    ensures some { IfSome result (λ r. IsObeyed (call_of (record { kind = kind; content = content.now })) client.old.llc far.old client.new.llc far.new r) }
+    ensures some { IfSome result (λ r. IsObeyed (call_of (record { kind = kind; content = content.now }))
+        client.old.llc far.old client.new.llc far.new r) }
     ensures none { result ≡ None → call_of (record { kind = kind; content = content.now }) ≡ None }
     ensures going { IfSome result (λ r. OnOk r (IsGoing client.new)) }
 {
