@@ -3,7 +3,7 @@
 The listener front, Type 2, Type 4 over ISO-DEP and Type 5 tags, and a peer's target of NFC-DEP; the end above it is that of `forges.py`.
 """
 
-from forges import Replies
+from forges import End, Replies
 
 ISO_SIZES = (16, 24, 32, 40, 48, 64, 96, 128, 256)
 DEP_SIZES = (64, 128, 192, 254)
@@ -268,8 +268,9 @@ class Peer:
 
     sel_res = 0x40
 
-    def __init__(self, ident, code, limit):
-        self.ident, self.code, self.limit, self.link, self.inbox = ident, code, limit, 0, []
+    def __init__(self, ident, code, miu, window, limit):
+        self.ident, self.code, self.end, self.link, self.inbox, self.offers = ident, code, (miu, window, limit), 0, [], {}
+        self.told = b"Ffm\1\1\x13" + (b"" if miu == 128 else b"\2\2" + (miu - 128).to_bytes(2, "big")) + b"\3\2\0\x13"
         self.clear()
 
     def clear(self):
@@ -303,8 +304,8 @@ class Peer:
 
     def begin(self, general, size):
         self.size, self.expected, self.chain, self.pieces, self.last, self.dead = size, 0, b"", [], None, False
-        self.far = Replies(self.accepted) if is_readable(general) else None
-        return self.framed(b"\xd5\1" + self.ident.ljust(10, b"\0")[:10] + bytes([0, 0, 0, 8, self.code << 4 | 2]) + bytes.fromhex("46666D01011303020013"))
+        self.far = Replies(End(self.accepted, *self.end, self.offers)) if is_readable(general) else None
+        return self.framed(b"\xd5\1" + self.ident.ljust(10, b"\0")[:10] + bytes([0, 0, 0, 8, self.code << 4 | 2]) + self.told)
 
     def accepted(self, sap, message):
         self.inbox.append((self.link, sap, message.hex().upper() or "-"))

@@ -149,6 +149,9 @@ class Bench:
             self.now(0)
         return " ".join(["heard", *("silent" if it is None else "damaged" if it == "damaged" else "clash" if isinstance(it, list) else told(it) for it in heard)])
 
+    def device(self, name):
+        return next(it for it in self.devices if it.ident.hex().upper() == name)
+
     def now(self, link):
         """What a peer accepts from now on came on this link."""
         for device in self.devices:
@@ -166,11 +169,13 @@ class Bench:
         elif word == "place":
             self.devices.append(made(rest))
         elif word == "lock":
-            next(it for it in self.devices if it.ident.hex().upper() == rest[0]).tag.locked.add(int(rest[1]))
+            self.device(rest[0]).tag.locked.add(int(rest[1]))
+        elif word == "offer":
+            self.device(rest[0]).upper.offers[read_frame(rest[1])[0]] = read_frame(rest[2])[0]
         elif word == "dump":
-            return f"store {next(it for it in self.devices if it.ident.hex().upper() == rest[0]).tag.store.hex().upper()}"
+            return f"store {self.device(rest[0]).tag.store.hex().upper()}"
         elif word == "inbox":
-            inbox = next(it for it in self.devices if it.ident.hex().upper() == rest[0]).upper.inbox
+            inbox = sorted(self.device(rest[0]).upper.inbox, key=lambda told: told[0])
             texts = [f"{link}:{text}" if sap == 32 else f"{link}.{sap}:{text}" for link, sap, text in inbox]
             return " ".join([f"inbox {len(inbox)}", *texts])
         else:
@@ -209,7 +214,7 @@ def made(words):
         container = bytes.fromhex(words[3])
         size = int.from_bytes(container[11:13], "big")
         return Front(ident, Card(int(words[2]), TypeFour(container, bytes.fromhex(words[4]).ljust(size, b"\0"))))
-    return Front(ident, Peer(ident, int(words[2]), int(words[5])))
+    return Front(ident, Peer(ident, *map(int, words[2:6])))
 
 
 def random_frames(chance, ident, kind, idents):
@@ -258,7 +263,7 @@ def type_four(chance, _ident, _before):
 
 # a CONNECT, a put and two more stand at places 1, 3, 5 and 7
 PAYLOADS = tuple(bytes.fromhex(it) for it in ("112005010F", "1120", "1120", "132000100200000003D00000", "132000100200000003D00000", "13201010020000000101", "132021", "132021100200000000",
-                                              "0000", "", "1121", "05210604", "1321001002000000021234", "13200010020000003CAA", "136000", "1360", "1320001001000000050000FFFF6B",
+                                              "0000", "", "1121", "05210604", "1321001002000000021234", "13200010020000003CAA", "136000", "1360", "1320001001000000050000FFFF6B", "132000100100000005000000106B", "132000100100000004000000FF",
                                               "0080000211200010132000100200000003D00001", "0080000211200002112100021122"))
 
 
@@ -310,7 +315,9 @@ def random_script(chance):
         elif kind == "t4":
             lines.append(f"place t4 {name} {chance.choice((0, 2, 5, 8))} {CONTAINER.hex().upper()} 0003D00000")
         else:
-            lines.append(f"place peer {name} {chance.randrange(4)} 128 1 1024")
+            lines.append(f"place peer {name} {chance.randrange(4)} {chance.choice((128, 128, 300))} {chance.choice((1, 1, 4))} 1024")
+            if chance.random() < 0.5:
+                lines.append(f"offer {name} 6B {chance.randbytes(chance.choice((0, 5, 100))).hex().upper() or '-'}")
         (peers if kind == "peer" else stores).append(name)
         placed.append((ident, kind))
     for ident in v[: chance.randrange(4)]:

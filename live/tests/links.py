@@ -10,7 +10,6 @@ from typing import Iterator, Optional
 ATR, ATR_ANSWER, EXCHANGE, EXCHANGED = b"\xd4\x00", b"\xd5\x01", b"\xd4\x06", b"\xd5\x07"
 MORE, KIND = 0x10, 0xE0
 HEX = re.compile(r"[0-9A-F]+")
-CALLS = ("put", "get", "lookup", "unlink", "on", "puts", "raw", "close")
 
 
 @dataclass
@@ -23,17 +22,14 @@ class Peer:
 
 @dataclass
 class Link:
-    """A link that a line opened, with the peer's general bytes and the sizes of the client's end; what was told of each put on it, and the lines on it."""
+    """A link that a line opened, and of each put on it the slot of its client, the message and what was told."""
 
     name: str
     peer: Peer
     general: bytes
     payloads: list[bytes] = field(default_factory=list)
     replies: list[bytes] = field(default_factory=list)
-    puts: list[tuple[bytes, str]] = field(default_factory=list)
-    theirs: bytes = b""
-    sizes: tuple[int, int] = (128, 1)
-    calls: list[list[str]] = field(default_factory=list)
+    puts: list[tuple[int, bytes, str]] = field(default_factory=list)
 
 
 def bytes_of(word: str) -> bytes:
@@ -43,6 +39,18 @@ def bytes_of(word: str) -> bytes:
     return bytes.fromhex("" if word == "-" else word)
 
 
+def puts_of(words: list[str], answer: str) -> list[tuple[int, bytes, str]]:
+    """The puts of a line, each with the slot of its client."""
+    if words[0] == "put":
+        return [(0, bytes_of(words[1]), answer)]
+    if words[0] == "on" and words[2] == "put":
+        return [(int(words[1]), bytes_of(words[3]), answer)]
+    if words[0] == "puts" and answer.startswith("puts "):
+        told = [(word.split(":", 1), outcome.split(":")[1]) for word, outcome in zip(words[1:], answer.split(" ")[1:])]
+        return [(int(slot), bytes_of(message), outcome) for (slot, message), outcome in told]
+    return []
+
+
 class Following:
     """The pieces of payloads and replies, joined, of one link after the other."""
 
@@ -50,7 +58,7 @@ class Following:
         self.link: Optional[Link] = None
         self.general, self.chains = b"", {EXCHANGE: b"", EXCHANGED: b""}
 
-    def frame(self, name: str, peer: Optional[Peer], sizes: tuple[int, int], content: bytes) -> None:
+    def frame(self, name: str, peer: Optional[Peer], content: bytes) -> None:
         """A frame that came whole. What isn't of NFC-DEP, or no information, says nothing of payloads."""
         if content[:1] != b"\xf0" or len(content) < 4:
             return
@@ -58,8 +66,7 @@ class Following:
         if kind == ATR:
             self.general = rest[14:]
         elif kind == ATR_ANSWER and peer:
-            self.link = Link(name, Peer(peer.sizes, list(peer.offers)), self.general, theirs=rest[15:], sizes=sizes)
-            self.chains = {EXCHANGE: b"", EXCHANGED: b""}
+            self.link, self.chains = Link(name, Peer(peer.sizes, list(peer.offers)), self.general), {EXCHANGE: b"", EXCHANGED: b""}
         elif self.link and kind in self.chains and rest[0] & KIND == 0:
             self.chains[kind] += rest[1:]
             if not rest[0] & MORE:
@@ -91,15 +98,12 @@ def links_of(script: Path) -> Iterator[Link]:
         elif answer == "ok" and words[0] == "offer":
             yield from following.over()
             peers[words[1]].offers.append((bytes_of(words[2]), bytes_of(words[3])))
-        if following.link and words[0] in CALLS:
-            following.link.calls.append(words)
         for text in passed:
             sign, word, *fate = text.split(" ")
             if sign == "!" or fate != ["pass"]:
                 yield from following.over()
             elif HEX.fullmatch(word):
-                peer, sizes = (peers.get(words[1]), (int(words[2]), int(words[3]))) if words[0] == "link" else (None, (128, 1))
-                following.frame(f"{script.parent.name}/{script.name} {number}", peer, sizes, bytes.fromhex(word))
-        if words[0] == "put" and following.link:
-            following.link.puts.append((bytes_of(words[1]), answer))
+                following.frame(f"{script.parent.name}/{script.name} {number}", peers.get(words[1]) if words[0] == "link" else None, bytes.fromhex(word))
+        if following.link:
+            following.link.puts += puts_of(words, answer)
     yield from following.over()

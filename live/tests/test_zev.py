@@ -23,48 +23,6 @@ def zev(*words: str, text: str = "") -> tuple[int, str, str]:
     return ran.returncode, ran.stdout, ran.stderr
 
 
-class OfEachType(unittest.TestCase):
-    """Reading and writing with tags of each type behind the pipe; each write broken off at each command, obeyed or not, and read again."""
-
-    IDENT = "E004010203040506"
-    TAGS = (
-        ("2", (bytes(12) + bytes.fromhex("E11006000303D00000FE")).ljust(64, b"\0"), ()),
-        ("4", bytes.fromhex("000F20003B000E0406E10400320000" + "0003D00000").ljust(65, b"\0"), ()),
-        ("5", bytes.fromhex("E14006010303D00000FE").ljust(52, b"\0"), ("--id", IDENT)),
-        ("5", bytes.fromhex("E14006010303D00000FE").ljust(56, b"\0"), ("--id", IDENT, "--block", "8")),
-    )
-
-    def test_reading_and_writing(self):
-        new = bytes.fromhex("D1010154") + bytes(30)
-        with tempfile.TemporaryDirectory() as folder:
-            file = Path(folder) / "tag"
-            for kind, memory, more in self.TAGS:
-                words = "--type", kind, *more[:2]
-                over = f"pipe:{TAG} {file} --type {kind} {' '.join(more)}"
-                file.write_bytes(memory)
-                self.assertEqual(zev("read", "--reader", over, *words), (0, "D00000\n", ""))
-                self.assertEqual(zev("write", new.hex(), "--reader", over, *words), (0, "written\n", ""))
-                self.assertEqual(zev("read", "--reader", over, *words), (0, new.hex().upper() + "\n", ""))
-
-    def test_broken_off(self):
-        new = bytes.fromhex("D1010154") + bytes(20)
-        with tempfile.TemporaryDirectory() as folder:
-            file = Path(folder) / "tag"
-            for kind, memory, more in self.TAGS:
-                words, met, status, step = ("--type", kind, *more[:2]), set(), 1, 0
-                while status:
-                    file.write_bytes(memory)
-                    over = f"pipe:{TAG} {file} --type {kind} {' '.join(more)}"
-                    cut = f" --cut {step // 2}" + " --obeys" * (step % 2)
-                    status = zev("write", new.hex(), "--reader", over + cut, *words)[0]
-                    read = zev("read", "--reader", over, *words)
-                    message = bytes.fromhex(read[1].split("\n")[0].replace("-", ""))
-                    self.assertEqual((read[0], message in ((OLD, b"", new) if status else (new,))), (0, True))
-                    met.add(message)
-                    step += 1
-                self.assertEqual(met, {OLD, b"", new})
-
-
 class WithATag(unittest.TestCase):
     def setUp(self):
         self.folder = tempfile.TemporaryDirectory()
@@ -139,12 +97,13 @@ class Peers(unittest.TestCase):
             sizes = [word for pair in zip(("--miu", "--window", "--limit"), map(str, link.peer.sizes)) for word in pair]
             offers = [f"--offer={key.hex()}={value.hex()}" for key, value in link.peer.offers]
             status, out, told = zev("peer", *sizes, *offers, text=lines(link.general, *link.payloads[: len(link.replies)]))
-            accepted = [bytes.fromhex(line.split()[2].strip("-")) for line in out.split("\n") if line.startswith("from ")]
-            success = [message for message, answer in link.puts if answer == "success"]
+            accepted = [line.split()[1:3] for line in out.split("\n") if line.startswith("from ")]
             with self.subTest(link.name):
                 self.assertEqual((status, told), (0, ""))
                 self.assertEqual([line[2:] for line in out.split("\n") if line.startswith(">")][1:-1], [reply.hex().upper() for reply in link.replies])
-                self.assertEqual(accepted[: len(success)], success)
+                for slot in {slot for slot, _, _ in link.puts}:
+                    success = [message.hex().upper() or "-" for of, message, answer in link.puts if of == slot and answer == "success"]
+                    self.assertEqual([message for sap, message in accepted if sap == f"{32 + slot}:"][: len(success)], success)
         self.assertGreater(len(links), 300)
 
     def test_one_link_after_the_other(self):

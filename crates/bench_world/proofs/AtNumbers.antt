@@ -58,11 +58,11 @@ held_at n (p ∷ ps) (o ∷ os) = by (is_number n p) (held_at n ps os)
     by false e = e
 
 -- what stays of far ends keeps it
-held_rests : (o : Option FarEnd) → held (rests peer_ends o) ≡ held o
+pub held_rests : (o : Option FarEnd) → held (rests peer_ends o) ≡ held o
 held_rests None = refl
 held_rests (Some l) = refl
 
-all_rests : (os : List (Option FarEnd)) → map held (map (rests peer_ends) os) ≡ map held os
+pub all_rests : (os : List (Option FarEnd)) → map held (map (rests peer_ends) os) ≡ map held os
 all_rests [] = refl
 all_rests (o ∷ os) = ap (λ k. k ∷ map held (map (rests peer_ends) os)) (held_rests o) ∙ ap (λ ks. held o ∷ ks) (all_rests os)
 
@@ -114,7 +114,7 @@ held_more more n (p ∷ ps) (k ∷ ks) all = by (is_number n p) (held_more more 
     by false rest = (all.0, rest)
 
 -- nothing more
-adding_none : (k : Option Held) → adding [] k ≡ k
+pub adding_none : (k : Option Held) → adding [] k ≡ k
 adding_none None = refl
 adding_none (Some k) = ap (λ xs. Some (record { limit = k.limit; accepted = xs })) (append-nil k.accepted)
 

@@ -19,12 +19,16 @@ use Rattle.link_calls.specs.Arriving.{Arrives, ArrivesCut, StopsAtLast, all_answ
 use Rattle.snep_core.specs.Talk.{client_sap, sap_of_slot}
 use Rattle.link_calls.specs.Asking.{LinkAsking, Does, Closes, Finding, Getting, put_from, Putting}
 use Rattle.bench_script.specs.declared.command.Command.{Command}
-use Rattle.bench_script.specs.declared.command.Command.TheVariants.{Find, Crowd, Poll3, Read, Read3, Write, Write3, Link, Forge, Put, Get, Lookup, Unlink, OnPut, OnGet, Puts}
+use Rattle.bench_script.specs.declared.command.Command.TheVariants.{Find, Crowd, Poll3, Read, Read3, Write, Write3, Link, Forge, Put, Get, Lookup, Unlink, OnPut, OnGet, Puts, Raw}
+use Rattle.bench_script.specs.DeviceIds.{bytes_of}
 use Rattle.bench_script.specs.Messages.{message_of}
+use Rattle.bench_script.specs.declared.command.DeviceId.{DeviceId}
+use Rattle.nfc_base.specs.Signal.{Signal}
+use Rattle.bench_world.specs.Rawing.{raw_opens}
 use Rattle.bench_world.specs.World.{FarEnd}
 use Rattle.bench_world.specs.Arrivals.{Arrival, arrival_marks, arrivals_of, end_at, end_behind, giving_values}
 use Rattle.bench_world.specs.Arriving.{ArrivesCutAt, ArrivesCutWithin}
-use Rattle.bench_world.specs.ByPayloads.{IsByPayloads, IsFrontOfPayloads, PutsAtLeast}
+use Rattle.bench_world.specs.ByPayloads.{IfOpenedBy, IfPayloads, IsByPayloads, IsFrontOfPayloads, PutsAtLeast}
 use Rattle.bench_world.specs.Calls.{IfLinked}
 use Rattle.bench_world.specs.Asked.{IsOnLink, asked_on_link, slot_messages}
 use Rattle.bench_world.specs.Forging.{forged_general, opens_link}
@@ -34,10 +38,10 @@ use Rattle.bench_world.specs.Legal.{State, Given, Joins, CutCall, CutLeft, CutSh
 use Rattle.bench_world.specs.LinkLaw.{cut_stretch}
 use Rattle.bench_world.specs.Links.{OpenLink, end_numbered}
 use Rattle.bench_world.specs.Peers.{Peers, placed_under}
-use Rattle.bench_world.specs.Stories.{Opener, ByForge, Story, Stretch, Beginning, NothingBegins, BeginsAndEnds, beginning, begins_in, begun_by, open_goes_on}
+use Rattle.bench_world.specs.Stories.{Opener, ByForge, ByLink, ByRaw, Story, Stretch, Beginning, NothingBegins, BeginsAndEnds, beginning, begins_in, begun_by, open_goes_on}
 use Rattle.bench_world.proofs.PayloadsKept.{KeptIn, unless_numbers}
-use Rattle.bench_world.proofs.PayloadsOn.{Kept, OnLink, UpTo, above_is, all_and_last, all_bytes, all_end, all_payloads, all_with, came_is, end_then, more_payloads, up_to}
-use Rattle.bench_world.proofs.PayloadsWithin.{all_over, begun_one, from_first, new_whole, now_is}
+use Rattle.bench_world.proofs.PayloadsOn.{KeepsPayloads, if_opened, Kept, OnLink, UpTo, above_is, all_and_last, all_bytes, all_end, all_payloads, all_with, came_is, end_then, more_payloads, up_to}
+use Rattle.bench_world.proofs.PayloadsWithin.{all_over, begun_one, from_first, new_whole, now_is, raw_within}
 use Rattle.bench_world.proofs.PutsTold.{accepted_more}
 use Rattle.bench_world.proofs.SameStories.{last_equal}
 use Rattle.bench_world.proofs.ServerRuns.{answered_is, arrivals_front, arrivals_put, behind_then, bytes_are}
@@ -73,6 +77,18 @@ whole_front y h = record {
       (h.order (record { before = before; next = last; more = []; split = split; came = []; behind = taking.brought (end_at (end_behind y.begun before) last) last.payload; parts = refl })).front;
   puts = λ c few. record { all = accepted_from c y.gained; put = h.puts c few; rest = []; split = sym (append-nil (accepted_from c y.gained)) };
 }
+
+-- so it is of each link but one of frames of a script's own
+abbrev pub KeepsFront : Story → Type 0
+KeepsFront y = IfPayloads IsFrontOfPayloads y
+
+weaker_opened : (P Q : Type 0) (o : Opener) → (P → Q) → IfOpenedBy o P → IfOpenedBy o Q
+weaker_opened P Q ByLink f h = f h
+weaker_opened P Q ByForge f h = f h
+weaker_opened P Q ByRaw f h = tt
+
+keeps_front : (y : Story) → KeepsPayloads y → KeepsFront y
+keeps_front y h = weaker_opened (IsByPayloads y) (IsFrontOfPayloads y) y.opener (whole_front y) h
 
 -- the last payload is the last to arrive
 last_arrival : (table : List Offer) (ns : List ℕ) (ps : List (List ℕ)) (p : List ℕ)
@@ -219,7 +235,7 @@ cut_front_of l s t y on x numbers came =
 -- A link that begins and ends in a stretch that was cut off.
 pub begun_front : (s t : State) (x : Stretch) (opener : Opener) (peer : ℕ) (id general : List ℕ) → t.peers.numbers ≡ s.peers.numbers → begins_in x ≡ BeginsAndEnds opener id general
     → placed_under id s.world.field.listeners s.peers.numbers ≡ Some peer → ArrivesCutWithin peer general s.peers.numbers x.joins.far s.world.fars t.world.fars x.events
-    → AllByRecursion IsFrontOfPayloads (begun_by (begins_in x) (goes_on s x t) s t)
+    → AllByRecursion KeepsFront (begun_by (begins_in x) (goes_on s x t) s t)
 begun_front s t x opener peer id general numbers is placed came =
     let n : ℕ = length s.peers.links + 1 in
     let y : Story = new_whole s t x opener n peer general numbers came.old in
@@ -227,7 +243,7 @@ begun_front s t x opener peer id general numbers is placed came =
     let front : IsFrontOfPayloads (goes_on s x t y) =
     front_of 0 s t y (from_first s t x opener n peer general numbers came.old came.stood) x came.new
     (now_is s t x opener n peer general numbers came.new.end.service.accepted came.accepted) came.arrives in
-    subst (AllByRecursion IsFrontOfPayloads) (sym one) (front, tt)
+    subst (AllByRecursion KeepsFront) (sym one) (if_opened (IsFrontOfPayloads (goes_on s x t y)) y.opener front, tt)
 
 -- The stories of a bench behind it.
 module _ (s t : State) (joins : Joins) (c : Command) (cut : List Event) (ys : List Story) (h : KeptIn s ys) where
@@ -235,7 +251,7 @@ module _ (s t : State) (joins : Joins) (c : Command) (cut : List Event) (ys : Li
   x = cut_stretch c joins cut
 
   abbrev pub CutBy : Type 0
-  CutBy = AllByRecursion IsFrontOfPayloads (stories_behind s x t ys)
+  CutBy = AllByRecursion KeepsFront (stories_behind s x t ys)
 
   talk_begins : (d : Command) → IsOnLink d → beginning d cut None ≡ NothingBegins
   talk_begins (Put m) talks = refl
@@ -250,23 +266,35 @@ module _ (s t : State) (joins : Joins) (c : Command) (cut : List Event) (ys : Li
   -- where no link is open
   unlinked_front : (changed s c).link ≡ None → beginning c cut None ≡ NothingBegins → CutBy
   unlinked_front none begins =
-      let B : Beginning → Type 0 = λ b. AllByRecursion IsFrontOfPayloads (open_goes_on (changed s c).link (goes_on s x t) ys ++ begun_by b (goes_on s x t) s t) in
-      let O : Option OpenLink → Type 0 = λ o. AllByRecursion IsFrontOfPayloads (open_goes_on o (goes_on s x t) ys) in
-      subst B (sym begins) (subst (AllByRecursion IsFrontOfPayloads) (sym (append-nil (open_goes_on (changed s c).link (goes_on s x t) ys)))
-      (subst O (sym none) (all_with s.link s ys h IsFrontOfPayloads whole_front)))
+      let B : Beginning → Type 0 = λ b. AllByRecursion KeepsFront (open_goes_on (changed s c).link (goes_on s x t) ys ++ begun_by b (goes_on s x t) s t) in
+      let O : Option OpenLink → Type 0 = λ o. AllByRecursion KeepsFront (open_goes_on o (goes_on s x t) ys) in
+      subst B (sym begins) (subst (AllByRecursion KeepsFront) (sym (append-nil (open_goes_on (changed s c).link (goes_on s x t) ys)))
+      (subst O (sym none) (all_with s.link s ys h KeepsFront keeps_front)))
 
   -- where one began and ended
-  pub within_front : (changed s c).link ≡ None → AllByRecursion IsFrontOfPayloads (begun_by (begins_in x) (goes_on s x t) s t) → CutBy
-  within_front none begun = all_over s t x ys IsFrontOfPayloads none (all_with s.link s ys h IsFrontOfPayloads whole_front) begun
+  pub within_front : (changed s c).link ≡ None → AllByRecursion KeepsFront (begun_by (begins_in x) (goes_on s x t) s t) → CutBy
+  within_front none begun = all_over s t x ys KeepsFront none (all_with s.link s ys h KeepsFront keeps_front) begun
 
   -- the open link goes on
   linked_front : IsOnLink c → (l : OpenLink) → (changed s c).link ≡ Some l → s.link ≡ Some l → t.peers.numbers ≡ s.peers.numbers → ArrivesCutAt l s.peers.numbers joins.far s.world.fars t.world.fars cut → CutBy
   linked_front talks l open_ was numbers came =
       let k : Kept (Some l) s ys = subst (λ o. Kept o s ys) was h in
-      let B : Beginning → Type 0 = λ b. AllByRecursion IsFrontOfPayloads (open_goes_on (changed s c).link (goes_on s x t) ys ++ begun_by b (goes_on s x t) s t) in
-      let O : Option OpenLink → Type 0 = λ o. AllByRecursion IsFrontOfPayloads (open_goes_on o (goes_on s x t) ys) in
-      subst B (sym (talk_begins c talks)) (subst (AllByRecursion IsFrontOfPayloads) (sym (append-nil (open_goes_on (changed s c).link (goes_on s x t) ys)))
-      (subst O (sym open_) (all_and_last l s ys k (goes_on s x t) IsFrontOfPayloads whole_front (cut_front_of l s t k.going.last k.going.on x numbers came))))
+      let B : Beginning → Type 0 = λ b. AllByRecursion KeepsFront (open_goes_on (changed s c).link (goes_on s x t) ys ++ begun_by b (goes_on s x t) s t) in
+      let O : Option OpenLink → Type 0 = λ o. AllByRecursion KeepsFront (open_goes_on o (goes_on s x t) ys) in
+      subst B (sym (talk_begins c talks)) (subst (AllByRecursion KeepsFront) (sym (append-nil (open_goes_on (changed s c).link (goes_on s x t) ys)))
+      (subst O (sym open_) (all_and_last l s ys k (goes_on s x t) KeepsFront keeps_front
+      (if_opened (IsFrontOfPayloads (goes_on s x t k.going.last)) k.going.last.opener (cut_front_of l s t k.going.last k.going.on x numbers came)))))
+
+-- Frames of a script's own were sent, over a link of their own or not.
+raw_front : (s t : State) (joins : Joins) (id : DeviceId) (frames : List Signal) (cut : List Event) (ys : List Story) (h : KeptIn s ys) (v : Bool) → raw_opens id frames cut ≡ v → CutBy s t joins (Raw id frames) cut ys h
+raw_front s t joins id frames cut ys h true opened =
+    let c : Command = Raw id frames in
+    let x : Stretch = cut_stretch c joins cut in
+    within_front s t joins c cut ys h refl
+    (subst (λ (b : Beginning). AllByRecursion KeepsFront (begun_by b (goes_on s x t) s t)) (sym (ap (λ v. if v then BeginsAndEnds ByRaw (bytes_of id) forged_general else NothingBegins) opened))
+    (raw_within IsFrontOfPayloads s t x forged_general (placed_under (bytes_of id) s.world.field.listeners s.peers.numbers)))
+raw_front s t joins id frames cut ys h false unopened =
+    unlinked_front s t joins (Raw id frames) cut ys h refl (ap (λ v. if v then BeginsAndEnds ByRaw (bytes_of id) forged_general else NothingBegins) unopened)
 
 -- a command on the link of which there is a front
 module _ (s t : State) (g : Given) (cut : List Event) (ys : List Story) (h : KeptIn s ys) where
@@ -310,6 +338,7 @@ module _ (s t : State) (g : Given) (cut : List Event) (ys : List Story) (h : Kep
           (ap (λ v. if v then BeginsAndEnds ByForge id forged_general else NothingBegins) opened) sends.placed
           (subst (λ (z : State). ArrivesCutWithin sends.peer forged_general s.peers.numbers g.joins.far s.world.fars z.world.fars cut) (sym front.after) sends.came))
       by false unopened stays = unlinked_front s t g.joins (Forge id payloads) cut ys h refl (ap (λ v. if v then BeginsAndEnds ByForge id forged_general else NothingBegins) unopened)
+  front_by (Raw id frames) front stores = raw_front s t g.joins id frames cut ys h (raw_opens id frames cut) refl
   front_by (Put m) front stores = talk_front (Does (put_from 0 (message_of m))) (Put m) refl front stores
   front_by (Get most key) front stores = talk_front (Does (Getting client_sap most key)) (Get most key) refl front stores
   front_by (Lookup name) front stores = talk_front (Does (Finding name)) (Lookup name) refl front stores
@@ -327,7 +356,7 @@ cut_arrived s t joins c cut ys h (inr (inl halts)) =
     subst (λ j. CutBy s t j c cut ys h) halts.joined
     (linked_front s t halts.given.joins c cut ys h halts.on_link halts.on (ap (λ (z : State). z.link) (still_on s c halts.on_link) ∙ halts.open_) halts.open_
     (ap (λ (p : Peers). p.numbers) halts.leaves.peers ∙ same_numbers (Some halts.on) s.peers t.world.fars) halts.came)
-cut_arrived s t joins c cut ys h (inr (inr halts)) =
+cut_arrived s t joins c cut ys h (inr (inr (inl halts))) =
     let numbers : t.peers.numbers ≡ s.peers.numbers = ap (λ (p : Peers). p.numbers) halts.leaves.peers ∙ same_numbers s.link s.peers s.world.fars in
     let d : Command = Forge halts.id halts.payloads in
     subst (λ x. CutBy s t joins x cut ys h) (sym halts.command)
@@ -335,3 +364,5 @@ cut_arrived s t joins c cut ys h (inr (inr halts)) =
     (begun_front s t (cut_stretch d joins cut) ByForge halts.peer halts.id forged_general numbers
     (ap (λ v. if v then BeginsAndEnds ByForge halts.id forged_general else NothingBegins) halts.opened) halts.placed
     (subst (λ j. ArrivesCutWithin halts.peer forged_general s.peers.numbers j.far s.world.fars t.world.fars cut) halts.joined halts.came)))
+cut_arrived s t joins c cut ys h (inr (inr (inr halts))) =
+    subst (λ x. CutBy s t joins x cut ys h) (sym halts.command) (raw_front s t joins halts.id halts.frames cut ys h (raw_opens halts.id halts.frames cut) refl)

@@ -5,17 +5,25 @@ use Rattle.std.proofs.lemmas.List.{append-nil, length-map}
 use Rattle.nfc_base.specs.declared.event.Event.{Event}
 use Rattle.nfc_base.specs.declared.event.Fate.{Fate}
 use Rattle.bench_script.specs.declared.command.Command.{Command}
-use Rattle.bench_script.specs.declared.command.Command.TheVariants.{Find, Crowd, Poll3, Read, Read3, Write, Write3, Link, Forge, Put, Get, Lookup, Unlink, OnPut, OnGet, Puts}
+use Rattle.bench_script.specs.declared.command.Command.TheVariants.{Find, Crowd, Poll3, Read, Read3, Write, Write3, Link, Forge, Put, Get, Lookup, Unlink, OnPut, OnGet, Puts, Raw}
 use Rattle.bench_devices.specs.declared.device.Device.{Device}
 use Rattle.bench_devices.specs.Keeping.{Kept, AllStayDevices, IsSound, StaysDevice, kept}
 use Rattle.bench_world.specs.World.{WholeWorld, Stable}
-use Rattle.bench_world.specs.ByPayloads.{IsFrontOfPayloads}
+use Rattle.bench_world.specs.ByPayloads.{IsFrontOfPayloads, IfPayloads}
 use Rattle.link_calls.specs.Asking.{LinkAsking, Does, Closes, Finding, Getting, put_from, Putting}
 use Rattle.snep_core.specs.Talk.{client_sap, sap_of_slot}
 use Rattle.bench_script.specs.Messages.{message_of}
 use Rattle.bench_world.specs.Asked.{IsOnLink, asked_on_link, slot_messages}
 use Rattle.bench_world.specs.Calls.{OfEnd, PeerMayAdd}
-use Rattle.bench_world.specs.Legal.{State, Given, Joins, Accepts, CutFront, CutLeft, CutShort, EachLegal, CutStores, ForgeCutLeaves, ForgeHalts, FrontOf, HaltAdded, HaltLeaves, Halts, PeerHalts, end_of, first_state, state_after, world_after}
+use Rattle.bench_world.specs.Legal.{State, Given, Joins, Accepts, CutFront, begun, CutLeft, CutShort, EachLegal, CutStores, ForgeCutLeaves, ForgeHalts, FrontOf, HaltAdded, HaltLeaves, Halts, PeerHalts, end_of, first_state, state_after, world_after, RawHalts}
+use Rattle.bench_world.specs.Rawing.{raw_opens}
+use Rattle.bench_devices.specs.AnyFrame.{peer_place, peers_in}
+use Rattle.bench_devices.proofs.AnyFrame.{place_stays}
+use Rattle.bench_world.proofs.FarStays.{all_stay, far_stay}
+use Rattle.bench_world.proofs.ForgeLeft.{forged_numbers}
+use Rattle.bench_world.proofs.RawGrows.{GrowsAt, all_grow, all_long, grows_long}
+use Rattle.bench_world.proofs.RawStories.{halted_grows, raw_stands}
+use Rattle.std.specs.Prelude.{◌≤◌}
 use Rattle.bench_world.specs.LinkLaw.{CutArrivalLaw, CutLinkLaw, KeepsLinkLaw, cut_stretch}
 use Rattle.bench_world.specs.Forging.{opens_link}
 use Rattle.bench_world.specs.Links.{OpenLink, ended}
@@ -25,13 +33,13 @@ use Rattle.bench_world.specs.Stories.{Story, stories_of}
 use Rattle.bench_world.proofs.CutArrivals.{cut_arrived}
 use Rattle.bench_world.proofs.PayloadsKept.{kept_along}
 use Rattle.bench_world.proofs.AtNumbers.{held, more_held, same_held, with_held}
-use Rattle.bench_world.proofs.LinkLaw.{all_keep, along, as_many_sent, as_many_talked, first_stand, forge_sent, forge_unsent, forged_stands, reset, step, talk_none, talk_so, talked}
+use Rattle.bench_world.proofs.LinkLaw.{all_keep, along, as_many_sent, as_many_talked, first_stand, forge_sent, forge_unsent, forged_stands, reset, step, talk_none, talk_so, talked, raw_after, same_many}
 use Rattle.bench_world.proofs.PeersNumbered.{HavePlaces, places_stay}
 use Rattle.bench_world.proofs.SameStories.{KeepsNumbers, begun_within, ended_in, same_behind, same_from}
 use Rattle.bench_world.proofs.StoriesHere.{Stand, view_of}
 use Rattle.bench_world.proofs.Talks.{off}
 use Rattle.bench_world.proofs.Tales.{stories_behind}
-use Rattle.bench_world.proofs.Unfinished.{short_front}
+use Rattle.bench_world.proofs.Unfinished.{halted_stay, short_front}
 use Rattle.bench_world.proofs.Unlinking.{same_numbers}
 
 -- A device of which all stays that does stays as any frame leaves it.
@@ -88,6 +96,7 @@ module _ (w : WholeWorld) (q : List Fate) (p : Peers) (ys : List Story) (g : Giv
       by : (v : Bool) → opens_link id payloads es ≡ v → ForgeCutLeaves v (from o) g.joins id payloads es → so o (Forge id payloads) es (state_after (from o) g.joins (Forge id payloads) es None)
       by true opened sends = forge_sent w q p ys o stand g None id payloads es opened sends.peer sends.placed sends.more sends.ends
       by false unopened stays = forge_unsent w q p ys o stand g None id payloads es unopened stays
+  front_by o (Raw id frames) es t stand front stores = after_front o (Raw id frames) es t front (raw_after w q p ys o stand g None id frames es front.accepted.one stores)
   front_by o (Put m) es t stand front stores = talk_by o (Does (put_from 0 (message_of m))) (Put m) refl es t stand front stores
   front_by o (Get most key) es t stand front stores = talk_by o (Does (Getting client_sap most key)) (Get most key) refl es t stand front stores
   front_by o (Lookup name) es t stand front stores = talk_by o (Does (Finding name)) (Lookup name) refl es t stand front stores
@@ -154,10 +163,37 @@ module _ (s t : State) (joins : Joins) (c : Command) (cut : List Event) (ys : Li
       (forged_stands s.world s.queue s.peers ys s.link stand joins None h.id h.payloads cut t h.peer h.placed h.leaves.more h.leaves.ends h.leaves.peers h.leaves.link
       (places_stay s.world.field.listeners t.world.field.listeners s.peers.numbers s.peers.numbers s.world.fars t.world.fars stays many refl stand.places) h.opened)
 
+  -- or that of a peer to which frames of a script's own were sent
+  raw_halts : RawHalts joins s c cut t → CutStand
+  raw_halts h =
+      let ds : List Device = s.world.field.listeners in
+      let ms : List Device = h.mid.world.field.listeners in
+      let d : Command = Raw h.id h.frames in
+      let first : WholeWorld = begun s h.given.joins d in
+      let few : peers_in ds ≤ 1 = h.front.accepted.one in
+      let mid_is : h.mid.world ≡ world_after s h.given.joins d h.before = ap (λ (x : State). x.world) h.front.after in
+      let first_stay : AllStayDevices ds (world_after s h.given.joins d h.before).field.listeners = (far_stay h.before first).stay in
+      let to_mid : AllStayDevices ds ms = subst (λ (x : WholeWorld). AllStayDevices ds x.field.listeners) (sym mid_is) first_stay in
+      let stays : AllStayDevices ds t.world.field.listeners =
+      all_stay ds ms t.world.field.listeners to_mid (subst (AllStayDevices ms) (sym h.leaves.devices) (halted_stay h.leaves.place h.sent ms)) in
+      let there : peer_place ds ≡ Some h.leaves.place = sym (place_stays ds ms to_mid) ∙ h.leaves.stands in
+      let to_mid_grows : GrowsAt (peer_place ds) (map held s.world.fars) (map held h.mid.world.fars) =
+      subst (λ (x : WholeWorld). GrowsAt (peer_place ds) (map held s.world.fars) (map held x.fars)) (sym mid_is) (all_grow h.before (peer_place ds) first stand.places.fars few refl) in
+      let mid_many : length h.mid.world.fars ≡ length s.world.fars =
+      ap (λ (x : WholeWorld). length x.fars) mid_is ∙ all_long h.before first stand.places.fars ∙ same_many ds (world_after s h.given.joins d h.before).field.listeners first_stay ∙ sym stand.places.fars in
+      let grows : GrowsAt (peer_place ds) (map held s.world.fars) (map held t.world.fars) =
+      halted_grows s.world s.queue s.peers ys s.link stand joins None h.id h.frames cut few h.mid.world t.world h.leaves.place h.leaves.peer h.leaves.more there h.leaves.numbered mid_many to_mid_grows h.leaves.ends in
+      let many : length t.world.fars ≡ length s.world.fars =
+      sym (length-map t.world.fars held) ∙ grows_long (peer_place ds) (map held s.world.fars) (map held t.world.fars) grows ∙ length-map s.world.fars held in
+      subst (λ x. Stand t (stories_behind s (cut_stretch x joins cut) t ys)) (sym h.command)
+      (raw_stands s.world s.queue s.peers ys s.link stand joins None h.id h.frames cut few t grows h.leaves.peers h.leaves.link
+      (places_stay ds t.world.field.listeners s.peers.numbers s.peers.numbers s.world.fars t.world.fars stays many refl stand.places) h.leaves.opens)
+
   pub cut_stands : CutShort joins s c cut t ⊎ Halts joins s c cut t → CutStand
   cut_stands (inl f) = cut_front (short_front joins s c cut t f)
   cut_stands (inr (inl h)) = cut_halts h
-  cut_stands (inr (inr h)) = forge_halts h
+  cut_stands (inr (inr (inl h))) = forge_halts h
+  cut_stands (inr (inr (inr h))) = raw_halts h
 
   pub cut_numbers : CutShort joins s c cut t ⊎ Halts joins s c cut t → KeepsNumbers s (cut_stretch c joins cut) t
   cut_numbers (inl short) =
@@ -170,8 +206,11 @@ module _ (s t : State) (joins : Joins) (c : Command) (cut : List Event) (ys : Li
   cut_numbers (inr (inl h)) =
       let same : t.peers.numbers ≡ s.peers.numbers = ap (λ (x : Peers). x.numbers) h.leaves.peers ∙ same_numbers (Some h.on) s.peers t.world.fars in
       record { over = λ l open_ none. same; within = λ opener id general begins. same }
-  cut_numbers (inr (inr h)) =
+  cut_numbers (inr (inr (inl h))) =
       let same : t.peers.numbers ≡ s.peers.numbers = ap (λ (x : Peers). x.numbers) h.leaves.peers ∙ same_numbers s.link s.peers s.world.fars in
+      record { over = λ l open_ none. same; within = λ opener id general begins. same }
+  cut_numbers (inr (inr (inr h))) =
+      let same : t.peers.numbers ≡ s.peers.numbers = ap (λ (x : Peers). x.numbers) h.leaves.peers ∙ forged_numbers (raw_opens h.id h.frames cut) s h.id t.world.fars in
       record { over = λ l open_ none. same; within = λ opener id general begins. same }
 
 pub cut_link_law : CutLinkLaw
@@ -188,7 +227,7 @@ cut_link_law lines numbers journal last leads joins c cut t off =
 
 pub cut_arrival_law : CutArrivalLaw
 cut_arrival_law lines numbers journal last leads joins c cut t off =
-    subst (λ ns. AllByRecursion IsFrontOfPayloads (told.stories_behind last (cut_stretch c joins cut) t (stories_of ns journal))) leads.joins
+    subst (λ ns. AllByRecursion (IfPayloads IsFrontOfPayloads) (told.stories_behind last (cut_stretch c joins cut) t (stories_of ns journal))) leads.joins
     (let ns : List Joins = map (λ (g : Given). g.joins) leads.given in
     let stand = along first_state last leads.given journal [] first_stand leads.steps in
     let ys : List Story = told.stories_from first_state [] ns journal in
@@ -196,5 +235,5 @@ cut_arrival_law lines numbers journal last leads joins c cut t off =
     let after = cut_stands last t joins c cut _ stand off in
     let same = same_behind last t (cut_stretch c joins cut) _ stand (cut_numbers last t joins c cut _ stand off) after in
     let kept = kept_along first_state leads.given journal last [] (record { all = tt; going = tt }) leads.steps in
-    subst (λ zs. AllByRecursion IsFrontOfPayloads (told.stories_behind last (cut_stretch c joins cut) t zs)) (sym whole)
-    (subst (AllByRecursion IsFrontOfPayloads) (sym same) (cut_arrived last t joins c cut _ kept off)))
+    subst (λ zs. AllByRecursion (IfPayloads IsFrontOfPayloads) (told.stories_behind last (cut_stretch c joins cut) t zs)) (sym whole)
+    (subst (AllByRecursion (IfPayloads IsFrontOfPayloads)) (sym same) (cut_arrived last t joins c cut _ kept off)))

@@ -1,6 +1,6 @@
 -- Whatever happens in the world with far ends: each device stays one that may be placed, with all that is fixed of it, and has a link at most while it is
 -- active.
-use Rattle.std.proofs.Common.{◌≡◌, ℕ, List, [], ◌∷◌, length, Option, sym, ◌∙◌, ap, subst}
+use Rattle.std.proofs.Common.{◌≡◌, ℕ, List, [], ◌∷◌, length, Option, refl, sym, ◌∙◌, ap, subst}
 use Rattle.nfc_base.specs.declared.event.Event.{Event}
 use Rattle.nfc_base.specs.declared.event.Event.TheVariants.{Reset, Request, Answer, Clash}
 use Rattle.nfc_base.specs.declared.event.Fate.TheVariants.{Pass, Damage, Lose, Break}
@@ -25,7 +25,7 @@ use Rattle.bench_world.specs.World.{FarEnd, WholeWorld, bench_air}
 kept_stays : (d e : Device) → kept e ≡ kept d → StaysDevice d e
 kept_stays d e same = record { fixed = ap (λ (k : Kept). k.fixed) same; long = ap (λ (k : Kept). length k.store) same; sound = λ is. subst IsSound (sym same) is }
 
-stays_any : (f : Signal) (reply : Option (List ℕ)) (d : Device) → StaysDevice d (stepped_by devices d f reply)
+pub stays_any : (f : Signal) (reply : Option (List ℕ)) (d : Device) → StaysDevice d (stepped_by devices d f reply)
 stays_any f reply (T2 d) = stays_step f (T2 d)
 stays_any f reply (T4 d) = stays_step f (T4 d)
 stays_any f reply (Peer d) = kept_stays (Peer d) (stepped_by devices (Peer d) f reply) (peer_kept d f reply)
@@ -37,7 +37,11 @@ pub record StayAll (ds es : List Device) : Type 0 where
   pub stay : AllStayDevices ds es
   pub tidy : AreTidy ds → AreTidy es
 
-all_stay : (ds es xs : List Device) → AllStayDevices ds es → AllStayDevices es xs → AllStayDevices ds xs
+pub all_still : (ds : List Device) → AllStayDevices ds ds
+all_still [] = tt
+all_still (d ∷ ds) = (record { fixed = refl; long = refl; sound = λ is. is }, all_still ds)
+
+pub all_stay : (ds es xs : List Device) → AllStayDevices ds es → AllStayDevices es xs → AllStayDevices ds xs
 all_stay [] [] [] p q = tt
 all_stay [] [] (x ∷ xs) p q = absurd q
 all_stay [] (e ∷ es) xs p q = absurd p
@@ -63,7 +67,7 @@ met_tidy f (d ∷ ds) os ns t = (
 )
 
 -- one event
-one_event : (w : WholeWorld) (e : Event) → StayAll w.field.listeners (bench_air.happens w e).field.listeners
+pub one_event : (w : WholeWorld) (e : Event) → StayAll w.field.listeners (bench_air.happens w e).field.listeners
 one_event w Reset = record { stay = event_stays w.field Reset; tidy = λ t. events_tidy (Reset ∷ []) w.field t }
 one_event w (Request f Pass) = record { stay = met_stay f w.field.listeners w.fars w.numbers; tidy = λ t. met_tidy f w.field.listeners w.fars w.numbers t }
 one_event w (Request f Damage) = record { stay = event_stays w.field (Request f Damage); tidy = λ t. t }

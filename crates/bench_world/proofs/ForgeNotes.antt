@@ -72,7 +72,7 @@ opens_then id payloads ns LightUp e d = light_then payloads (selecting (A id) ns
 opens_then id payloads ns (Asks f) e d = opening_due payloads id ns f e
 
 -- As long as selecting alone is asked nothing is known behind its end, so no link is open.
-abbrev NoRest : {X : Type 0} → Followed X → Type 0
+abbrev pub NoRest : {X : Type 0} → Followed X → Type 0
 NoRest (polls.Asks n) = Unit {0}
 NoRest (Told r ns) = ns ≡ []
 
@@ -80,7 +80,7 @@ module _ {S X : Type 0} (e : Enquiry S X) (closes : Closes e) where
   idle : (s : S) (r : Result X PollFault) → e.ended s ≡ Some r → IsDemand (e.next s) → ⊥
   idle s r h d = no_demand (e.next s) (closes.silent s (subst HasEnded (sym h) tt)) d
 
-  no_rest : (s : S) (o : Option (Result X PollFault)) (ns : List Note) → e.ended s ≡ o → following.Driven e s ns → NoRest (followed e s o ns)
+  pub no_rest : (s : S) (o : Option (Result X PollFault)) (ns : List Note) → e.ended s ≡ o → following.Driven e s ns → NoRest (followed e s o ns)
   no_rest s (Some r) [] h d = refl
   no_rest s (Some r) (Lit ∷ ns) h d = absurd (idle s r h d.0)
   no_rest s (Some r) (Got g ∷ ns) h d = absurd (idle s r h d.0)

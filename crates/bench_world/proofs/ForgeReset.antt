@@ -102,4 +102,4 @@ stops_ended joins id payloads old settled now (inr h) =
 -- so it was cut off as any command is
 pub cut_by : (joins : Joins) (s : State) (id : List ℕ) (payloads : List (List ℕ)) (cut : List Event) (t : State) → ForgeStops joins s (Forge id payloads) cut t → CutOff joins s (Forge id payloads) cut t
 cut_by joins s id payloads cut t (inl f) = inr (inl f)
-cut_by joins s id payloads cut t (inr h) = inr (inr (inr h))
+cut_by joins s id payloads cut t (inr h) = inr (inr (inr (inl h)))

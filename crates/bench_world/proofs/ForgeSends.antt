@@ -60,7 +60,7 @@ module _ (old mid : Air Device) (far half : Choosing FarEnd) (r : Result (InitSt
   }
 
 -- An end that was taken from its place is put back there.
-set_twice : (os : List (Option FarEnd)) (n : ℕ) (x y : Option FarEnd) → slice_set (slice_set os n x) n y ≡ slice_set os n y
+pub set_twice : (os : List (Option FarEnd)) (n : ℕ) (x y : Option FarEnd) → slice_set (slice_set os n x) n y ≡ slice_set os n y
 set_twice [] n x y = refl
 set_twice (o ∷ os) zero x y = refl
 set_twice (o ∷ os) (suc n) x y = ap (λ xs. o ∷ xs) (set_twice os n x y)
@@ -73,7 +73,7 @@ module _ (m : Machines) (air : Air Device) (place : ℕ) (half : Option FarEnd) 
   more v k = if v then m.peers.links ++ record { peer = peer; start = start; end = Some k } ∷ [] else m.peers.links
 
   -- the machines behind payloads that were sent, with one link more where one was opened
-  pub left_is : (sent : Sent) (opened : Bool) → opened ≡ is_ok sent → links ≡ more opened behind → made (slice_set (slice_set m.ends place half) place (Some after)) links ≡ left_by sent m air place after peer start
+  pub left_is : {X : Type 0} (sent : Result X EndCause) (opened : Bool) → opened ≡ is_ok sent → links ≡ more opened behind → made (slice_set (slice_set m.ends place half) place (Some after)) links ≡ left_by sent m air place after peer start
   left_is (Ok came) opened is added =
       ap (λ os. made os links) (set_twice m.ends place half (Some after)) ∙ ap (made (slice_set m.ends place (Some after))) (added ∙ ap (λ v. more v behind) is ∙ ap (more true) behind_is)
   left_is (Err why) opened is added =

@@ -21,7 +21,7 @@ use Rattle.peer_air.specs.PeerFars.{peer_ends}
 use Rattle.peer_air.proofs.PeerEnds.{are_far_ends}
 use Rattle.snep_core.specs.Server.{serving}
 use Rattle.bench_script.specs.declared.command.Command.{Command}
-use Rattle.bench_script.specs.declared.command.Command.TheVariants.{Find, Crowd, Poll3, Read, Read3, Write, Write3, Link, Forge, Put, Get, Lookup, Unlink, OnPut, OnGet, Puts}
+use Rattle.bench_script.specs.declared.command.Command.TheVariants.{Find, Crowd, Poll3, Read, Read3, Write, Write3, Link, Forge, Put, Get, Lookup, Unlink, OnPut, OnGet, Puts, Raw}
 use Rattle.bench_script.specs.declared.command.DeviceId.{DeviceId}
 use Rattle.bench_script.specs.declared.command.DeviceId.TheVariants.{A, V}
 use Rattle.bench_script.specs.DeviceIds.{bytes_of}
@@ -116,6 +116,7 @@ calm_due s g (Write3 id m) es quiet asked each =
     (device_with id s.world.field.listeners) asked es each
 calm_due s g (Link id miu window) es quiet asked each = absurd (quiet tt)
 calm_due s g (Forge id payloads) es quiet asked each = absurd (quiet tt)
+calm_due s g (Raw id frames) es quiet asked each = absurd (quiet tt)
 calm_due s g (Put m) es quiet asked each = absurd (quiet tt)
 calm_due s g (Get most key) es quiet asked each = absurd (quiet tt)
 calm_due s g (Lookup name) es quiet asked each = absurd (quiet tt)
@@ -138,6 +139,7 @@ begins_lit s g (Read3 id) quiet = inr refl
 begins_lit s g (Write3 id message) quiet = inr refl
 begins_lit s g (Link id miu window) quiet = absurd (quiet tt)
 begins_lit s g (Forge id payloads) quiet = absurd (quiet tt)
+begins_lit s g (Raw id frames) quiet = absurd (quiet tt)
 begins_lit s g (Put m) quiet = absurd (quiet tt)
 begins_lit s g (Get most key) quiet = absurd (quiet tt)
 begins_lit s g (Lookup name) quiet = absurd (quiet tt)
@@ -191,6 +193,7 @@ field_after s t g c es quiet front = (does_quietly s t g c es quiet front (begun
 same_peers : (s : State) (joins : Joins) (c : Command) (es : List Event) (told : Option Told) → (UsesFars c → ⊥) → peers_after s joins c es told ≡ (changed s c).peers
 same_peers s joins (Link id miu window) es told quiet = absurd (quiet tt)
 same_peers s joins (Forge id payloads) es told quiet = absurd (quiet tt)
+same_peers s joins (Raw id frames) es told quiet = absurd (quiet tt)
 same_peers s joins (Put m) es told quiet = absurd (quiet tt)
 same_peers s joins (Get most key) es told quiet = absurd (quiet tt)
 same_peers s joins (Lookup name) es told quiet = absurd (quiet tt)
@@ -203,6 +206,7 @@ same_peers s joins c es told quiet = refl
 same_link : (s : State) (joins : Joins) (c : Command) (es : List Event) (told : Option Told) → (UsesFars c → ⊥) → link_after s joins c es told ≡ (changed s c).link
 same_link s joins (Link id miu window) es told quiet = absurd (quiet tt)
 same_link s joins (Forge id payloads) es told quiet = absurd (quiet tt)
+same_link s joins (Raw id frames) es told quiet = absurd (quiet tt)
 same_link s joins (Put m) es told quiet = absurd (quiet tt)
 same_link s joins (Get most key) es told quiet = absurd (quiet tt)
 same_link s joins (Lookup name) es told quiet = absurd (quiet tt)

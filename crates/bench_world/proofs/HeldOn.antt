@@ -278,10 +278,10 @@ module _ (id : DeviceId) (s t : State) (g : Given) (e : Entry) (d : Device) (ste
       subst (λ (x : State). IsAlike (bytes_of id) d x.world.field.listeners) (sym after)
       (beside_found (bytes_of id) (bytes_of i) alone s.world.field.listeners (world_after s g.joins (Write i m) e.events).field.listeners d law.stores.others found)
   by_command (Link i miu window) is alone = let law : LinkingLaw s g.joins i miu window e.events e.answer = law_of (Link i miu window) is in asking_step (Link i miu window) is refl (ap (λ (z : Stable). z.devices) law.stays)
+  by_command (Raw i frames) is alone = absurd (alone tt)
   by_command (Forge i payloads) is alone =
       let law : ForgeLaw s g.joins i payloads e.events e.answer = law_of (Forge i payloads) is in
       asking_step (Forge i payloads) is refl (forge_devices (opens_link i payloads e.events) s g.joins i payloads e.events law.leaves)
-  by_command (Raw i frames) is alone = absurd (law_of (Raw i frames) is)
   by_command (Put m) is alone = talk_step (Does (put_from 0 (message_of m))) (Put m) is refl (law_of (Put m) is)
   by_command (Get most key) is alone = talk_step (Does (Getting client_sap most key)) (Get most key) is refl (law_of (Get most key) is)
   by_command (Lookup name) is alone = talk_step (Does (Finding name)) (Lookup name) is refl (law_of (Lookup name) is)

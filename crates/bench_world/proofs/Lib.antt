@@ -104,3 +104,17 @@ pub mod CutArrivals
 pub mod CutLinks
 pub mod PeersNumbered
 pub mod Gained
+pub mod RawDue
+pub mod RawNotes
+pub mod RawFrames
+pub mod RawParts
+pub mod RawObeyed
+pub mod RawSelected
+pub mod RawHere
+pub mod RawReset
+pub mod RawSending
+pub mod RawGrows
+pub mod RawStories
+pub mod RawStores
+pub mod CompleteRaws
+pub mod RawSends

@@ -1,5 +1,5 @@
 -- The law of links, step by step over a journal.
-use Rattle.std.proofs.Common.{◌≡◌, ℕ, ◌+◌, List, [], ◌∷◌, ◌++◌, map, length, Bool, true, false, if◌then◌else◌, Option, Some, None, IsSome, refl, sym, ◌∙◌, ap, subst}
+use Rattle.std.proofs.Common.{◌≡◌, ℕ, suc, ◌+◌, List, [], ◌∷◌, ◌++◌, map, length, Bool, true, false, if◌then◌else◌, Option, Some, None, IsSome, refl, sym, ◌∙◌, ap, subst}
 use Rattle.std.specs.List.{AllByRecursion}
 use Rattle.std.proofs.lemmas.List.{append-nil, append_assoc, length-append, length-map, map-append}
 use Rattle.nfc_base.specs.declared.event.Event.{Event}
@@ -26,13 +26,19 @@ use Rattle.bench_world.specs.World.{FarEnd, WholeWorld, Stable, bench_air, stabl
 use Rattle.bench_world.specs.Forging.{forged_general, opens_link}
 use Rattle.link_calls.specs.Asking.{LinkAsking, Does, Closes, Finding, Getting, put_from, Putting}
 use Rattle.bench_world.specs.Calls.{AllAdd, OfEnd, asked_behind, told_asked, with_accepted}
-use Rattle.bench_world.specs.Inbox.{inbox_at, inbox_of}
-use Rattle.bench_world.specs.Legal.{State, Given, Joins, Accepts, IsPeerPlaced, AnswerBy, AnswerLaw, ForgeLeaves, FrontOf, LegalStep, EachLegal, begun, changed, due, due_by, end_of, first_state, inbox_now, link_after, link_left, peers_after, peers_forged, peers_left, world_after, state_after}
+use Rattle.bench_world.specs.Inbox.{inbox_at, inbox_of, came_on_link, chosen, told_of}
+use Rattle.bench_world.specs.Legal.{State, Given, Joins, Accepts, IsPeerPlaced, AnswerBy, AnswerLaw, ForgeLeaves, FrontOf, LegalStep, EachLegal, begun, changed, due, due_by, end_of, first_state, inbox_now, link_after, link_left, peers_after, peers_forged, peers_left, world_after, state_after, RawOpensPeer}
+use Rattle.bench_world.specs.Rawing.{raw_opens}
+use Rattle.nfc_base.specs.Signal.{Signal}
+use Rattle.bench_devices.specs.AnyFrame.{peer_place, peers_in}
+use Rattle.bench_world.proofs.RawGrows.{all_grow, all_long}
+use Rattle.bench_world.proofs.RawStories.{raw_stands}
+use Rattle.std.specs.Prelude.{◌≤◌, get_or, not}
 use Rattle.bench_world.specs.Linking.{LinkTells, link_if, own_general}
-use Rattle.bench_world.specs.LinkLaw.{AreCounted, KeepsLinkLaw, LinksAccept, LinkLaw, TellsInbox, by_link, numbers_by_link, opener_of, openers_in, told_by_stories, told_link, told_links, peer_under}
+use Rattle.bench_world.specs.LinkLaw.{gained_aside, AreCounted, KeepsLinkLaw, LinksAccept, LinkLaw, TellsInbox, by_link, numbers_by_link, opener_of, openers_in, told_by_stories, told_link, told_links, peer_under}
 use Rattle.bench_world.specs.Links.{OpenLink, end_numbered, ended, ended_unless, is_with, with_link_if, with_link_within}
 use Rattle.bench_world.specs.Peers.{Peers, new_end, next_number, placed_under}
-use Rattle.bench_world.specs.Stories.{Opener, ByForge, ByLink, Story, Stretch, Beginning, BeginsAndEnds, NothingBegins, beginning, begun_by, first_of, new_story, story_if, story_within, whole_of, last_goes_on, open_goes_on, puts_in, state_from, stretch_of, stories_of}
+use Rattle.bench_world.specs.Stories.{Opener, ByForge, ByLink, Story, Stretch, Beginning, BeginsAndEnds, NothingBegins, beginning, begun_by, first_of, new_story, story_if, story_within, whole_of, last_goes_on, open_goes_on, puts_in, state_from, stretch_of, stories_of, accepted_of, ByRaw}
 use Rattle.bench_world.proofs.Talks.{on_link, still_on}
 use Rattle.bench_world.proofs.AtNumbers.{AreHeld, Held, held, held_at, at_number, held_offered, held_under, at_own_place, more_held, same_held, with_held}
 use Rattle.bench_world.proofs.FarStays.{far_stay}
@@ -54,7 +60,7 @@ use Rattle.bench_world.proofs.StoriesStep.{as_many_held, as_many_offered, as_man
 use Rattle.bench_world.proofs.StoriesWithin.{within_stands}
 use Rattle.bench_world.proofs.Unlinking.{count_ended, same_numbers}
 use Rattle.bench_world.proofs.Tales.{goes_on, stories_behind, stories_from}
-use Rattle.bench_world.specs.ByPayloads.{IsByPayloads}
+use Rattle.bench_world.specs.ByPayloads.{IfPayloads, IsByPayloads}
 use Rattle.bench_world.proofs.SameStories.{same_from}
 
 abbrev pub view_by : Peers → List (Option Held) → View
@@ -216,6 +222,32 @@ module _ (w : WholeWorld) (q : List Fate) (p : Peers) (ys : List Story) (o : Opt
       let now : WholeWorld = world_after forged_from g.joins forged es in
       reset w q p ys o stand g told forged es (ap (λ v. if v then BeginsAndEnds ByForge id forged_general else NothingBegins) unopened) refl refl
       (ap (λ v. peers_forged v forged_from (DeviceId.A id) now.fars) unopened) refl (same_held now w (ap (λ (z : Stable). z.ends) stays))
+
+-- Frames of a script's own were sent, whether that is answered or cut off.
+pub same_many : (ds es : List Device) → AllStayDevices ds es → length es ≡ length ds
+same_many [] [] stay = refl
+same_many [] (e ∷ es) stay = absurd stay
+same_many (d ∷ ds) [] stay = absurd stay
+same_many (d ∷ ds) (e ∷ es) stay = ap suc (same_many ds es stay.1)
+
+module _ (w : WholeWorld) (q : List Fate) (p : Peers) (ys : List Story) (o : Option OpenLink) (stand : Stand (record { world = w; queue = q; peers = p; link = o }) ys) (g : Given) (told : Option Answer)
+    (id : DeviceId) (frames : List Signal) (es : List Event) where
+  abbrev raw_from : State
+  raw_from = record { world = w; queue = q; peers = p; link = o }
+
+  abbrev raws : Command
+  raws = Raw id frames
+
+  abbrev raw_then : State
+  raw_then = state_after raw_from g.joins raws es told
+
+  pub raw_after : peers_in w.field.listeners ≤ 1 → RawOpensPeer raw_from id frames es → Stand raw_then (stories_behind raw_from (record { command = raws; joins = g.joins; events = es; told = told }) raw_then ys)
+  raw_after few opens =
+      let first : WholeWorld = begun raw_from g.joins raws in
+      let now : WholeWorld = world_after raw_from g.joins raws es in
+      let many : length now.fars ≡ length w.fars = all_long es first stand.places.fars ∙ same_many w.field.listeners now.field.listeners (far_stay es first).stay ∙ sym stand.places.fars in
+      raw_stands w q p ys o stand g.joins told id frames es few raw_then (all_grow es (peer_place w.field.listeners) first stand.places.fars few refl) refl refl
+      (places_behind w q p ys o stand g told raws es p.numbers refl many refl) opens
 
 -- Commands on the link that is open.
 module _ (w : WholeWorld) (q : List Fate) (p : Peers) (ys : List Story) (l : OpenLink) (stand : Stand (record { world = w; queue = q; peers = p; link = Some l }) ys) (g : Given) (told : Option Answer) where
@@ -391,7 +423,7 @@ module _ (w : WholeWorld) (q : List Fate) (p : Peers) (ys : List Story) (g : Giv
       by : (v : Bool) → opens_link id payloads es ≡ v → ForgeLeaves v (from o) g.joins id payloads es → so o (Forge id payloads) es (state_after (from o) g.joins (Forge id payloads) es (Some a))
       by true opened sends = forge_sent w q p ys o stand g (Some a) id payloads es opened sends.peer sends.placed sends.more sends.ends
       by false unopened stays = forge_unsent w q p ys o stand g (Some a) id payloads es unopened stays
-  step_by o (Raw id frames) es t stand front law = absurd law
+  step_by o (Raw id frames) es t stand front law = after_front o (Raw id frames) es t front (raw_after w q p ys o stand g (Some a) id frames es front.accepted.one law.opens)
   step_by o (Put m) es t stand front law = talk_by o (Does (put_from 0 (message_of m))) (Put m) refl es t stand front law
   step_by o (Get most key) es t stand front law = talk_by o (Does (Getting client_sap most key)) (Get most key) refl es t stand front law
   step_by o (Lookup name) es t stand front law = talk_by o (Does (Finding name)) (Lookup name) refl es t stand front law
@@ -433,7 +465,7 @@ all_last M go same (y ∷ z ∷ ys) = ap (λ zs. M y ++ zs) (all_last M go same 
 
 -- what no stretch changes of a story, and an entry tells of the one that begins in it
 module _ {X : Type 0} (M : Story → List X) (E : Command → List Event → Answer → List X) (goes : (s t : State) (x : Stretch) (y : Story) → M (goes_on s x t y) ≡ M y)
-    (begins : (s t : State) (g : Given) (c : Command) (es : List Event) (a : Answer) (zs : List Story) → Stand t zs → FrontOf s g c es (Some a) t → AnswerLaw s g c es a
+    (begins : (s t : State) (g : Given) (c : Command) (es : List Event) (a : Answer) (ys zs : List Story) → Stand s ys → Stand t zs → FrontOf s g c es (Some a) t → AnswerLaw s g c es a
     → all_of M (begun_by (beginning c es (Some a)) (goes_on s (record { command = c; joins = g.joins; events = es; told = Some a }) t) s t) ≡ E c es a) where
   open_all : (o : Option OpenLink) (s t : State) (x : Stretch) (ys : List Story) → all_of M (open_goes_on o (goes_on s x t) ys) ≡ all_of M ys
   open_all None s t x ys = refl
@@ -445,7 +477,7 @@ module _ {X : Type 0} (M : Story → List X) (E : Command → List Event → Ans
       let x : Stretch = stretch_of g.joins e in
       let begun : List Story = begun_by (beginning e.command e.events (Some e.answer)) (goes_on s x t) s t in
       all_append M (open_goes_on (changed s e.command).link (goes_on s x t) ys) begun ∙ ap (λ zs. zs ++ all_of M begun) (open_all (changed s e.command).link s t x ys)
-      ∙ ap (λ zs. all_of M ys ++ zs) (begins s t g e.command e.events e.answer (stories_behind s x t ys) (step s t g e ys stand legal) legal.front legal.answered)
+      ∙ ap (λ zs. all_of M ys ++ zs) (begins s t g e.command e.events e.answer ys (stories_behind s x t ys) stand (step s t g e ys stand legal) legal.front legal.answered)
 
   all_along : (s t : State) (gs : List Given) (es : List Entry) (ys : List Story) → Stand s ys → EachLegal s gs es t
       → all_of M (stories_from s ys (map (λ (g : Given). g.joins) gs) es) ≡ all_of M ys ++ of_entries E es
@@ -507,21 +539,50 @@ forge_number : (v : Bool) → (let none : List ℕ = [] in (if v then none else 
 forge_number true = refl
 forge_number false = refl
 
-begun_openers : (s t : State) (g : Given) (c : Command) (es : List Event) (a : Answer) (zs : List Story) → Stand t zs → FrontOf s g c es (Some a) t → AnswerLaw s g c es a
+-- Where a link of frames of a script's own begins one story does.
+raw_one : {X : Type 0} (M : Story → List X) (s t : State) (x : Stretch) (n peer : ℕ) (o : Option FarEnd) (k : Held) → held o ≡ Some k → (xs : List X)
+    → ((n peer : ℕ) (end : FarEnd) → M (goes_on s x t (new_story n ByRaw peer forged_general end)) ≡ xs)
+    → all_of M (whole_of ByRaw forged_general n peer o (goes_on s x t)) ≡ xs
+raw_one M s t x n peer None k is xs same = absurd cc
+raw_one M s t x n peer (Some old) k is xs same = ap (λ zs. zs ++ []) (same n peer (restarted serving old forged_general)) ∙ append-nil xs
+
+raw_all : {X : Type 0} (M : Story → List X) (s t : State) (ys : List Story) → Stand s ys → (x : Stretch) (id : DeviceId) (v : Bool) → (v ≡ true → IsPeerPlaced s id) → (xs : List X)
+    → ((n peer : ℕ) (end : FarEnd) → M (goes_on s x t (new_story n ByRaw peer forged_general end)) ≡ xs)
+    → all_of M (begun_by (if v then BeginsAndEnds ByRaw (bytes_of id) forged_general else NothingBegins) (goes_on s x t) s t) ≡ (if v then xs else [])
+raw_all M s t ys stand x id false peer xs same = refl
+raw_all M s t ys stand x id true peer xs same =
+    let ds : List Device = s.world.field.listeners in
+    let number = number_under (bytes_of id) ds s.peers.numbers stand.places.numbers (peer refl) in
+    let both = base_held (view_of s) s.link ys stand.stand in
+    let there = at_own_place number.0 (next_number s.peers) (bytes_of id) ds s.peers.numbers (map held s.world.fars) both.0 both.1 number.1 in
+    ap (λ o. all_of M (story_within ByRaw forged_general o (goes_on s x t) s)) number.1
+    ∙ raw_one M s t x (length s.peers.links + 1) number.0 (end_numbered number.0 s.peers.numbers s.world.fars) there.0 (held_at number.0 s.peers.numbers s.world.fars ∙ there.1) xs same
+
+raw_opener : (v : Bool) (id : DeviceId) → (if v then ByRaw ∷ [] else []) ≡ opener_of (if v then BeginsAndEnds ByRaw (bytes_of id) forged_general else NothingBegins)
+raw_opener true id = refl
+raw_opener false id = refl
+
+begun_openers : (s t : State) (g : Given) (c : Command) (es : List Event) (a : Answer) (ys zs : List Story) → Stand s ys → Stand t zs → FrontOf s g c es (Some a) t → AnswerLaw s g c es a
     → all_of opener_in (begun_by (beginning c es (Some a)) (goes_on s (record { command = c; joins = g.joins; events = es; told = Some a }) t) s t) ≡ opener_told c es a
-begun_openers s t g (Link id miu window) es (answers.Linked n) zs stand front law = ap (all_of opener_in) (linked_one s t g id miu window es n zs stand front law).2
-begun_openers s t g (Forge id payloads) es a zs stand front law =
+begun_openers s t g (Link id miu window) es (answers.Linked n) ys zs before stand front law = ap (all_of opener_in) (linked_one s t g id miu window es n zs stand front law).2
+begun_openers s t g (Forge id payloads) es a ys zs before stand front law =
     forge_all opener_in s t (record { command = Forge id payloads; joins = g.joins; events = es; told = Some a }) id payloads (opens_link id payloads es) law.leaves (ByForge ∷ []) (λ n peer end. refl)
     ∙ forge_opener (opens_link id payloads es) id
-begun_openers s t g c es a zs stand front law = refl
+begun_openers s t g (Raw id frames) es a ys zs before stand front law =
+    raw_all opener_in s t ys before (record { command = Raw id frames; joins = g.joins; events = es; told = Some a }) id (raw_opens id frames es) law.opens (ByRaw ∷ []) (λ n peer end. refl)
+    ∙ raw_opener (raw_opens id frames es) id
+begun_openers s t g c es a ys zs before stand front law = refl
 
-begun_numbers : (s t : State) (g : Given) (c : Command) (es : List Event) (a : Answer) (zs : List Story) → Stand t zs → FrontOf s g c es (Some a) t → AnswerLaw s g c es a
+begun_numbers : (s t : State) (g : Given) (c : Command) (es : List Event) (a : Answer) (ys zs : List Story) → Stand s ys → Stand t zs → FrontOf s g c es (Some a) t → AnswerLaw s g c es a
     → all_of linked_in (begun_by (beginning c es (Some a)) (goes_on s (record { command = c; joins = g.joins; events = es; told = Some a }) t) s t) ≡ told_link c a
-begun_numbers s t g (Link id miu window) es (answers.Linked n) zs stand front law = ap (all_of linked_in) (linked_one s t g id miu window es n zs stand front law).2
-begun_numbers s t g (Forge id payloads) es a zs stand front law =
+begun_numbers s t g (Link id miu window) es (answers.Linked n) ys zs before stand front law = ap (all_of linked_in) (linked_one s t g id miu window es n zs stand front law).2
+begun_numbers s t g (Forge id payloads) es a ys zs before stand front law =
     forge_all linked_in s t (record { command = Forge id payloads; joins = g.joins; events = es; told = Some a }) id payloads (opens_link id payloads es) law.leaves [] (λ n peer end. refl)
     ∙ forge_number (opens_link id payloads es)
-begun_numbers s t g c es a zs stand front law = refl
+begun_numbers s t g (Raw id frames) es a ys zs before stand front law =
+    raw_all linked_in s t ys before (record { command = Raw id frames; joins = g.joins; events = es; told = Some a }) id (raw_opens id frames es) law.opens [] (λ n peer end. refl)
+    ∙ forge_number (raw_opens id frames es)
+begun_numbers s t g c es a ys zs before stand front law = refl
 
 openers_are : (ys : List Story) → all_of opener_in ys ≡ map (λ (y : Story). y.opener) ys
 openers_are [] = refl
@@ -552,7 +613,8 @@ all_numbers s t gs es stand legal =
     ∙ all_along linked_in (λ c events a. told_link c a) (λ s t x y. refl) begun_numbers s t gs es [] stand legal ∙ numbers_told es
 
 -- An inbox on the way.
-inbox_so : (v : View) (o : Option OpenLink) (ys : List Story) → StandBy v o ys → (peer : ℕ) (k : Held) → at v peer ≡ Some k → inbox_of v.links peer k.accepted ≡ told_by_stories ys peer
+inbox_so : (v : View) (o : Option OpenLink) (ys : List Story) → StandBy v o ys → (peer : ℕ) (k : Held) → at v peer ≡ Some k
+    → inbox_of v.links peer k.accepted ≡ told_of 0 (chosen (λ n. not (came_on_link v.links peer n)) 0 k.accepted) ++ told_by_stories ys peer
 inbox_so v None ys stand peer k found = closed_told v peer k found ys stand
 inbox_so v (Some l) ys stand peer k found = open_told v peer k found l.peer ys stand
 
@@ -562,7 +624,11 @@ end_there links peer k (Some end) is =
     let same : record { limit = end.service.limit; accepted = end.service.accepted } ≡ k = cc in
     ap (λ (h : Held). inbox_of links peer h.accepted) same
 
-inbox_told : (s : State) (ys : List Story) (id : DeviceId) (peer : ℕ) → Stand s ys → peer_under id s ≡ Some peer → inbox_now s id ≡ told_by_stories ys peer
+accepted_as : (o stayed : Option FarEnd) (k : Held) → held o ≡ Some k → accepted_of o stayed ≡ k.accepted
+accepted_as None stayed k is = absurd cc
+accepted_as (Some end) stayed k is = let same : record { limit = end.service.limit; accepted = end.service.accepted } ≡ k = cc in ap (λ (h : Held). h.accepted) same
+
+inbox_told : (s : State) (ys : List Story) (id : DeviceId) (peer : ℕ) → Stand s ys → peer_under id s ≡ Some peer → inbox_now s id ≡ told_of 0 (gained_aside s peer) ++ told_by_stories ys peer
 inbox_told s ys id peer stand is =
     let ds : List Device = s.world.field.listeners in
     let both = base_held (view_of s) s.link ys stand.stand in
@@ -570,6 +636,8 @@ inbox_told s ys id peer stand is =
     let end : Option FarEnd = placed_under (bytes_of id) ds s.world.fars in
     ap (λ n. inbox_at s.peers.links n end) is ∙ end_there s.peers.links peer there.0 end (sym (held_under (bytes_of id) ds s.world.fars) ∙ there.2)
     ∙ inbox_so (view_of s) s.link ys stand.stand peer there.0 there.1
+    ∙ ap (λ xs. told_of 0 (chosen (λ n. not (came_on_link s.peers.links peer n)) 0 xs) ++ told_by_stories ys peer)
+    (sym (accepted_as (end_numbered peer s.peers.numbers s.world.fars) (get_or s.peers.gone peer None) there.0 (held_at peer s.peers.numbers s.world.fars ∙ there.1)))
 
 inbox_here : (s t : State) (g : Given) (e : Entry) (ys : List Story) (id : DeviceId) → Stand s ys → LegalStep s g e t → e.command ≡ Inbox id → TellsInbox s ys id e.answer
 inbox_here s t g e ys id stand legal is =
@@ -591,7 +659,7 @@ inbox_along s t (g ∷ gs) (b ∷ before) e behind ys id stand legal is =
 
 -- The law.
 pub first_stand : Stand first_state []
-first_stand = record { places = record { fars = refl; numbers = tt }; stand = record { done = []; base = record { held = tt; apart = tt; each = tt; covered = λ p. tt; counted = tt }; links = refl; told = refl } }
+first_stand = record { places = record { fars = refl; numbers = tt }; stand = record { done = []; base = record { held = tt; apart = tt; each = tt; counted = tt }; links = refl; told = refl } }
 
 pub all_keep : (v : View) (o : Option OpenLink) (ys : List Story) → StandBy v o ys → AllByRecursion KeepsLinkLaw ys × AreCounted 1 ys
 all_keep v None ys stand = (closed_keep v ys stand, stand.base.counted)
@@ -608,7 +676,7 @@ link_law lines numbers journal last leads =
     same_from step first_state last leads.given journal [] [] first_stand (subst (λ es. EachLegal first_state leads.given es last) (sym (append-nil journal)) leads.steps) in
     record {
       accept = subst (AllByRecursion KeepsLinkLaw) (sym whole) all.0;
-      arrived = subst (AllByRecursion IsByPayloads) (sym whole) (steps_kept first_state leads.given journal last [] (record { all = tt; going = tt }) leads.steps);
+      arrived = subst (AllByRecursion (IfPayloads IsByPayloads)) (sym whole) (steps_kept first_state leads.given journal last [] (record { all = tt; going = tt }) leads.steps);
       opened = ap (map (λ (y : Story). y.opener)) whole ∙ all_openers first_state last leads.given journal first_stand leads.steps;
       linked = ap numbers_by_link whole ∙ all_numbers first_state last leads.given journal first_stand leads.steps;
       counted = subst (AreCounted 1) (sym whole) all.1;

@@ -1,5 +1,6 @@
 -- What happened decides what a command that polls answers.
 use Rattle.bench_world.specs.Forging.{ForgeEnds, ForgeTells}
+use Rattle.bench_world.specs.Rawing.{RawEnds, RawTells}
 use Rattle.std.proofs.Common.{◌≡◌, ℕ, List, [], ◌∷◌, Option, Some, None, Result, Ok, Err, sym, ◌∙◌, ap, subst}
 use Rattle.nfc_base.specs.Signal.{Signal}
 use Rattle.nfc_base.specs.declared.event.Event.{Event}
@@ -201,6 +202,16 @@ one_forge_end payloads (Ok seen.T2) behind a b p q = p ∙ sym q
 one_forge_end payloads (Ok seen.T4) behind a b p q = p ∙ sym q
 one_forge_end payloads (Ok seen.T5) behind a b p q = p ∙ sym q
 one_forge_end payloads (Err e) behind a b p q = same_some a b (sym p ∙ q)
+
+one_raw_end : (frames : List Signal) (r : Result SeenKind PollFault) (behind : List Note) → AtMostOne (RawEnds frames r behind)
+one_raw_end frames (Ok kind) behind a b p q = same_some a b (sym p ∙ q)
+one_raw_end frames (Err e) behind a b p q = same_some a b (sym p ∙ q)
+
+pub one_raw : (id : DeviceId) (ds : List Device) (frames : List Signal) (events : List Event) (a b : Answer) → RawTells id ds frames events a → RawTells id ds frames events b → a ≡ b
+one_raw id ds frames events a b p q =
+    let same = one_end p.polled q.polled p.behind q.behind (sym p.selected ∙ q.selected) in
+    let ends : RawEnds frames p.polled p.behind b = subst (λ ns. RawEnds frames p.polled ns b) (sym same.1) (subst (λ r. RawEnds frames r q.behind b) (sym same.0) q.ends) in
+    one_raw_end frames p.polled p.behind a b p.ends ends
 
 pub one_forge : (id : List ℕ) (ds : List Device) (payloads : List (List ℕ)) (events : List Event) (a b : Answer) → ForgeTells id ds payloads events a → ForgeTells id ds payloads events b → a ≡ b
 one_forge id ds payloads events a b p q =

@@ -43,7 +43,7 @@ use Rattle.bench_world.specs.Journal.{NumberedLine, AreEntriesOf, asking_lines, 
 use Rattle.bench_world.specs.SameCommands.{SameCommands}
 use Rattle.bench_script.proofs.Spelling.{spells_one}
 use Rattle.tag_reader.proofs.Lists.{one_list}
-use Rattle.bench_world.proofs.OneAnswer.{one_read, one_write, one_find, one_tags, one_three, one_threes, one_forge, one_link, one_told_so, one_linked}
+use Rattle.bench_world.proofs.OneAnswer.{one_read, one_write, one_find, one_tags, one_three, one_threes, one_forge, one_raw, one_link, one_told_so, one_linked}
 use Rattle.air_core.proofs.OneCourse.{one_course}
 
 one_asked_of : (o : Option Device) (a b : List Signal) → IfPlaced (λ d. ReadAsks d a) (a ≡ []) o → IfPlaced (λ d. ReadAsks d b) (b ≡ []) o → a ≡ b
@@ -129,7 +129,7 @@ one_answer s (Read id) g events a b p q = one_read id s.world.field.listeners g.
 one_answer s (Write id m) g events a b p q = one_write id s.world.field.listeners (message_of m) g.asked events a b p.tells q.tells
 one_answer s (Link id miu window) g events a b p q = one_link (A id) s.world.field.listeners (length s.peers.links + 1) (own_general miu) events a b p.tells q.tells
 one_answer s (Forge id payloads) g events a b p q = one_forge id s.world.field.listeners payloads events a b p.tells q.tells
-one_answer s (Raw id frames) g events a b p q = absurd p
+one_answer s (Raw id frames) g events a b p q = one_raw id s.world.field.listeners frames events a b p.tells q.tells
 one_answer s (Put m) g events a b p q = one_called (Does (put_from 0 (message_of m))) s (Put m) g events a b p q
 one_answer s (Get most key) g events a b p q = one_called (Does (Getting client_sap most key)) s (Get most key) g events a b p q
 one_answer s (Lookup name) g events a b p q = one_called (Does (Finding name)) s (Lookup name) g events a b p q

@@ -25,19 +25,20 @@ use Rattle.bench_world.specs.declared.entry.Answer.TheVariants as answers
 use Rattle.bench_world.specs.declared.entry.Entry.{Entry}
 use Rattle.bench_world.specs.World.{FarEnd, bench_air}
 use Rattle.bench_world.specs.Arriving.{ArrivesAt}
-use Rattle.bench_world.specs.ByPayloads.{IsByPayloads}
+use Rattle.bench_world.specs.ByPayloads.{IsByPayloads, IfPayloads}
 use Rattle.link_calls.specs.Asking.{LinkAsking, Does, Closes, Finding, Getting, put_from, Putting}
 use Rattle.bench_world.specs.Asked.{asked_on_link, slot_messages}
 use Rattle.bench_world.specs.Calls.{IfLinked, asked_behind, call_behind, link_behind, stands_on}
 use Rattle.bench_world.specs.Legal.{State, Given, AnswerBy, AnswerLaw, CallLaw, EachLegal, ForgeLeaves, LinkingLaw, begun, changed, due, is_linked_to, link_after, link_left, peers_left, state_after, unlinked, world_after}
 use Rattle.bench_world.specs.Linking.{link_if, own_general}
 use Rattle.bench_world.specs.Links.{OpenLink, begun_if, end_numbered, ended_unless, is_number, is_with}
+use Rattle.bench_world.specs.Rawing.{raw_opens}
 use Rattle.bench_world.specs.Peers.{Peers, end_offered, new_end, next_number, placed_under, with_place_changed, without_place}
-use Rattle.bench_world.specs.Stories.{ByForge, Story, Stretch, Beginning, BeginsAndEnds, NothingBegins, beginning, begun_by, open_goes_on, stretch_of}
+use Rattle.bench_world.specs.Stories.{ByForge, ByRaw, Story, Stretch, Beginning, BeginsAndEnds, NothingBegins, beginning, begun_by, open_goes_on, stretch_of}
 use Rattle.bench_world.proofs.PayloadsOn.{IsOffered, Kept, begun_kept, came_kept, none_kept, stays_kept}
 use Rattle.bench_world.specs.Forging.{forged_general, opens_link}
 use Rattle.bench_world.proofs.ForgeLeft.{forged_numbers}
-use Rattle.bench_world.proofs.PayloadsWithin.{begun_payloads, over_kept}
+use Rattle.bench_world.proofs.PayloadsWithin.{begun_payloads, over_kept, raw_within}
 use Rattle.bench_world.proofs.HeldOn.{nothing_sent}
 use Rattle.bench_world.proofs.OnLink.{none_numbered}
 use Rattle.bench_world.proofs.Unlinking.{same_numbers}
@@ -323,7 +324,16 @@ module _ (s : State) (g : Given) (ys : List Story) (h : KeptIn s ys) where
           (begun_payloads s t (stretch c es answer) ByForge (length s.peers.links + 1) sends.peer forged_general (forged_numbers (opens_link id payloads es) s (A id) (world_after s g.joins c es).fars) id
           (ap (λ v. if v then BeginsAndEnds ByForge id forged_general else NothingBegins) opened) sends.placed refl sends.came)
       by false unopened stays = none_open (Forge id payloads) es answer refl refl (ap (λ v. if v then BeginsAndEnds ByForge id forged_general else NothingBegins) unopened)
-  step_kept (Raw id frames) es answer turns each law = absurd law
+  step_kept (Raw id frames) es answer turns each law = by (raw_opens id frames es) refl
+    where
+      by : (v : Bool) → raw_opens id frames es ≡ v → Goal (Raw id frames) es answer
+      by true opened =
+          let c : Command = Raw id frames in
+          let t : State = behind c es answer in
+          over_kept s t (stretch c es answer) ys h.all refl refl
+          (subst (λ (b : Beginning). AllByRecursion (IfPayloads IsByPayloads) (begun_by b (goes_on s (stretch c es answer) t) s t)) (sym (ap (λ v. if v then BeginsAndEnds ByRaw (bytes_of id) forged_general else NothingBegins) opened))
+          (raw_within IsByPayloads s t (stretch c es answer) forged_general (placed_under (bytes_of id) s.world.field.listeners s.peers.numbers)))
+      by false unopened = none_open (Raw id frames) es answer refl refl (ap (λ v. if v then BeginsAndEnds ByRaw (bytes_of id) forged_general else NothingBegins) unopened)
   step_kept (Put m) es answer turns each law = plain (Put m) es answer refl (talk_kept (Does (put_from 0 (message_of m))) (Put m) es answer refl law)
   step_kept (Get most key) es answer turns each law = plain (Get most key) es answer refl (talk_kept (Does (Getting client_sap most key)) (Get most key) es answer refl law)
   step_kept (Lookup name) es answer turns each law = plain (Lookup name) es answer refl (talk_kept (Does (Finding name)) (Lookup name) es answer refl law)
@@ -344,5 +354,5 @@ kept_along s (g ∷ gs) (e ∷ es) t ys h (mid, step, rest) =
     kept_along now gs es t (stories_behind s (stretch_of g.joins e) now ys) one (subst (λ x. EachLegal x gs es t) step.front.after rest)
 
 pub steps_kept : (s : State) (gs : List Given) (es : List Entry) (t : State) (ys : List Story) → KeptIn s ys → EachLegal s gs es t
-    → AllByRecursion IsByPayloads (stories_from s ys (map (λ (g : Given). g.joins) gs) es)
+    → AllByRecursion (IfPayloads IsByPayloads) (stories_from s ys (map (λ (g : Given). g.joins) gs) es)
 steps_kept s gs es t ys h legal = (kept_along s gs es t ys h legal).all

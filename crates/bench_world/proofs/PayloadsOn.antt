@@ -17,11 +17,11 @@ use Rattle.bench_world.specs.declared.entry.Answer.{Answer}
 use Rattle.bench_world.specs.World.{FarEnd}
 use Rattle.bench_world.specs.Arrivals.{Arrival, arrival_marks, arrivals_of, end_behind, giving_values, payloads_of}
 use Rattle.bench_world.specs.Arriving.{ArrivesAt, BeginsAt}
-use Rattle.bench_world.specs.ByPayloads.{AcceptsUntil, IsByPayloads, Place, end_there, marks_there}
+use Rattle.bench_world.specs.ByPayloads.{IfOpenedBy, IfPayloads, AcceptsUntil, IsByPayloads, Place, end_there, marks_there}
 use Rattle.bench_world.specs.Calls.{IfLinked, OfEnd}
 use Rattle.bench_world.specs.Legal.{State, Joins}
 use Rattle.bench_world.specs.Links.{OpenLink, end_numbered}
-use Rattle.bench_world.specs.Stories.{ByLink, Story, Stretch, arrived_by, brought_by, first_of, last_goes_on, new_story, open_goes_on, story_if, values_in, values_of}
+use Rattle.bench_world.specs.Stories.{Opener, ByForge, ByRaw, ByLink, Story, Stretch, arrived_by, brought_by, first_of, last_goes_on, new_story, open_goes_on, story_if, values_in, values_of}
 use Rattle.bench_world.proofs.CountedOn.{brought_on, counted_on}
 use Rattle.bench_world.proofs.PutsTold.{accepted_more}
 use Rattle.bench_world.proofs.ServerRuns.{AreOfBytes, answered_is, arrivals_front, arrivals_put, behind_then, bytes_are, bytes_then, payloads_are, payloads_then, place_front, place_puts}
@@ -188,24 +188,36 @@ pub record On (l : OpenLink) (s : State) (ys : List Story) : Type 0 where
   pub split : ys ≡ before ++ last ∷ []
   pub on : OnLink l s last
 
+-- what is said of each story by its payloads
+abbrev pub KeepsPayloads : Story → Type 0
+KeepsPayloads y = IfPayloads IsByPayloads y
+
+pub if_opened : (P : Type 0) (o : Opener) → P → IfOpenedBy o P
+if_opened P ByLink p = p
+if_opened P ByForge p = p
+if_opened P ByRaw p = tt
+
+pub keeps_payloads : (y : Story) → IsByPayloads y → KeepsPayloads y
+keeps_payloads y h = if_opened (IsByPayloads y) y.opener h
+
 -- all are by payloads, and that of the open link goes on
 pub record Kept (o : Option OpenLink) (s : State) (ys : List Story) : Type 0 where
-  pub all : AllByRecursion IsByPayloads ys
+  pub all : AllByRecursion KeepsPayloads ys
   pub going : IfLinked o (λ l. On l s ys) (Unit {0})
 
-all_front : (before : List Story) (y : Story) → AllByRecursion IsByPayloads (before ++ y ∷ []) → AllByRecursion IsByPayloads before
+all_front : (before : List Story) (y : Story) → AllByRecursion KeepsPayloads (before ++ y ∷ []) → AllByRecursion KeepsPayloads before
 all_front [] y h = tt
 all_front (x ∷ before) y h = (h.0, all_front before y h.1)
 
 on_payloads : (l : OpenLink) (s : State) (y : Story) → OnLink l s y → IsByPayloads y
 on_payloads l s y on = by_payloads y on.old on.begins on.bytes on.payloads on.accepted
 
-all_weaker : (P : Story → Type 0) → ((y : Story) → IsByPayloads y → P y) → (ys : List Story) → AllByRecursion IsByPayloads ys → AllByRecursion P ys
+all_weaker : (P : Story → Type 0) → ((y : Story) → KeepsPayloads y → P y) → (ys : List Story) → AllByRecursion KeepsPayloads ys → AllByRecursion P ys
 all_weaker P weaker [] all = tt
 all_weaker P weaker (y ∷ ys) all = (weaker y all.0, all_weaker P weaker ys all.1)
 
 -- where no link is open all stay as they are
-pub all_with : (o : Option OpenLink) (s : State) (ys : List Story) → Kept o s ys → (P : Story → Type 0) → ((y : Story) → IsByPayloads y → P y) → AllByRecursion P ys
+pub all_with : (o : Option OpenLink) (s : State) (ys : List Story) → Kept o s ys → (P : Story → Type 0) → ((y : Story) → KeepsPayloads y → P y) → AllByRecursion P ys
 all_with o s ys h P weaker = all_weaker P weaker ys h.all
 
 -- the last one goes on, and is that of the link that is open then, if one is
@@ -216,20 +228,20 @@ module _ (l : OpenLink) (s : State) (ys : List Story) (h : Kept (Some l) s ys) (
   goes : last_goes_on go ys ≡ h.going.before ++ go last ∷ []
   goes = ap (last_goes_on go) h.going.split ∙ last_story go h.going.before last
 
-  front : AllByRecursion IsByPayloads h.going.before
-  front = all_front h.going.before last (subst (AllByRecursion IsByPayloads) h.going.split h.all)
+  front : AllByRecursion KeepsPayloads h.going.before
+  front = all_front h.going.before last (subst (AllByRecursion KeepsPayloads) h.going.split h.all)
 
   -- what holds of all that are by payloads, and of the last
-  pub all_and_last : (P : Story → Type 0) → ((y : Story) → IsByPayloads y → P y) → P (go last) → AllByRecursion P (last_goes_on go ys)
+  pub all_and_last : (P : Story → Type 0) → ((y : Story) → KeepsPayloads y → P y) → P (go last) → AllByRecursion P (last_goes_on go ys)
   all_and_last P weaker one = subst (AllByRecursion P) (sym goes) (all_more P h.going.before (go last) (all_weaker P weaker h.going.before front) one)
 
-  ended_kept : (t : State) → IsByPayloads (go last) → Kept None t (last_goes_on go ys)
-  ended_kept t one = subst (Kept None t) (sym goes) (record { all = all_more IsByPayloads h.going.before (go last) front one; going = tt })
+  ended_kept : (t : State) → KeepsPayloads (go last) → Kept None t (last_goes_on go ys)
+  ended_kept t one = subst (Kept None t) (sym goes) (record { all = all_more KeepsPayloads h.going.before (go last) front one; going = tt })
 
   going_kept : (k : OpenLink) (t : State) → OnLink k t (go last) → Kept (Some k) t (last_goes_on go ys)
   going_kept k t on =
       subst (Kept (Some k) t) (sym goes) (record {
-        all = all_more IsByPayloads h.going.before (go last) front (on_payloads k t (go last) on);
+        all = all_more KeepsPayloads h.going.before (go last) front (keeps_payloads (go last) (on_payloads k t (go last) on));
         going = record { before = h.going.before; last = go last; split = refl; on = on };
       })
 
@@ -297,7 +309,7 @@ came_kept l s t x ys now h numbers came peer = by now came.going peer
 
     by : (now : Option OpenLink) → IfLinked now (λ k. (end_numbered l.peer s.peers.numbers t.world.fars ≡ Some came.new.end) × IsCounted l.initiator.core.number x.events k.initiator.core.number) (Unit {0})
         → ((k : OpenLink) → now ≡ Some k → k.peer ≡ l.peer) → Kept now t (last_goes_on (goes_on s x t) ys)
-    by None g p = ended_kept l s ys h (goes_on s x t) t (more_payloads l.initiator.core.number s y (up_to l s y on) x came.arrives.bytes t accepted)
+    by None g p = ended_kept l s ys h (goes_on s x t) t (keeps_payloads (goes_on s x t y) (more_payloads l.initiator.core.number s y (up_to l s y on) x came.arrives.bytes t accepted))
     by (Some k) g p =
         going_kept l s ys h (goes_on s x t) k t
         (more_on l.initiator.core.number s y (up_to l s y on) x came.arrives.bytes t accepted k g.1 (on.own ∙ sym (p k refl)) on.table
@@ -308,7 +320,7 @@ pub none_kept : (o : Option OpenLink) (s t : State) (ys : List Story) → Kept o
 none_kept o s t ys h = record { all = h.all; going = tt }
 
 -- a link begins, if one does
-pub begun_kept : (o : Option OpenLink) (s t : State) (number : ℕ) (general : List ℕ) (ys : List Story) → AllByRecursion IsByPayloads ys → t.peers.numbers ≡ s.peers.numbers
+pub begun_kept : (o : Option OpenLink) (s t : State) (number : ℕ) (general : List ℕ) (ys : List Story) → AllByRecursion KeepsPayloads ys → t.peers.numbers ≡ s.peers.numbers
     → IfLinked o (λ l. BeginsAt l general s.peers.numbers s.world.fars t.world.fars) (Unit {0}) → ((l : OpenLink) → o ≡ Some l → l.initiator.core.number ≡ 0)
     → Kept o t (ys ++ story_if number general o t)
 begun_kept None s t number general ys all numbers begins first = subst (Kept None t) (sym (append-nil ys)) (record { all = all; going = tt })
@@ -335,4 +347,4 @@ begun_kept (Some l) s t number general ys all numbers begins first = by (end_num
           stands = end_is ∙ b;
         } in
         subst (λ x. Kept (Some l) t (ys ++ first_of number general l.peer x)) (sym (end_is ∙ b))
-        (record { all = all_more IsByPayloads ys y all (on_payloads l t y on); going = record { before = ys; last = y; split = refl; on = on } })
+        (record { all = all_more KeepsPayloads ys y all (keeps_payloads y (on_payloads l t y on)); going = record { before = ys; last = y; split = refl; on = on } })

@@ -8,13 +8,13 @@ use Rattle.snep_core.specs.Server.{Received as Accepted, serving}
 use Rattle.bench_world.specs.World.{FarEnd}
 use Rattle.bench_world.specs.Arrivals.{giving_values}
 use Rattle.bench_world.specs.Arriving.{ArrivesWithin}
-use Rattle.bench_world.specs.ByPayloads.{IsByPayloads}
+use Rattle.bench_world.specs.ByPayloads.{IfPayloads, IsByPayloads}
 use Rattle.bench_world.specs.Calls.{OfEnd}
 use Rattle.bench_world.specs.Legal.{State, changed}
 use Rattle.bench_world.specs.Links.{OpenLink, end_numbered}
 use Rattle.bench_world.specs.Peers.{placed_under}
-use Rattle.bench_world.specs.Stories.{Beginning, BeginsAndEnds, Opener, Story, Stretch, begins_in, begun_by, new_story, open_goes_on, story_within, values_of, whole_of}
-use Rattle.bench_world.proofs.PayloadsOn.{Kept, UpTo, above_is, end_then, more_payloads}
+use Rattle.bench_world.specs.Stories.{ByRaw, Beginning, BeginsAndEnds, Opener, Story, Stretch, begins_in, begun_by, new_story, open_goes_on, story_within, values_of, whole_of}
+use Rattle.bench_world.proofs.PayloadsOn.{KeepsPayloads, keeps_payloads, Kept, UpTo, above_is, end_then, more_payloads}
 use Rattle.bench_world.proofs.ServerRuns.{answered_is}
 use Rattle.bench_world.proofs.Tales.{accepted_in, accepted_of, goes_on, stories_behind}
 
@@ -57,8 +57,9 @@ module _ (s t : State) (x : Stretch) (opener : Opener) (number peer : ℕ) (gene
         ∙ ap (λ o. whole_of opener general (length s.peers.links + 1) peer o (goes_on s x t)) stood
         ∙ ap (λ n. goes_on s x t (new_story n opener peer general (restarted serving old general)) ∷ []) (sym next)
 
-    pub begun_payloads : ArrivesWithin peer general s.peers.numbers x.joins.far s.world.fars t.world.fars x.events → AllByRecursion IsByPayloads (begun_by (begins_in x) (goes_on s x t) s t)
-    begun_payloads came = subst (AllByRecursion IsByPayloads) (sym (begun_one came.old came.stood)) (within_payloads came, tt)
+    pub begun_payloads : ArrivesWithin peer general s.peers.numbers x.joins.far s.world.fars t.world.fars x.events → AllByRecursion KeepsPayloads (begun_by (begins_in x) (goes_on s x t) s t)
+    begun_payloads came =
+        subst (AllByRecursion KeepsPayloads) (sym (begun_one came.old came.stood)) (keeps_payloads (goes_on s x t (new_whole came.old)) (within_payloads came), tt)
 
 -- Where no link is open in a stretch but one that begins and ends in it, all stories are by payloads where this one is.
 all_both : (P : Story → Type 0) (ys zs : List Story) → AllByRecursion P ys → AllByRecursion P zs → AllByRecursion P (ys ++ zs)
@@ -72,7 +73,16 @@ all_over s t x ys P none all begun =
     let S : Option OpenLink → Type 0 = λ o. AllByRecursion P (open_goes_on o (goes_on s x t) ys ++ zs) in
     subst S (sym none) (all_both P ys zs all begun)
 
-pub over_kept : (s t : State) (x : Stretch) (ys : List Story) → AllByRecursion IsByPayloads ys → (changed s x.command).link ≡ None → t.link ≡ None
-    → AllByRecursion IsByPayloads (begun_by (begins_in x) (goes_on s x t) s t) → Kept t.link t (stories_behind s x t ys)
+-- Of a link that frames of a script's own opened nothing is said so.
+raw_whole : (P : Story → Type 0) (s t : State) (x : Stretch) (general : List ℕ) (number peer : ℕ) (o : Option FarEnd) → AllByRecursion (IfPayloads P) (whole_of ByRaw general number peer o (goes_on s x t))
+raw_whole P s t x general number peer None = tt
+raw_whole P s t x general number peer (Some old) = (tt, tt)
+
+pub raw_within : (P : Story → Type 0) (s t : State) (x : Stretch) (general : List ℕ) (n : Option ℕ) → AllByRecursion (IfPayloads P) (story_within ByRaw general n (goes_on s x t) s)
+raw_within P s t x general None = tt
+raw_within P s t x general (Some peer) = raw_whole P s t x general (length s.peers.links + 1) peer (end_numbered peer s.peers.numbers s.world.fars)
+
+pub over_kept : (s t : State) (x : Stretch) (ys : List Story) → AllByRecursion KeepsPayloads ys → (changed s x.command).link ≡ None → t.link ≡ None
+    → AllByRecursion KeepsPayloads (begun_by (begins_in x) (goes_on s x t) s t) → Kept t.link t (stories_behind s x t ys)
 over_kept s t x ys all none gone begun =
-    subst (λ o. Kept o t (stories_behind s x t ys)) (sym gone) (record { all = all_over s t x ys IsByPayloads none all begun; going = tt })
+    subst (λ o. Kept o t (stories_behind s x t ys)) (sym gone) (record { all = all_over s t x ys KeepsPayloads none all begun; going = tt })

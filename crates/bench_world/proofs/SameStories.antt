@@ -8,7 +8,7 @@ use Rattle.llcp_link.specs.State.{restarted}
 use Rattle.snep_core.specs.Server.{serving}
 use Rattle.nfc_base.specs.declared.event.Event.{Event}
 use Rattle.bench_script.specs.declared.command.Command.{Command}
-use Rattle.bench_script.specs.declared.command.Command.TheVariants.{Remove, Find, Crowd, Poll3, Read, Read3, Write, Write3, Link, Forge, Put, Get, Lookup, Unlink, OnPut, OnGet, Puts}
+use Rattle.bench_script.specs.declared.command.Command.TheVariants.{Remove, Find, Crowd, Poll3, Read, Read3, Write, Write3, Link, Forge, Put, Get, Lookup, Unlink, OnPut, OnGet, Puts, Raw}
 use Rattle.bench_world.specs.declared.entry.Answer.{Answer}
 use Rattle.bench_world.specs.declared.entry.Answer.TheVariants as answers
 use Rattle.bench_world.specs.declared.entry.Entry.{Entry}
@@ -21,6 +21,7 @@ use Rattle.bench_world.specs.Links.{OpenLink, end_numbered, is_number}
 use Rattle.bench_world.specs.Peers.{placed_under}
 use Rattle.bench_script.specs.declared.command.DeviceId.TheVariants.{A}
 use Rattle.bench_world.specs.Forging.{opens_link}
+use Rattle.bench_world.specs.Rawing.{raw_opens}
 use Rattle.bench_world.proofs.ForgeLeft.{forged_numbers}
 use Rattle.bench_world.specs.Stories as told
 use Rattle.bench_world.specs.Stories.{Opener, Story, Stretch, new_story, story_within, whole_of, accepted_of, accepted_in, Beginning, NothingBegins, BeginsOpen, BeginsAndEnds, beginning, begins_in, begun_by, gained_by, gained_on, last_goes_on, open_goes_on, range_of, stretch_of}
@@ -157,6 +158,7 @@ open_before s (Read3 id) l e = absurd (let clash : None ≡ Some l = e in cc)
 open_before s (Write3 id m) l e = absurd (let clash : None ≡ Some l = e in cc)
 open_before s (Link id miu window) l e = absurd (let clash : None ≡ Some l = e in cc)
 open_before s (Forge id payloads) l e = absurd (let clash : None ≡ Some l = e in cc)
+open_before s (Raw id frames) l e = absurd (let clash : None ≡ Some l = e in cc)
 open_before s (Remove id) l e = by (is_linked_to s id) e
   where
     by : (v : Bool) → (if v then None else s.link) ≡ Some l → s.link ≡ Some l
@@ -176,6 +178,7 @@ ended_in s joins (Puts puts) es a l open_ ended = unless_numbers (link_after s j
 ended_in s joins Unlink es a l open_ ended = same_numbers s.link s.peers (world_after s joins Unlink es).fars
 ended_in s joins (Link id miu window) es a l open_ ended = absurd (let clash : None ≡ Some l = open_ in cc)
 ended_in s joins (Forge id payloads) es a l open_ ended = absurd (let clash : None ≡ Some l = open_ in cc)
+ended_in s joins (Raw id frames) es a l open_ ended = absurd (let clash : None ≡ Some l = open_ in cc)
 ended_in s joins c es a l open_ ended = absurd (let clash : Some l ≡ None = sym open_ ∙ ended in cc)
 
 -- nor did one where a link began and ended in it
@@ -183,6 +186,7 @@ pub begun_within : (s : State) (joins : Joins) (c : Command) (es : List Event) (
     → (state_after s joins c es a).peers.numbers ≡ s.peers.numbers
 begun_within s joins (Link id miu window) es (Some (answers.Linked n)) opener device general is = absurd cc
 begun_within s joins (Forge id payloads) es a opener device general is = forged_numbers (opens_link id payloads es) s (A id) (world_after s joins (Forge id payloads) es).fars
+begun_within s joins (Raw id frames) es a opener device general is = forged_numbers (raw_opens id frames es) s id (world_after s joins (Raw id frames) es).fars
 begun_within s joins c es a opener device general is = absurd (let clash : NothingBegins ≡ BeginsAndEnds opener device general = is in cc)
 
 -- In a stretch in which a link ended, one that was open or one that began in it, no peer came or went.
@@ -196,6 +200,7 @@ module _ (s t : State) (x : Stretch) (ys : List Story) (stand : Stand s ys) (num
   none_begins : (c : Command) (es : List Event) (a : Option Answer) (l : OpenLink) → (changed s c).link ≡ Some l → beginning c es a ≡ NothingBegins
   none_begins (Link id miu window) es a l open_ = absurd (let clash : None ≡ Some l = open_ in cc)
   none_begins (Forge id payloads) es a l open_ = absurd (let clash : None ≡ Some l = open_ in cc)
+  none_begins (Raw id frames) es a l open_ = absurd (let clash : None ≡ Some l = open_ in cc)
   none_begins c es a l open_ = refl
 
   placed : (l : OpenLink) → (changed s x.command).link ≡ Some l → (k : Held) → at (view_of s) l.peer ≡ Some k → (before : List Story) (y : Story) → y.peer ≡ l.peer → StandBy (view_of t) t.link (before ++ y ∷ [])

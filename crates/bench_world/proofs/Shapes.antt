@@ -1,6 +1,8 @@
 -- What the conditions of a command ask of the devices that are placed: how many there are, their identifiers and blocks, and which
 -- may ask for more time. No event changes any of it, so lines are taken by what the lines before them say.
-use Rattle.std.proofs.Common.{◌≡◌, ℕ, ◌+◌, ◌/◌, ◌<◌, List, [], ◌∷◌, ◌++◌, map, length, Bool, true, false, nat_eq, if◌then◌else◌, Option, Some, None, IsSome, refl, sym, ◌∙◌, ap, subst}
+use Rattle.std.proofs.Common.{◌≡◌, ℕ, suc, ◌+◌, ◌/◌, ◌<◌, List, [], ◌∷◌, ◌++◌, map, length, Bool, true, false, nat_eq, if◌then◌else◌, Option, Some, None, IsSome, refl, sym, ◌∙◌, ap, subst}
+use Rattle.std.specs.Prelude.{◌≤◌}
+use Rattle.bench_devices.specs.AnyFrame.{peers_in}
 use Rattle.std.proofs.lemmas.List.{map-append, length-map}
 use Rattle.std.specs.Cmp.Lexicographic.{pointwise}
 use Rattle.nfc_base.specs.declared.event.Event.{Event}
@@ -119,6 +121,16 @@ of_too P None p e is = absurd is
 of_too P (Some d) None e is = absurd cc
 of_too P (Some d) (Some c) e is = let same : shape d ≡ shape c = cc in subst P same is
 
+-- how many peers there are, by their shapes
+shapes_in : List Shape → ℕ
+shapes_in [] = 0
+shapes_in (x ∷ xs) = if x.tag then shapes_in xs else suc (shapes_in xs)
+
+peers_by : (ds : List Device) → peers_in ds ≡ shapes_in (map shape ds)
+unfolding shapes_in
+peers_by [] = refl
+peers_by (d ∷ ds) = ap (λ n. if is_tag d then n else suc n) (peers_by ds)
+
 -- So a command is accepted in both states or in none.
 free_too : (s t : State) (id : List ℕ) → AreAlike s t → IsFree s id → IsFree t id
 free_too s t id alike free =
@@ -158,7 +170,12 @@ accepts_too s t (Write3 id m) alike is = tt
 accepts_too s t (Write id m) alike is = tt
 accepts_too s t (Link id miu window) alike is = is
 accepts_too s t (Forge id payloads) alike is = is
-accepts_too s t (Raw id frames) alike is = is
+accepts_too s t (Raw id frames) alike is = record {
+  some = is.some;
+  few = is.few;
+  each = is.each;
+  one = subst (λ n. n ≤ 1) (peers_by s.world.field.listeners ∙ ap shapes_in alike ∙ sym (peers_by t.world.field.listeners)) is.one;
+}
 accepts_too s t (OnPut slot m) alike is = is
 accepts_too s t (OnGet slot most key) alike is = is
 accepts_too s t (Puts puts) alike is = is

@@ -14,7 +14,7 @@ use Rattle.bench_world.specs.Inbox.{is_in, came_on_link, chosen, told_of, told_b
 use Rattle.bench_world.specs.LinkLaw.{puts_from, AcceptsPuts, KeepsLinkLaw, AreCounted, told_by_stories}
 use Rattle.bench_world.specs.Links.{last_ended}
 use Rattle.bench_world.specs.Opened.{AreNumbered}
-use Rattle.bench_world.specs.Stories.{Opener, ByLink, ByForge, LinkPut, Story, last_goes_on}
+use Rattle.bench_world.specs.Stories.{Opener, ByLink, ByForge, ByRaw, LinkPut, Story, last_goes_on}
 use Rattle.bench_world.proofs.AtNumbers.{Held, IfHeld, at_number, AreHeld, with_held, adding, held_more, at_own, at_other, at_below}
 use Rattle.bench_world.proofs.InRanges.{chosen_append, chosen_all, chosen_as, chosen_none, in_open, out_of_closed, in_closing, out_of_begun, came_before, came_last, came_closing}
 use Rattle.bench_world.proofs.PutsTold.{InStep, in_step_accepts, none_put}
@@ -66,7 +66,7 @@ pub record IsGoing (v : View) (n : ℕ) (x : Paired) : Type 0 where
   pub unended : x.range.end ≡ None
   pub start : x.range.start ≤ length there.accepted
 
--- each message came on a link
+-- each message came on a link, as it is where no frames of a script's own were sent
 abbrev pub IsCovered : View → ℕ → Type 0
 IsCovered v p = IfHeld (λ k. (n : ℕ) → n < length k.accepted → came_on_link v.links p n ≡ true) (at v p)
 
@@ -74,7 +74,6 @@ pub record Base (v : View) (done : List Paired) (ys : List Story) : Type 0 where
   pub held : AreHeld v.numbers v.held
   pub apart : AreNumbered v.placed v.numbers
   pub each : AllByRecursion (IsDone v) done
-  pub covered : (p : ℕ) → IsCovered v p
   pub counted : AreCounted 1 ys
 
 -- no link is open
@@ -146,6 +145,7 @@ in_step_keeps y step = by_opener y.opener
   where
     by_opener : (o : Opener) → AcceptsPuts o y
     by_opener ByForge = tt
+    by_opener ByRaw = tt
     by_opener ByLink = λ client. in_step_accepts y.begun.service.limit (puts_from client y.puts) (accepted_from client y.gained) (step client)
 
 -- as many stories as links
@@ -154,7 +154,7 @@ closed_many v ys c = ap length c.links ∙ as_many c.done ∙ sym (ap length c.t
 
 -- Peers come and go: a link's peer, where it is placed still, holds what it held.
 module _ (v w : View) (ys : List Story) (held : AreHeld w.numbers w.held) (apart : AreNumbered w.placed w.numbers) (links : w.links ≡ v.links) (more : v.placed ≤ w.placed)
-    (still : (P : Held → Type 0) (n : ℕ) → n < v.placed → IfHeld P (at v n) → IfHeld P (at w n)) (covered : (p : ℕ) → IsCovered v p → IsCovered w p) where
+    (still : (P : Held → Type 0) (n : ℕ) → n < v.placed → IfHeld P (at v n) → IfHeld P (at w n)) where
   fits_still : (x : Paired) → Fits v x → Fits w x
   fits_still x f = record {
     peer = f.peer;
@@ -170,7 +170,6 @@ module _ (v w : View) (ys : List Story) (held : AreHeld w.numbers w.held) (apart
     held = held;
     apart = apart;
     each = all_as (IsDone v) (IsDone w) done_still done b.each;
-    covered = λ p. covered p (b.covered p);
     counted = b.counted;
   }
 
@@ -220,6 +219,7 @@ module _ (v : View) (n : ℕ) (ys : List Story) (o : Open v n ys) (go : Story �
   keeps_still : (opener : Opener) → AcceptsPuts opener before_it → AcceptsPuts opener behind_it
   keeps_still ByLink keeps = keeps
   keeps_still ByForge keeps = tt
+  keeps_still ByRaw keeps = tt
 
   came_going : IsGoing v n (record { range = o.opened.now.range; story = behind_it })
   came_going = record {
@@ -241,7 +241,6 @@ module _ (v : View) (n : ℕ) (ys : List Story) (o : Open v n ys) (go : Story �
         held = o.opened.base.held;
         apart = o.opened.base.apart;
         each = o.opened.base.each;
-        covered = o.opened.base.covered;
         counted = counted_last 1 (stories o.opened.done) before_it behind_it refl (subst (AreCounted 1) o.opened.told o.opened.base.counted);
       };
       now = record { range = o.opened.now.range; story = behind_it };
@@ -317,8 +316,8 @@ module _ (v : View) (n : ℕ) (ys : List Story) (o : Opened v n ys) (more : List
       ap (λ ls. came_on_link ls p m) o.links
       ∙ came_last (ranges o.done) o.now.range p m own (in_open o.now.range m o.going.unended (omega (arith, beyond, o.going.start)))
 
-  covered_more : (p : ℕ) → IsCovered after p
-  covered_more p = by (nat_eq n p) refl
+  pub covered_more : ((p : ℕ) → IsCovered v p) → (p : ℕ) → IsCovered after p
+  covered_more all p = by (nat_eq n p) refl
     where
       Covers : Held → Type 0
       Covers k = (m : ℕ) → m < length k.accepted → came_on_link v.links p m ≡ true
@@ -335,8 +334,8 @@ module _ (v : View) (n : ℕ) (ys : List Story) (o : Opened v n ys) (more : List
           let same : n ≡ p = eqb-true n p e in
           let found : at after p ≡ Some grown = ap (at after) (sym same) ∙ found_after in
           subst (IfHeld (λ k. (m : ℕ) → m < length k.accepted → came_on_link v.links p m ≡ true)) (sym found)
-          (λ m within. by_length same (o.base.covered p) m (cases_lt m (length there.accepted)))
-      by false e = subst (IfHeld (λ k. (m : ℕ) → m < length k.accepted → came_on_link v.links p m ≡ true)) (sym (at_other more n p e v.numbers v.held)) (o.base.covered p)
+          (λ m within. by_length same (all p) m (cases_lt m (length there.accepted)))
+      by false e = subst (IfHeld (λ k. (m : ℕ) → m < length k.accepted → came_on_link v.links p m ≡ true)) (sym (at_other more n p e v.numbers v.held)) (all p)
 
   -- so the story of the open link goes on
   abbrev went : (Story → Story) → Paired
@@ -381,7 +380,6 @@ module _ (v : View) (n : ℕ) (ys : List Story) (o : Opened v n ys) (more : List
         held = held_more more n v.numbers v.held o.base.held;
         apart = o.base.apart;
         each = all_as (IsDone v) (IsDone after) done_more o.done o.base.each;
-        covered = covered_more;
         counted = subst (AreCounted 1) (sym stands)
             (counted_last 1 (stories o.done) o.now.story (go o.now.story) (ap (λ (y : Story). y.number) is) (subst (AreCounted 1) o.told o.base.counted));
       };
@@ -395,6 +393,67 @@ module _ (v : View) (n : ℕ) (ys : List Story) (o : Opened v n ys) (more : List
     where
       stands : last_goes_on go ys ≡ stories o.done ++ go o.now.story ∷ []
       stands = ap (last_goes_on go) o.told ∙ last_story go (stories o.done) o.now.story
+
+-- Messages are accepted while no link is open: what came on each link stays.
+module _ (v : View) (n : ℕ) (ys : List Story) (c : Closed v ys) (more : List Accepted) where
+  abbrev grown_view : View
+  grown_view = view_more v n more
+
+  by_own : (P Q : Held → Type 0) → ((k : Held) → P k → Q k) → ((k : Held) → P k → Q (record { limit = k.limit; accepted = k.accepted ++ more })) → (m : ℕ) → IfHeld P (at v m) → IfHeld Q (at grown_view m)
+  by_own P Q same own m h = by (nat_eq n m) refl
+    where
+      weaker : (x : Option Held) → IfHeld P x → IfHeld Q x
+      weaker None i = tt
+      weaker (Some k) i = same k i
+
+      grown_so : (x : Option Held) → IfHeld P x → IfHeld Q (adding more x)
+      grown_so None i = tt
+      grown_so (Some k) i = own k i
+
+      by : (b : Bool) → nat_eq n m ≡ b → IfHeld Q (at grown_view m)
+      by true e =
+          let is : n ≡ m = eqb-true n m e in
+          subst (λ i. IfHeld Q (at grown_view i)) is (subst (IfHeld Q) (sym (at_own more n v.numbers v.held)) (grown_so (at v n) (subst (λ i. IfHeld P (at v i)) (sym is) h)))
+      by false e = subst (IfHeld Q) (sym (at_other more n m e v.numbers v.held)) (weaker (at v m) h)
+
+  longer_so : (xs : List Accepted) → length xs ≤ length (xs ++ more)
+  longer_so [] = omega arith
+  longer_so (x ∷ xs) = omega (arith, longer_so xs)
+
+  done_grown : (x : Paired) → IsDone v x → IsDone grown_view x
+  done_grown x d =
+      let both : IfHeld (λ k. (chosen (is_in x.range) 0 k.accepted ≡ x.story.gained) × EndsWithin x.range k) (at v x.story.peer) = pair (at v x.story.peer) d.fits.holds d.closed in
+      record {
+        fits = record {
+          peer = d.fits.peer;
+          below = d.fits.below;
+          holds = by_own (λ k. (chosen (is_in x.range) 0 k.accepted ≡ x.story.gained) × EndsWithin x.range k) (λ k. chosen (is_in x.range) 0 k.accepted ≡ x.story.gained) (λ k h. h.0)
+              (λ k h. chosen_append (is_in x.range) 0 k.accepted more
+              ∙ ap (λ zs. chosen (is_in x.range) 0 k.accepted ++ zs)
+              (chosen_none (is_in x.range) (0 + length k.accepted) more (λ m from to. out_of_closed x.range m h.1.0 h.1.1 (omega (arith, from, h.1.2))))
+              ∙ append-nil (chosen (is_in x.range) 0 k.accepted) ∙ h.0) x.story.peer both;
+        };
+        law = d.law;
+        closed = by_own (EndsWithin x.range) (EndsWithin x.range) (λ k h. h) (λ k h. (h.0, h.1, omega (arith, h.2, longer_so k.accepted))) x.story.peer d.closed;
+      }
+    where
+      pair : (o : Option Held) → IfHeld (λ k. chosen (is_in x.range) 0 k.accepted ≡ x.story.gained) o → IfHeld (EndsWithin x.range) o
+          → IfHeld (λ k. (chosen (is_in x.range) 0 k.accepted ≡ x.story.gained) × EndsWithin x.range k) o
+      pair None p q = tt
+      pair (Some k) p q = (p, q)
+
+  pub closed_grows : Closed grown_view ys
+  closed_grows = record {
+    done = c.done;
+    base = record {
+      held = held_more more n v.numbers v.held c.base.held;
+      apart = c.base.apart;
+      each = all_as (IsDone v) (IsDone grown_view) done_grown c.done c.base.each;
+      counted = c.base.counted;
+    };
+    links = c.links;
+    told = c.told;
+  }
 
 -- The link that is open ends.
 abbrev pub view_ended : View → ℕ → View
@@ -432,8 +491,8 @@ module _ (v : View) (n : ℕ) (ys : List Story) (o : Opened v n ys) where
   done_over : (x : Paired) → IsDone v x → IsDone over x
   done_over x d = record { fits = record { peer = d.fits.peer; below = d.fits.below; holds = d.fits.holds }; law = d.law; closed = d.closed }
 
-  covered_over : (p : ℕ) → IsCovered over p
-  covered_over p = by (at v p) refl (o.base.covered p)
+  pub covered_over : ((p : ℕ) → IsCovered v p) → (p : ℕ) → IsCovered over p
+  covered_over all p = by (at v p) refl (all p)
     where
       same_place : (m : ℕ) → (nat_eq o.now.range.peer p ≡ true → m < count) → came_on_link (last_ended count v.links) p m ≡ came_on_link v.links p m
       same_place m within =
@@ -462,7 +521,6 @@ module _ (v : View) (n : ℕ) (ys : List Story) (o : Opened v n ys) where
       held = o.base.held;
       apart = o.base.apart;
       each = all_more (IsDone over) o.done last (all_as (IsDone v) (IsDone over) done_over o.done o.base.each) last_done;
-      covered = covered_over;
       counted = o.base.counted;
     };
     links = ended_links ∙ sym (ranges_more o.done last);
@@ -484,8 +542,8 @@ module _ (v : View) (n : ℕ) (ys : List Story) (c : Closed v ys) (k : Held) (fo
   done_begun : (x : Paired) → IsDone v x → IsDone from_here x
   done_begun x d = record { fits = record { peer = d.fits.peer; below = d.fits.below; holds = d.fits.holds }; law = d.law; closed = d.closed }
 
-  covered_begun : (p : ℕ) → IsCovered from_here p
-  covered_begun p = by (at v p) (c.base.covered p)
+  pub covered_begun : ((p : ℕ) → IsCovered v p) → (p : ℕ) → IsCovered from_here p
+  covered_begun all p = by (at v p) (all p)
     where
       by : (x : Option Held) → IfHeld (λ h. (m : ℕ) → m < length h.accepted → came_on_link v.links p m ≡ true) x
           → IfHeld (λ h. (m : ℕ) → m < length h.accepted → came_on_link (v.links ++ first.range ∷ []) p m ≡ true) x
@@ -505,7 +563,6 @@ module _ (v : View) (n : ℕ) (ys : List Story) (c : Closed v ys) (k : Held) (fo
         held = c.base.held;
         apart = c.base.apart;
         each = all_as (IsDone v) (IsDone from_here) done_begun c.done c.base.each;
-        covered = covered_begun;
         counted = counted_more 1 ys y (let many = closed_many v ys c in omega (arith, number, many)) c.base.counted;
       };
       now = first;
@@ -530,7 +587,7 @@ module _ (v : View) (n : ℕ) (ys : List Story) (c : Closed v ys) (k : Held) (fo
     step = step_begun;
   }
 
--- What an inbox tells of a peer's list is what the stories gained.
+-- What an inbox tells of a peer's list is what came on no link, and then what the stories gained.
 module _ (v : View) (p : ℕ) (k : Held) (found : at v p ≡ Some k) where
   one_told : (x : Paired) → Fits v x → (m : ℕ) → x.story.number ≡ m
       → (if nat_eq x.range.peer p then told_of m (chosen (is_in x.range) 0 k.accepted) else []) ≡ (if nat_eq x.story.peer p then told_of x.story.number x.story.gained else [])
@@ -553,19 +610,19 @@ module _ (v : View) (p : ℕ) (k : Held) (found : at v p ≡ Some k) where
       ap (λ rs. rs ++ told_by_links (m + 1) (ranges xs) p k.accepted) (one_told x fits.0 m counted.0)
       ∙ ap (λ rs. (if nat_eq x.story.peer p then told_of x.story.number x.story.gained else []) ++ rs) (all_told (m + 1) xs fits.1 counted.1)
 
-  told_so : (done xs : List Paired) (ys : List Story) → Base v done ys → AllByRecursion (Fits v) xs → v.links ≡ ranges xs → ys ≡ stories xs → inbox_of v.links p k.accepted ≡ told_by_stories ys p
-  told_so done xs ys b fits links told =
-      ap (λ ms. told_of 0 ms ++ told_by_links 1 v.links p k.accepted)
-      (chosen_none (λ i. not (came_on_link v.links p i)) 0 k.accepted (λ i from to. ap not (everywhere i (omega (arith, to)))))
-      ∙ ap (λ ls. told_by_links 1 ls p k.accepted) links ∙ all_told 1 xs fits (subst (AreCounted 1) told b.counted) ∙ sym (ap (λ zs. told_by_stories zs p) told)
-    where
-      everywhere : (i : ℕ) → i < length k.accepted → came_on_link v.links p i ≡ true
-      everywhere = subst (IfHeld (λ h. (i : ℕ) → i < length h.accepted → came_on_link v.links p i ≡ true)) found (b.covered p)
+  abbrev pub aside : List Accepted
+  aside = chosen (λ i. not (came_on_link v.links p i)) 0 k.accepted
 
-  pub closed_told : (ys : List Story) → Closed v ys → inbox_of v.links p k.accepted ≡ told_by_stories ys p
+  told_so : (done xs : List Paired) (ys : List Story) → Base v done ys → AllByRecursion (Fits v) xs → v.links ≡ ranges xs → ys ≡ stories xs
+      → inbox_of v.links p k.accepted ≡ told_of 0 aside ++ told_by_stories ys p
+  told_so done xs ys b fits links told =
+      ap (λ rs. told_of 0 aside ++ rs)
+      (ap (λ ls. told_by_links 1 ls p k.accepted) links ∙ all_told 1 xs fits (subst (AreCounted 1) told b.counted) ∙ sym (ap (λ zs. told_by_stories zs p) told))
+
+  pub closed_told : (ys : List Story) → Closed v ys → inbox_of v.links p k.accepted ≡ told_of 0 aside ++ told_by_stories ys p
   closed_told ys c = told_so c.done c.done ys c.base (all_as (IsDone v) (Fits v) (λ x d. d.fits) c.done c.base.each) c.links c.told
 
-  pub open_told : (n : ℕ) (ys : List Story) → Open v n ys → inbox_of v.links p k.accepted ≡ told_by_stories ys p
+  pub open_told : (n : ℕ) (ys : List Story) → Open v n ys → inbox_of v.links p k.accepted ≡ told_of 0 aside ++ told_by_stories ys p
   open_told n ys o =
       let xs : List Paired = o.opened.done ++ o.opened.now ∷ [] in
       told_so o.opened.done xs ys o.opened.base

@@ -31,11 +31,11 @@ peer_below v n ys o = subst (λ m. m < v.placed) o.opened.going.own o.opened.goi
 
 -- Peers of numbers that stood before hold what they held.
 carry : (v w : View) (o : Option OpenLink) (ys : List Story) → AreHeld w.numbers w.held → AreNumbered w.placed w.numbers → w.links ≡ v.links → v.placed ≤ w.placed
-    → ((n : ℕ) → n < v.placed → at w n ≡ at v n) → ((p : ℕ) → IsCovered v p → IsCovered w p) → StandBy v o ys → StandBy w o ys
-carry v w None ys held apart links more same covered stand =
-    closed_still v w ys held apart links more (λ P n below h. subst (IfHeld P) (sym (same n below)) h) covered stand
-carry v w (Some l) ys held apart links more same covered stand =
-    open_still v w ys held apart links more (λ P n below h. subst (IfHeld P) (sym (same n below)) h) covered l.peer (same l.peer (peer_below v l.peer ys stand)) stand
+    → ((n : ℕ) → n < v.placed → at w n ≡ at v n) → StandBy v o ys → StandBy w o ys
+carry v w None ys held apart links more same stand =
+    closed_still v w ys held apart links more (λ P n below h. subst (IfHeld P) (sym (same n below)) h) stand
+carry v w (Some l) ys held apart links more same stand =
+    open_still v w ys held apart links more (λ P n below h. subst (IfHeld P) (sym (same n below)) h) l.peer (same l.peer (peer_below v l.peer ys stand)) stand
 
 pub base_held : (v : View) (o : Option OpenLink) (ys : List Story) → StandBy v o ys → AreHeld v.numbers v.held × AreNumbered v.placed v.numbers
 base_held v None ys stand = (stand.base.held, stand.base.apart)
@@ -107,7 +107,7 @@ module _ (s : State) (ys : List Story) (stand : Stand s ys) where
 
   pub tag_stands : StandBy here s.link ys → StandBy tag_more s.link ys
   tag_stands = carry here tag_more s.link ys (held_placed here.numbers here.held None None bases.0 tt) (numbered_tag here.placed here.numbers bases.1) refl (omega arith)
-      (λ n below. same_tag n) (λ p covered. subst (IfHeld (λ k. (n : ℕ) → n < length k.accepted → came_on_link here.links p n ≡ true)) (sym (same_tag p)) covered)
+      (λ n below. same_tag n)
 
   module _ (k : Held) (fresh : k.accepted ≡ []) where
     abbrev pub peer_more : View
@@ -119,7 +119,7 @@ module _ (s : State) (ys : List Story) (stand : Stand s ys) where
     pub same_peer : (n : ℕ) → n < here.placed → at peer_more n ≡ at here n
     same_peer n below = other_peer n (ne_eqb here.placed n (λ same. omega (arith, below, same)))
 
-    covered_peer : (p : ℕ) → IsCovered here p → IsCovered peer_more p
+    pub covered_peer : (p : ℕ) → IsCovered here p → IsCovered peer_more p
     covered_peer p covered = by (nat_eq here.placed p) refl
       where
         none_yet : (n : ℕ) → n < length k.accepted → came_on_link here.links p n ≡ true
@@ -134,7 +134,7 @@ module _ (s : State) (ys : List Story) (stand : Stand s ys) where
 
     pub peer_stands : StandBy here s.link ys → StandBy peer_more s.link ys
     peer_stands = carry here peer_more s.link ys (held_placed here.numbers here.held (Some here.placed) (Some k) bases.0 tt) (numbered_peer here.placed here.numbers bases.1) refl (omega arith)
-        same_peer covered_peer
+        same_peer
 
   pub many_numbers : length here.numbers ≡ length s.world.field.listeners
   many_numbers = many_held here.numbers here.held bases.0 ∙ length-map s.world.fars held ∙ stand.places.fars
@@ -154,13 +154,13 @@ module _ (v : View) (ys : List Story) (id : List ℕ) (ds : List Device) where
     still_there : (P : Held → Type 0) (n : ℕ) → IfHeld P (at v n) → IfHeld P (at view_without n)
     still_there P n h = still_held P n v.placed id ds v.numbers v.held held apart h
 
-    covered_less : (p : ℕ) → IsCovered v p → IsCovered view_without p
+    pub covered_less : (p : ℕ) → IsCovered v p → IsCovered view_without p
     covered_less p covered = still_there (λ k. (n : ℕ) → n < length k.accepted → came_on_link v.links p n ≡ true) p covered
 
   pub closed_less : Closed v ys → Closed view_without ys
   closed_less c =
       closed_still v view_without ys (held_without id ds v.numbers v.held c.base.held) (numbered_without v.placed id ds v.numbers c.base.apart) refl (omega arith)
-      (λ P n below h. still_there c.base.held c.base.apart P n h) (covered_less c.base.held c.base.apart) c
+      (λ P n below h. still_there c.base.held c.base.apart P n h) c
 
   pub same_less : (n : ℕ) → AreHeld v.numbers v.held → is_number n (placed_under id ds v.numbers) ≡ false → at view_without n ≡ at v n
   same_less n held other = at_left n id ds v.numbers v.held held other
@@ -169,7 +169,7 @@ module _ (v : View) (ys : List Story) (id : List ℕ) (ds : List Device) where
   open_less n other o =
       let b = o.opened.base in
       open_still v view_without ys (held_without id ds v.numbers v.held b.held) (numbered_without v.placed id ds v.numbers b.apart) refl (omega arith)
-      (λ P m below h. still_there b.held b.apart P m h) (covered_less b.held b.apart) n (same_less n b.held other) o
+      (λ P m below h. still_there b.held b.apart P m h) n (same_less n b.held other) o
 
 -- A device is taken away, and a link to it ends.
 module _ (w : WholeWorld) (q : List Fate) (p : Peers) (c : Stretch) (ys : List Story) where

@@ -1,20 +1,21 @@
 -- What a command that want of memory cut off leaves of what devices hold.
 use Rattle.bench_world.specs.Forging.{opens_link}
-use Rattle.bench_world.specs.Legal.{ForgeHalts}
+use Rattle.bench_world.specs.Legal.{ForgeHalts, RawHalts, begun, halted_at}
+use Rattle.nfc_base.specs.Signal.{Signal}
 use Rattle.bench_world.proofs.ForgeLeft.{cut_devices}
-use Rattle.std.proofs.Common.{Err, ◌≡◌, ℕ, List, [], ◌∷◌, map, Option, Some, None, inl, inr, refl, sym, ◌∙◌, ap, subst}
+use Rattle.std.proofs.Common.{Err, ◌≡◌, ℕ, zero, suc, List, [], ◌∷◌, map, Option, Some, None, inl, inr, refl, sym, ◌∙◌, ap, subst}
 use Rattle.nfc_base.specs.declared.event.Event.{Event}
 use Rattle.air_core.specs.Conversation.{replay}
 use Rattle.tag_writer.specs.Law.{Stopped}
 use Rattle.bench_script.specs.declared.command.Command.{Command}
-use Rattle.bench_script.specs.declared.command.Command.TheVariants.{Find, Crowd, Poll3, Read, Read3, Write, Write3, Link, Forge, Put, Get, Lookup, Unlink, OnPut, OnGet, Puts}
+use Rattle.bench_script.specs.declared.command.Command.TheVariants.{Find, Crowd, Poll3, Read, Read3, Write, Write3, Link, Forge, Put, Get, Lookup, Unlink, OnPut, OnGet, Puts, Raw}
 use Rattle.bench_script.specs.declared.command.DeviceId.{DeviceId}
 use Rattle.bench_script.specs.declared.message.Msg.{Msg}
 use Rattle.bench_script.specs.DeviceIds.{bytes_of}
 use Rattle.bench_script.specs.Messages.{message_of}
 use Rattle.bench_devices.specs.declared.device.Device.{Device}
 use Rattle.bench_devices.specs.Device.{BenchWorld, air, device_id, device_store, stable_of, kind_of}
-use Rattle.bench_devices.specs.Keeping.{AllKeepBut, held_by, images_of}
+use Rattle.bench_devices.specs.Keeping.{AllKeepBut, AllStayDevices, held_by, images_of}
 use Rattle.bench_devices.specs.Placed.{device_with, IfPlaced}
 use Rattle.bench_devices.proofs.ImagesJoin.{law_start}
 use Rattle.bench_devices.proofs.TagOrPeer.{if_read}
@@ -27,6 +28,7 @@ use Rattle.bench_world.specs.Links.{OpenLink}
 use Rattle.bench_world.specs.Legal.{State, Given, Joins, CutCall, CutFront, CutOff, CutShort, CutStores, FrontOf, LeavesStable, PeerHalts, StoresLaw, Stores3Law, changed, world_after}
 use Rattle.bench_world.specs.Unfinished.{Write3Unfinished, Unfinished, WriteUnfinished}
 use Rattle.bench_world.specs.Writing.{KeepsStores}
+use Rattle.bench_world.proofs.FarStays.{all_stay, all_still, far_stay, stays_any}
 use Rattle.bench_world.proofs.Fronts.{field_after}
 use Rattle.bench_world.proofs.OnLink.{kept_stable}
 use Rattle.bench_world.proofs.Talks.{off}
@@ -93,6 +95,7 @@ nothing_written_three s id m = record {
 nothing_left : (s : State) (c : Command) → Unfinished s c [] s
 nothing_left s (Write id m) = nothing_written s id m
 nothing_left s (Write3 id m) = nothing_written_three s id m
+nothing_left s (Raw id frames) = all_still s.world.field.listeners
 nothing_left s c = refl
 
 -- There is a front of it.
@@ -131,6 +134,11 @@ call_stays : (s : State) (joins : Joins) (asked : LinkAsking) (c : Command) (cut
 call_stays s joins asked c cut None still stays = ap (λ (z : Stable). z.devices) stays ∙ ap (λ (x : State). map stable_of x.world.field.listeners) still
 call_stays s joins asked c cut (Some l) still call = call.devices
 
+-- Frames of a script's own may do what any frame may.
+raw_left : (s t : State) (g : Given) (id : DeviceId) (frames : List Signal) (cut : List Event) → FrontOf s g (Raw id frames) cut None t → AllStayDevices s.world.field.listeners t.world.field.listeners
+raw_left s t g id frames cut front =
+    subst (λ (x : State). AllStayDevices s.world.field.listeners x.world.field.listeners) (sym front.after) (far_stay cut (begun s g.joins (Raw id frames))).stay
+
 front_left : (s t : State) (g : Given) (c : Command) (cut : List Event) → FrontOf s g c cut None t → CutStores s g.joins c cut → Unfinished s c cut t
 front_left s t g Find cut front stores = front_stays s t g Find cut front (ap (λ (z : Stable). z.devices) stores)
 front_left s t g Crowd cut front stores = front_stays s t g Crowd cut front (ap (λ (z : Stable). z.devices) stores)
@@ -141,6 +149,7 @@ front_left s t g (Read3 id) cut front stores = front_stays s t g (Read3 id) cut 
 front_left s t g (Write3 id m) cut front stores = front_written_three s t g id m cut front stores
 front_left s t g (Link id miu window) cut front stores = front_stays s t g (Link id miu window) cut front (ap (λ (z : Stable). z.devices) stores)
 front_left s t g (Forge id payloads) cut front stores = front_stays s t g (Forge id payloads) cut front (cut_devices (opens_link id payloads cut) s g.joins id payloads cut stores)
+front_left s t g (Raw id frames) cut front stores = raw_left s t g id frames cut front
 front_left s t g (Put m) cut front stores = front_stays s t g (Put m) cut front (call_stays s g.joins (Does (put_from 0 (message_of m))) (Put m) cut s.link refl stores)
 front_left s t g (Get most key) cut front stores = front_stays s t g (Get most key) cut front (call_stays s g.joins (Does (Getting client_sap most key)) (Get most key) cut s.link refl stores)
 front_left s t g (Lookup name) cut front stores = front_stays s t g (Lookup name) cut front (call_stays s g.joins (Does (Finding name)) (Lookup name) cut s.link refl stores)
@@ -149,6 +158,12 @@ front_left s t g (OnGet slot most key) cut front stores = front_stays s t g (OnG
 front_left s t g (Puts puts) cut front stores = front_stays s t g (Puts puts) cut front (call_stays s g.joins (Does (Putting (slot_messages puts))) (Puts puts) cut s.link refl stores)
 front_left s t g Unlink cut front stores = front_stays s t g Unlink cut front (call_stays s g.joins Closes Unlink cut s.link refl stores)
 front_left s t g c cut front stores = absurd stores
+
+-- the peer's end stopped at one of them
+pub halted_stay : (place : ℕ) (f : Signal) (ds : List Device) → AllStayDevices ds (halted_at place f ds)
+halted_stay place f [] = tt
+halted_stay zero f (d ∷ ds) = (stays_any f None d, all_still ds)
+halted_stay (suc place) f (d ∷ ds) = (stays_any f None d, halted_stay place f ds)
 
 -- The peer's end stopped.
 halt_left : (joins : Joins) (s t : State) (c : Command) (cut : List Event) → PeerHalts joins s c cut t → Unfinished s c cut t
@@ -160,14 +175,23 @@ halt_left joins s t c cut h = by_command c h.on_link
     by_command : (x : Command) → IsOnLink x → Unfinished s x cut t
     by_command (Write id m) talks = off talks
     by_command (Write3 id m) talks = off talks
+    by_command (Raw id frames) talks = off talks
     by_command x talks = stays
 
 forge_halt_left : (joins : Joins) (s t : State) (c : Command) (cut : List Event) → ForgeHalts joins s c cut t → Unfinished s c cut t
 forge_halt_left joins s t c cut h =
     subst (λ x. Unfinished s x cut t) (sym h.command) (kept_stable s.world.field.listeners t.world.field.listeners h.leaves.talk.2.same)
 
+raw_halt_left : (joins : Joins) (s t : State) (c : Command) (cut : List Event) → RawHalts joins s c cut t → Unfinished s c cut t
+raw_halt_left joins s t c cut h =
+    let ms : List Device = h.mid.world.field.listeners in
+    subst (λ x. Unfinished s x cut t) (sym h.command)
+    (all_stay s.world.field.listeners ms t.world.field.listeners (raw_left s h.mid h.given h.id h.frames h.before h.front)
+    (subst (AllStayDevices ms) (sym h.leaves.devices) (halted_stay h.leaves.place h.sent ms)))
+
 pub unfinished : (joins : Joins) (s t : State) (c : Command) (cut : List Event) → CutOff joins s c cut t → Unfinished s c cut t
 unfinished joins s t c cut (inl (none, same)) = subst (λ es. Unfinished s c es t) (sym none) (subst (Unfinished s c []) (sym same) (nothing_left s c))
 unfinished joins s t c cut (inr (inl f)) = let front = short_front joins s c cut t f in front_left s t front.0 c cut front.2 front.3
 unfinished joins s t c cut (inr (inr (inl h))) = halt_left joins s t c cut h
-unfinished joins s t c cut (inr (inr (inr h))) = forge_halt_left joins s t c cut h
+unfinished joins s t c cut (inr (inr (inr (inl h)))) = forge_halt_left joins s t c cut h
+unfinished joins s t c cut (inr (inr (inr (inr h)))) = raw_halt_left joins s t c cut h

@@ -21,7 +21,7 @@ use Rattle.bench_devices.specs.declared.device.Device.{Device}
 use Rattle.bench_devices.specs.declared.device.Device.TheVariants.{T2, T3, T4, Peer, T5}
 use Rattle.bench_devices.specs.Device.{BenchWorld, StablePart, air, device_busy, device_id, device_locked, device_store, kind_of, stable_of}
 use Rattle.bench_devices.specs.Kinds.{DeviceKind, T2Kind, T3Kind, T4Kind, PeerKind, T5Kind, IfRead}
-use Rattle.bench_devices.specs.Keeping.{AllKeepBut, AllStayDevices, AreSound, Fixed, IsApart, Kept, held_by, images_of, kept}
+use Rattle.bench_devices.specs.Keeping.{AllKeepBut, AllStayDevices, AreSound, EachAsked, Fixed, IsApart, Kept, held_by, images_of, kept}
 use Rattle.bench_devices.specs.Placed.{IfPlaced, device_with, with_changed, without}
 use Rattle.bench_devices.specs.Threes.{KeepsWrite3Law}
 use Rattle.bench_devices.specs.Writing.{KeepsWriteLaw}
@@ -30,13 +30,18 @@ use Rattle.bench_world.specs.Asked.{asked_on_link, slot_messages}
 use Rattle.bench_world.specs.Calls.{IfLinked, due_asked, due_if}
 use Rattle.bench_world.specs.Forging.{opens_link}
 use Rattle.bench_world.specs.Links.{OpenLink}
-use Rattle.bench_world.specs.Legal.{AnswerBy, AnswerLaw, CallLaw, CrowdLaw, FindLaw, ForgeLaw, FrontOf, Given, LegalStep, LinkingLaw, MayPlaceT3, Read3Law, ReadLaw, SenseLaw, State, Writing3Law, WritingLaw, begun, changed, due, due_by, state_after, world_after}
+use Rattle.bench_world.specs.Legal.{AnswerBy, AnswerLaw, CallLaw, CrowdLaw, FindLaw, ForgeLaw, FrontOf, Given, LegalStep, LinkingLaw, MayPlaceT3, MayRaw, Read3Law, ReadLaw, SenseLaw, State, Writing3Law, WritingLaw, begun, changed, due, due_by, state_after, world_after}
 use Rattle.bench_world.specs.Threes.{AreWellStored, IfThree, IsWellStored, KeepsStores3, WriteEnd3, end_told}
 use Rattle.bench_world.specs.Writing.{KeepsStores, ending_told}
 use Rattle.bench_world.specs.World.{Stable, WholeWorld, bench_air, stable}
 use Rattle.bench_world.proofs.FarStays.{far_stay}
 use Rattle.bench_world.proofs.Fronts.{field_after}
 use Rattle.bench_world.proofs.ForgeLeft.{forge_devices}
+use Rattle.bench_world.proofs.RawStores.{IsNoF, events_well, frames_no_f, raws_no_f}
+use Rattle.bench_devices.proofs.SelectingKept.{due_asked as each_asked}
+use Rattle.bench_script.specs.DeviceIds.{tech_for}
+use Rattle.nfc_base.specs.Signal.{Signal}
+use Rattle.std.proofs.lemmas.List.Elements.{recursion_from_All}
 use Rattle.bench_world.proofs.HeldOn.{nothing_happened, own_found}
 use Rattle.bench_world.proofs.Numbers.{UsesFars}
 use Rattle.bench_world.proofs.Talks.{on_link, still_on}
@@ -277,7 +282,13 @@ module _ (s t : State) (g : Given) (e : Entry) (step : LegalStep s g e t) (sound
   by_command (Forge i payloads) is =
       let law : ForgeLaw s g.joins i payloads e.events e.answer = law_of (Forge i payloads) is in
       asked_well (Forge i payloads) is refl (forge_devices (opens_link i payloads e.events) s g.joins i payloads e.events law.leaves)
-  by_command (Raw i frames) is = absurd (law_of (Raw i frames) is)
+  by_command (Raw i frames) is =
+      let c : Command = Raw i frames in
+      let front : FrontOf s g c e.events (Some e.answer) t = front_of c is in
+      let may : MayRaw s i frames = front.accepted in
+      let each : AllByRecursion IsNoF frames = frames_no_f i frames (recursion_from_All (λ (f : Signal). f.tech ≡ tech_for i) frames may.each) in
+      let asked : EachAsked IsNoF e.events = each_asked IsNoF (due s g c) (raws_no_f frames each i) [] e.events front.each in
+      subst Well (sym front.after) (events_well e.events (begun s g.joins c) asked well)
   by_command (Put m) is = talk_well (Does (put_from 0 (message_of m))) (Put m) is refl (law_of (Put m) is)
   by_command (Get most key) is = talk_well (Does (Getting client_sap most key)) (Get most key) is refl (law_of (Get most key) is)
   by_command (Lookup name) is = talk_well (Does (Finding name)) (Lookup name) is refl (law_of (Lookup name) is)

@@ -7,7 +7,7 @@ use Rattle.nfc_base.specs.declared.event.Fate.TheVariants.{Pass, Break}
 use Rattle.tlv_area.specs.Form.{Message}
 use Rattle.tag_reader.specs.Kinds.{IsStoreForm}
 use Rattle.bench_script.specs.declared.command.Command.{Command}
-use Rattle.bench_script.specs.declared.command.Command.TheVariants.{Remove, Read, Write, Write3}
+use Rattle.bench_script.specs.declared.command.Command.TheVariants.{Raw, Remove, Read, Write, Write3}
 use Rattle.bench_script.specs.declared.command.DeviceId.{DeviceId}
 use Rattle.bench_script.specs.declared.message.Msg.{Msg}
 use Rattle.bench_script.specs.DeviceIds.{bytes_of}
@@ -21,11 +21,12 @@ use Rattle.bench_world.specs.declared.entry.Answer.TheVariants as answers
 use Rattle.bench_world.specs.declared.entry.Entry.{Entry}
 use Rattle.bench_world.specs.Legal.{State, Given, LegalStep, EachLegal}
 
--- A command may change what the tag with an identifier holds, or takes it away. A later command that may adds its case.
+-- A command may change what the tag with an identifier holds, or takes it away: frames that are sent as they are reach each device. A later command that may adds its case.
 abbrev pub Touches : DeviceId → Command → Type 0
 Touches id (Remove other) = bytes_of other ≡ bytes_of id
 Touches id (Write other message) = bytes_of other ≡ bytes_of id
 Touches id (Write3 other message) = other ≡ bytes_of id
+Touches id (Raw other frames) = Unit {0}
 Touches id c = ⊥
 
 -- none of these does

@@ -10,7 +10,17 @@ use Rattle.snep_core.specs.Payloads.{AcceptsPuts, AllPut, IsFront, accepted_from
 use Rattle.snep_core.specs.Server.{sap_count, serving}
 use Rattle.bench_world.specs.Arrivals.{Arrival, arrival_marks, end_at, end_behind, payloads_of}
 use Rattle.bench_world.specs.World.{FarEnd}
-use Rattle.bench_world.specs.Stories.{Story}
+use Rattle.bench_world.specs.Stories.{Opener, ByLink, ByForge, ByRaw, Story}
+
+-- What holds of a story by its payloads. Where frames were sent as they are, any may have been left out or sent again by hand, so
+-- of such a link the steps alone are said.
+abbrev pub IfOpenedBy : Opener → Type 0 → Type 0
+IfOpenedBy ByLink P = P
+IfOpenedBy ByForge P = P
+IfOpenedBy ByRaw P = Unit {0}
+
+abbrev pub IfPayloads : (Story → Type 0) → Story → Type 0
+IfPayloads P y = IfOpenedBy y.opener (P y)
 
 -- A place in what came to an end: some first of its payloads, and some first of the PDUs of the payload that came next.
 pub record Place (begun : FarEnd) (arrivals : List Arrival) : Type 0 where

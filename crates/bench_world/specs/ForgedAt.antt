@@ -63,7 +63,7 @@ pub record SendsAll (old : Air Device) (far : Choosing FarEnd) (payloads : List 
   pub behind : GoesBehind payloads mid half came new after sent
 
 -- The machines with this field, and this far end at a place: one link more began and ended, where one was opened.
-abbrev pub left_by : Sent → Machines → Air Device → ℕ → FarEnd → ℕ → ℕ → Machines
+abbrev pub left_by : {X : Type 0} → Result X EndCause → Machines → Air Device → ℕ → FarEnd → ℕ → ℕ → Machines
 left_by (Ok came) m air place after peer start = record {
   air = air;
   ends = slice_set m.ends place (Some after);

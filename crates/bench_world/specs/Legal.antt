@@ -1,12 +1,13 @@
 -- Which entries a bench may have: what it accepts, what each command changes, which request is due, and what it
 -- answers. A later command adds a case to each definition.
-use Rattle.std.specs.Prelude.{◌≡◌, ◌⊎◌, Err, ℕ, ◌+◌, ◌*◌, ◌-◌, ◌^◌, ◌<◌, ◌≤◌, List, [], ◌∷◌, ◌++◌, length, replicate, Option, Some, None, IsSome, Bool, true, false, if◌then◌else◌}
+use Rattle.std.specs.Prelude.{◌≡◌, ◌⊎◌, Err, ℕ, zero, suc, ◌+◌, ◌*◌, ◌-◌, ◌^◌, ◌<◌, ◌≤◌, get_or, List, [], ◌∷◌, ◌++◌, length, replicate, Option, Some, None, IsSome, Bool, true, false, if◌then◌else◌}
 use Rattle.std.specs.List.{All}
 use Rattle.nfc_base.specs.declared.event.Event.{Event}
 use Rattle.nfc_base.specs.declared.event.Event.TheVariants.{Request}
 use Rattle.nfc_base.specs.declared.event.Fate.{Fate}
 use Rattle.nfc_base.specs.declared.event.Fate.TheVariants.{Pass}
 use Rattle.nfc_base.specs.Signal.{Signal}
+use Rattle.air_core.specs.World.{stepped_by}
 use Rattle.air_core.specs.Conversation.{Note, Next, Over, Asks, first_fate, later_fates, receptions, replay, queue_after, AreTurns, FatesFrom, EachDue}
 use Rattle.t2t_tag.specs.Store.{IsT2Store}
 use Rattle.t3t_tag.specs.Store as three
@@ -21,12 +22,13 @@ use Rattle.bench_devices.specs.declared.device.Device.{Device}
 use Rattle.bench_world.specs.declared.entry.Answer.{Answer}
 use Rattle.bench_world.specs.declared.entry.Answer.TheVariants as answers
 use Rattle.bench_world.specs.declared.entry.Entry.{Entry}
-use Rattle.bench_devices.specs.Device.{most_devices, new_t2, new_t3, new_t4, new_t5, new_peer, blocks_of, device_locked, may_be_busy, device_busy, is_tag, memory_in}
+use Rattle.bench_devices.specs.AnyFrame.{peer_place, peers_in}
+use Rattle.bench_devices.specs.Device.{devices, most_devices, new_t2, new_t3, new_t4, new_t5, new_peer, blocks_of, device_locked, may_be_busy, device_busy, is_tag, memory_in}
 use Rattle.isodep_link.specs.Card.{most_busy}
 use Rattle.isodep_link.specs.Reader.{longest_extension}
 use Rattle.bench_devices.specs.TagAsking.{tag_due}
 use Rattle.bench_devices.specs.ThreeAsking.{three_due}
-use Rattle.bench_script.specs.DeviceIds.{bytes_of}
+use Rattle.bench_script.specs.DeviceIds.{bytes_of, tech_for}
 use Rattle.bench_script.specs.Slots.{have_own_slots}
 use Rattle.bench_script.specs.declared.command.SlotPut.{SlotPut}
 use Rattle.bench_script.specs.Messages.{message_of}
@@ -46,7 +48,7 @@ use Rattle.bench_world.specs.declared.entry.Received.{Received}
 use Rattle.bench_world.specs.Inbox.{inbox_at}
 use Rattle.bench_world.specs.Peers.{Peers, no_peers, with_tag, with_peer, without_place, with_place_changed, placed_under, without_number, new_end, end_offered}
 use Rattle.snep_core.specs.Server.{Received as Accepted}
-use Rattle.bench_script.specs.Script.{SpellsName, longest_message, longest_payload, most_payloads, least_puts, most_puts}
+use Rattle.bench_script.specs.Script.{SpellsName, longest_message, longest_payload, most_payloads, least_puts, most_puts, most_frames}
 use Rattle.bench_devices.specs.Opening.{linking}
 use Rattle.bench_world.specs.Links.{OpenLink, ended, is_with, end_numbered, begun_if, ended_unless, with_link_if, with_link_within}
 use Rattle.bench_world.specs.Linking.{LinkTells, link_if, own_general}
@@ -55,6 +57,7 @@ use Rattle.bench_world.specs.Asked.{IsOnLink, asked_on_link}
 use Rattle.bench_world.specs.Calls.{IfLinked, IsTold, OfEnd, PeerAdds, PeerMayAdd, PeerTells, asked_behind, due_asked, due_if, told_asked, with_accepted}
 use Rattle.bench_world.specs.Arriving.{ArrivesAt, ArrivesCutAt, ArrivesCutWithin, ArrivesWithin, BeginsAt}
 use Rattle.bench_world.specs.Forging.{ForgeTells, forged_general, forging, opens_link}
+use Rattle.bench_world.specs.Rawing.{RawTells, raw_opens, rawing}
 use Rattle.bench_world.specs.Answering.{TagTells, TellsFound, TagsTell, ThreesTell, CutTag}
 use Rattle.bench_world.specs.Reading.{TellsOf, ReadAsks}
 use Rattle.bench_world.specs.Threes.{CutThree, KeepsStores3, ReadAsks3, TellsRead3, TellsWrite3, ThreeTells, WriteAsks3, WriteEnd3, end_told}
@@ -181,6 +184,14 @@ pub record MayForge (payloads : List (List ℕ)) : Type 0 where
   pub few : length payloads ≤ most_payloads
   pub each : All IsPayload payloads
 
+-- Frames may be sent as they are: there are some of them, not too many, and each is of the device's technology; and at most one peer
+-- is placed.
+pub record MayRaw (s : State) (id : DeviceId) (frames : List Signal) : Type 0 where
+  pub some : 0 < length frames
+  pub few : length frames ≤ most_frames
+  pub each : All (λ (f : Signal). f.tech ≡ tech_for id) frames
+  pub one : peers_in s.world.field.listeners ≤ 1
+
 -- a device with this identifier is placed
 abbrev pub IsPlaced : State → DeviceId → Type 0
 IsPlaced s id = IsSome (device_with (bytes_of id) s.world.field.listeners)
@@ -234,7 +245,7 @@ Accepts s (Write id message) = Unit {0}
 Accepts s (Write3 id message) = Unit {0}
 Accepts s (Link id miu window) = MayLink miu window
 Accepts s (Forge id payloads) = MayForge payloads
-Accepts s (Raw id frames) = ⊥
+Accepts s (Raw id frames) = MayRaw s id frames
 Accepts s (Put message) = length (message_of message) ≤ longest_message
 Accepts s (Get most key) = MayGet most key
 Accepts s (Lookup name) = SpellsName name name
@@ -330,6 +341,7 @@ changed s (Write id message) = unlinked s
 changed s (Write3 id message) = unlinked s
 changed s (Link id miu window) = unlinked s
 changed s (Forge id payloads) = unlinked s
+changed s (Raw id frames) = unlinked s
 changed s c = s
 
 -- What a command asks of its tag, from the first command of the tag to the last. Only a read and a write of a placed
@@ -355,6 +367,7 @@ due_alone g (Write3 id message) ns = three_due id g.asked ns
 due_alone g (Write id message) ns = tag_due id g.asked ns
 due_alone g (Link id miu window) ns = linking (DeviceId.A id) (own_general miu) ns
 due_alone g (Forge id payloads) ns = forging id payloads ns
+due_alone g (Raw id frames) ns = rawing id frames ns
 due_alone g c ns = Over
 
 -- what is due in a command, by what it asks on the open link; where none is open nothing is sent
@@ -388,8 +401,8 @@ link_left (Some asked) s joins c events told = asked_behind asked told s.link jo
 abbrev pub link_after : State → Joins → Command → List Event → Option Answer → Option OpenLink
 link_after s joins c events told = link_left (asked_on_link c) s joins c events told
 
--- the peers behind it, with their links: one more where the command opened one, which of a `forge` has its end; and the one
--- that ended has its end
+-- the peers behind it, with their links: one more where the command opened one, which of a `forge` and of a `raw` has its end; and
+-- the one that ended has its end
 abbrev pub peers_forged : Bool → State → DeviceId → List (Option FarEnd) → Peers
 peers_forged false s id behind = (unlinked s).peers
 peers_forged true s id behind = with_link_if (placed_under (bytes_of id) s.world.field.listeners s.peers.numbers) s.world.fars behind (unlinked s).peers
@@ -398,6 +411,7 @@ abbrev pub peers_alone : State → Joins → Command → List Event → Option A
 peers_alone s joins (Link id miu window) events told = begun_if (link_alone s (Link id miu window) told) (unlinked s).world.fars (unlinked s).peers
 peers_alone s joins (Forge id payloads) events told =
     peers_forged (opens_link id payloads events) s (DeviceId.A id) (world_after s joins (Forge id payloads) events).fars
+peers_alone s joins (Raw id frames) events told = peers_forged (raw_opens id frames events) s id (world_after s joins (Raw id frames) events).fars
 peers_alone s joins c events told = (changed s c).peers
 
 abbrev pub peers_left : Option LinkAsking → State → Joins → Command → List Event → Option Answer → Peers
@@ -521,7 +535,16 @@ pub record ForgeLaw (s : State) (joins : Joins) (id : List ℕ) (payloads : List
   pub tells : ForgeTells id s.world.field.listeners payloads events answer
   pub leaves : ForgeLeaves (opens_link id payloads events) s joins id payloads events
 
--- the law of the answers of commands that ask nothing on the open link; a line that asks for nothing has none
+-- Frames that are sent as they are open a link to a placed peer alone. Of each frame it is told what was heard; of stores and of what
+-- peers accepted nothing more is said than that the turns lead to it.
+abbrev pub RawOpensPeer : State → DeviceId → List Signal → List Event → Type 0
+RawOpensPeer s id frames events = raw_opens id frames events ≡ true → IsPeerPlaced s id
+
+pub record RawLaw (s : State) (id : DeviceId) (frames : List Signal) (events : List Event) (answer : Answer) : Type 0 where
+  pub tells : RawTells id s.world.field.listeners frames events answer
+  pub opens : RawOpensPeer s id frames events
+
+-- The law of the answers of commands that ask nothing on the open link. A line that asks for nothing has none.
 abbrev pub AnswerAlone : State → Given → Command → List Event → Answer → Type 0
 AnswerAlone s g (Fates fates) events answer = answer ≡ answers.Done
 AnswerAlone s g (PlaceT2 id blocks head) events answer = answer ≡ answers.Done
@@ -544,6 +567,7 @@ AnswerAlone s g (Write3 id message) events answer = Writing3Law s g.joins id mes
 AnswerAlone s g (Write id message) events answer = WritingLaw s g.joins id message g.asked events answer
 AnswerAlone s g (Link id miu window) events answer = LinkingLaw s g.joins id miu window events answer
 AnswerAlone s g (Forge id payloads) events answer = ForgeLaw s g.joins id payloads events answer
+AnswerAlone s g (Raw id frames) events answer = RawLaw s id frames events answer
 AnswerAlone s g c events answer = ⊥
 
 -- the law of the answers, by what a command asks on the open link; where none is open nothing is asked
@@ -555,9 +579,10 @@ abbrev pub AnswerLaw : State → Given → Command → List Event → Answer →
 AnswerLaw s g c events answer = AnswerBy (asked_on_link c) s g c events answer
 
 -- The numbers that a command takes of these: any on the open link, since payloads are handed over there; those of far ends
--- where payloads are written by hand, which are as they are; and none else.
+-- where payloads or frames are written by hand, which are as they are; and none else.
 abbrev pub joins_alone : Command → Joins → Joins
 joins_alone (Forge id payloads) joins = record { own = []; far = joins.far }
+joins_alone (Raw id frames) joins = record { own = []; far = joins.far }
 joins_alone c joins = no_joins
 
 abbrev pub joins_by : Option LinkAsking → Command → Joins → Joins
@@ -613,7 +638,8 @@ ForgeCutLeaves true s joins id payloads cut = ForgeCut s joins id payloads cut
 ForgeCutLeaves false s joins id payloads cut = LeavesStable s joins (Forge id payloads) cut
 
 -- What a command that was cut off leaves of what stays: the stores of a write keep its law, what was asked on the open
--- link adds what it may at most, and no other command in which something is sent changed anything. A command that sends
+-- link adds what it may at most, a `raw` leaves what its turns lead to, and no other command in which something is sent changed
+-- anything. A command that sends
 -- nothing is never left half done: where memory is wanting nothing of it was done.
 abbrev pub CutAlone : State → Joins → Command → List Event → Type 0
 CutAlone s joins Find cut = LeavesStable s joins Find cut
@@ -625,6 +651,7 @@ CutAlone s joins (Write3 id message) cut = Stores3Law s joins id message (Err th
 CutAlone s joins (Write id message) cut = StoresLaw s joins id message Stopped cut
 CutAlone s joins (Link id miu window) cut = LeavesStable s joins (Link id miu window) cut
 CutAlone s joins (Forge id payloads) cut = ForgeCutLeaves (opens_link id payloads cut) s joins id payloads cut
+CutAlone s joins (Raw id frames) cut = RawOpensPeer s id frames cut
 CutAlone s joins c cut = ⊥
 
 abbrev pub CutLeft : Option LinkAsking → State → Joins → Command → List Event → Type 0
@@ -720,9 +747,50 @@ pub record ForgeHalts (joins : Joins) (s : State) (c : Command) (cut : List Even
   pub leaves : ForgeHaltLeaves s peer t
   pub came : ArrivesCutWithin peer forged_general s.peers.numbers given.joins.far s.world.fars t.world.fars cut
 
--- the peer's end stopped, on the open link or on one of payloads that were written by hand
+-- the devices where the end of the peer at a place stopped at a frame: those before it and it made their steps, it without a reply,
+-- and those behind it didn't
+abbrev pub halted_at : ℕ → Signal → List Device → List Device
+halted_at place f [] = []
+halted_at zero f (d ∷ ds) = stepped_by devices d f None ∷ ds
+halted_at (suc place) f (d ∷ ds) = stepped_by devices d f None ∷ halted_at place f ds
+
+-- What stays where the end of the peer stopped at a frame that was sent as it is, from a state on: each device did what its step
+-- does, as far as the frame came; the peer's server accepted no less than before, and nothing else of a far end that stays
+-- changed. Where the peer was activated its link has its range.
+pub record RawHaltLeaves (s : State) (id : DeviceId) (opened : Bool) (mid : State) (sent : Signal) (t : State) : Type 0 where
+  pub opens : opened ≡ true → IsPeerPlaced s id
+  pub place : ℕ
+  pub stands : peer_place mid.world.field.listeners ≡ Some place
+  pub devices : t.world.field.listeners ≡ halted_at place sent mid.world.field.listeners
+  pub peer : ℕ
+  pub numbered : get_or s.peers.numbers place None ≡ Some peer
+  pub more : List Accepted
+  pub ends : (stable t.world).ends ≡ with_accepted more peer s.peers.numbers (stable mid.world).ends
+  pub peers : t.peers ≡ peers_forged opened s id t.world.fars
+  pub link : t.link ≡ None
+
+-- Behind a front of frames that were sent as they are a request that was due passed, and as it handed a payload over the peer's end
+-- stopped for want of memory: nothing came back.
+pub record RawHalts (joins : Joins) (s : State) (c : Command) (cut : List Event) (t : State) : Type 0 where
+  pub id : DeviceId
+  pub frames : List Signal
+  pub command : c ≡ Raw id frames
+  pub given : Given
+  pub joined : given.joins ≡ joins
+  pub before : List Event
+  pub mid : State
+  pub front : FrontOf s given (Raw id frames) before None mid
+  pub sent : Signal
+  pub split : cut ≡ before ++ Request sent Pass ∷ []
+  pub asked : due s given (Raw id frames) (receptions before) ≡ Asks sent
+  pub passes : first_fate mid.queue ≡ Pass
+  pub lit : t.world.field.lit ≡ true
+  pub queue : t.queue ≡ later_fates mid.queue
+  pub leaves : RawHaltLeaves s id (raw_opens id frames cut) mid sent t
+
+-- the peer's end stopped: on the open link, or on one of payloads or frames that were written by hand
 abbrev pub Halts : Joins → State → Command → List Event → State → Type 0
-Halts joins s c cut t = PeerHalts joins s c cut t ⊎ ForgeHalts joins s c cut t
+Halts joins s c cut t = PeerHalts joins s c cut t ⊎ (ForgeHalts joins s c cut t ⊎ RawHalts joins s c cut t)
 
 -- What want of memory leaves of a command: nothing was done, there is a front of its step, or the peer's end stopped
 -- behind one.

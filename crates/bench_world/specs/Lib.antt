@@ -14,12 +14,14 @@ pub mod Inbox
 pub mod Arrivals
 pub mod Arriving
 pub mod Forging
+pub mod Rawing
 pub mod Legal
 pub mod Unfinished
 pub mod Obeying
 pub mod LinkTaken
 pub mod LinkedAt
 pub mod ForgedAt
+pub mod RawAt
 pub mod Behind
 pub mod Completing
 pub mod Quiet
@@ -27,6 +29,7 @@ pub mod Journal
 pub mod CompletingLinks
 pub mod QuietLinks
 pub mod CompletingForging
+pub mod CompletingRaws
 pub mod CompletingThrees
 pub mod QuietHearing
 pub mod Taking

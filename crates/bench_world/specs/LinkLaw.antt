@@ -1,10 +1,11 @@
 -- The law of links: what a peer accepts on a link is a prefix of what was put there and fits, which covers all that was
 -- told to be taken, and at most one more; and it's what the payloads put that arrived there (NFC Forum SNEP 1.0; the law
 -- is this project's own).
-use Rattle.std.specs.Prelude.{◌≡◌, ℕ, ◌+◌, ◌==◌, nat_eq, ◌⊎◌, List, [], ◌∷◌, ◌++◌, map, if◌then◌else◌, Option, Some, None}
+use Rattle.std.specs.Prelude.{◌≡◌, ℕ, ◌+◌, ◌==◌, nat_eq, not, ◌⊎◌, List, [], ◌∷◌, ◌++◌, map, if◌then◌else◌, Option, Some, None}
 use Rattle.std.specs.List.{AllByRecursion}
 use Rattle.snep_core.specs.Links.{Put, LinkAccepts}
 use Rattle.snep_core.specs.Payloads.{accepted_from}
+use Rattle.snep_core.specs.Server.{Received as Accepted}
 use Rattle.nfc_base.specs.declared.event.Event.{Event}
 use Rattle.bench_script.specs.declared.command.Command.{Command}
 use Rattle.bench_script.specs.declared.command.Command.TheVariants as commands
@@ -14,12 +15,12 @@ use Rattle.bench_world.specs.declared.entry.Answer.{Answer}
 use Rattle.bench_world.specs.declared.entry.Answer.TheVariants as answers
 use Rattle.bench_world.specs.declared.entry.Entry.{Entry}
 use Rattle.bench_world.specs.declared.entry.Received.{Received}
-use Rattle.bench_world.specs.ByPayloads.{IsByPayloads, IsFrontOfPayloads}
-use Rattle.bench_world.specs.Inbox.{told_of}
+use Rattle.bench_world.specs.ByPayloads.{IfPayloads, IsByPayloads, IsFrontOfPayloads}
+use Rattle.bench_world.specs.Inbox.{came_on_link, chosen, told_of}
 use Rattle.bench_world.specs.Journal.{LeadsTo}
 use Rattle.bench_world.specs.Legal.{State, Joins, CutShort, Halts, first_state}
 use Rattle.bench_world.specs.Peers.{placed_under}
-use Rattle.bench_world.specs.Stories.{Opener, ByLink, ByForge, Beginning, NothingBegins, BeginsOpen, BeginsAndEnds, LinkPut, Story, Stretch, beginning, state_from, stories_behind, stories_of}
+use Rattle.bench_world.specs.Stories.{Opener, ByLink, ByForge, ByRaw, Beginning, NothingBegins, BeginsOpen, BeginsAndEnds, LinkPut, Story, Stretch, accepted_in, beginning, state_from, stories_behind, stories_of}
 
 -- what was put from a client's SAP
 abbrev pub puts_from : ℕ → List LinkPut → List Put
@@ -28,11 +29,12 @@ puts_from client (p ∷ ps) = if p.source == client then p.put ∷ puts_from cli
 
 -- On a link that `link` opened: of each client's SAP, what was accepted from it is a prefix of the messages that were put
 -- from it and are within the limit. The prefix covers all of them that were told to be taken, and at most one more, which
--- then is the last put, and wasn't answered. Payloads that are written by hand are no puts of a client: of such a link
--- this says nothing, and what its peer accepted is what the payloads put that arrived there, as on each.
+-- then is the last put, and wasn't answered. Payloads and frames that are written by hand are no puts of a client: of such a
+-- link this says nothing.
 abbrev pub AcceptsPuts : Opener → Story → Type 0
 AcceptsPuts ByLink y = (client : ℕ) → LinkAccepts y.begun.service.limit (puts_from client y.puts) (accepted_from client y.gained)
 AcceptsPuts ByForge y = Unit {0}
+AcceptsPuts ByRaw y = Unit {0}
 
 abbrev pub KeepsLinkLaw : Story → Type 0
 KeepsLinkLaw y = AcceptsPuts y.opener y
@@ -55,6 +57,7 @@ told_links (e ∷ es) = told_link e.command e.answer ++ told_links es
 abbrev pub by_link : Opener → ℕ → List ℕ
 by_link ByLink number = number ∷ []
 by_link ByForge number = []
+by_link ByRaw number = []
 
 abbrev pub numbers_by_link : List Story → List ℕ
 numbers_by_link [] = []
@@ -79,11 +82,17 @@ told_by_stories (y ∷ ys) peer = (if nat_eq y.peer peer then told_of y.number y
 abbrev pub peer_under : DeviceId → State → Option ℕ
 peer_under id s = placed_under (bytes_of id) s.world.field.listeners s.peers.numbers
 
--- An inbox tells what its peer's list gained on each link so far, each message once, and nothing else.
+-- What a peer's list gained outside all stories: what stands there in the range of none of its links. Frames that are sent as they
+-- are may bring it, without a link.
+abbrev pub gained_aside : State → ℕ → List Accepted
+gained_aside s peer = chosen (λ n. not (came_on_link s.peers.links peer n)) 0 (accepted_in peer s)
+
+-- An inbox tells first what its peer's list gained on no link, and then what it gained on each link so far, each message once, and
+-- nothing else.
 pub record TellsInbox (s : State) (so_far : List Story) (id : DeviceId) (answer : Answer) : Type 0 where
   pub peer : ℕ
   pub placed : peer_under id s ≡ Some peer
-  pub told : answer ≡ answers.Inbox (told_by_stories so_far peer)
+  pub told : answer ≡ answers.Inbox (told_of 0 (gained_aside s peer) ++ told_by_stories so_far peer)
 
 -- So does each of a journal, by the entries before it.
 abbrev pub InboxesTell : List Joins → List Entry → Type 0
@@ -96,7 +105,7 @@ InboxesTell numbers journal =
 -- tell of.
 pub record LinksAccept (numbers : List Joins) (journal : List Entry) : Type 0 where
   pub accept : AllByRecursion KeepsLinkLaw (stories_of numbers journal)
-  pub arrived : AllByRecursion IsByPayloads (stories_of numbers journal)
+  pub arrived : AllByRecursion (IfPayloads IsByPayloads) (stories_of numbers journal)
   pub opened : map (λ (y : Story). y.opener) (stories_of numbers journal) ≡ openers_in journal
   pub linked : numbers_by_link (stories_of numbers journal) ≡ told_links journal
   pub counted : AreCounted 1 (stories_of numbers journal)
@@ -126,4 +135,4 @@ abbrev pub CutArrivalLaw : Type 0
 CutArrivalLaw =
     (lines : List (List ℕ)) (numbers : List Joins) (journal : List Entry) (last : State) → LeadsTo lines numbers journal last
     → (joins : Joins) (c : Command) (cut : List Event) (t : State) → CutShort joins last c cut t ⊎ Halts joins last c cut t
-    → AllByRecursion IsFrontOfPayloads (stories_behind last (cut_stretch c joins cut) t (stories_of numbers journal))
+    → AllByRecursion (IfPayloads IsFrontOfPayloads) (stories_behind last (cut_stretch c joins cut) t (stories_of numbers journal))

@@ -13,6 +13,7 @@ use Rattle.link_calls.specs.Asking.{LinkAsking, Does, Putting}
 use Rattle.link_calls.specs.declared.request.SlotMessage.{SlotMessage}
 use Rattle.bench_script.specs.declared.command.Command.{Command}
 use Rattle.bench_script.specs.declared.command.Command.TheVariants as commands
+use Rattle.bench_script.specs.DeviceIds.{bytes_of}
 use Rattle.bench_world.specs.declared.entry.Answer.{Answer}
 use Rattle.bench_world.specs.declared.entry.Answer.TheVariants as answers
 use Rattle.bench_world.specs.declared.entry.Entry.{Entry}
@@ -26,6 +27,7 @@ use Rattle.bench_world.specs.Links.{OpenLink, end_numbered}
 use Rattle.bench_world.specs.Linking.{own_general}
 use Rattle.bench_world.specs.Forging.{forged_general, opens_link}
 use Rattle.bench_world.specs.Peers.{placed_under}
+use Rattle.bench_world.specs.Rawing.{raw_opens}
 use Rattle.bench_world.specs.Legal.{State, Joins, changed, end_of, first_state, state_after}
 
 -- what happened of a command, by which numbers of PDUs, and what was told of it, nothing where it was cut off; an entry
@@ -39,11 +41,12 @@ pub record Stretch : Type 0 where
 abbrev pub stretch_of : Joins → Entry → Stretch
 stretch_of joins e = record { command = e.command; joins = joins; events = e.events; told = Some e.answer }
 
--- how a link was opened: by the command `link`, and so between two ends of this project; or by `forge`, which sends payloads
--- that were written by hand
+-- how a link was opened: by the command `link`, and so between two ends of this project; by `forge`, which sends payloads
+-- that were written by hand; or by `raw`, which sends frames that were
 pub data Opener : Type 0 where
   ByLink : Opener
   ByForge : Opener
+  ByRaw : Opener
 
 -- a put on a link, with the SAP of the client that put it
 pub record LinkPut : Type 0 where
@@ -152,10 +155,11 @@ pub data Beginning : Type 0 where
   BeginsAndEnds : Opener → List ℕ → List ℕ → Beginning
 
 -- What begins in a command, by what happened in it and what was told: where `linked` is told, this link; and in a `forge`,
--- whatever it then tells, one that is over, where its ATR_REQ was answered.
+-- whatever it then tells, and in a `raw` of a peer, one that is over, where its ATR_REQ was answered.
 abbrev pub beginning : Command → List Event → Option Answer → Beginning
 beginning (commands.Link id miu window) events (Some (answers.Linked number)) = BeginsOpen number (own_general miu)
 beginning (commands.Forge id payloads) events told = if opens_link id payloads events then BeginsAndEnds ByForge id forged_general else NothingBegins
+beginning (commands.Raw id frames) events told = if raw_opens id frames events then BeginsAndEnds ByRaw (bytes_of id) forged_general else NothingBegins
 beginning c events told = NothingBegins
 
 abbrev pub begins_in : Stretch → Beginning

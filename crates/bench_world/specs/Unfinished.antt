@@ -3,13 +3,13 @@ use Rattle.std.specs.Prelude.{◌≡◌, ℕ, List, [], map, Err}
 use Rattle.nfc_base.specs.declared.event.Event.{Event}
 use Rattle.tag_writer.specs.Law.{Stopped, last_store}
 use Rattle.bench_script.specs.declared.command.Command.{Command}
-use Rattle.bench_script.specs.declared.command.Command.TheVariants.{Write, Write3}
+use Rattle.bench_script.specs.declared.command.Command.TheVariants.{Raw, Write, Write3}
 use Rattle.bench_script.specs.declared.command.DeviceId.{DeviceId}
 use Rattle.bench_script.specs.declared.message.Msg.{Msg}
 use Rattle.bench_script.specs.DeviceIds.{bytes_of}
 use Rattle.bench_script.specs.Messages.{message_of}
 use Rattle.bench_devices.specs.Device.{stable_of}
-use Rattle.bench_devices.specs.Keeping.{AllKeepBut, held_by, images_of}
+use Rattle.bench_devices.specs.Keeping.{AllKeepBut, AllStayDevices, held_by, images_of}
 use Rattle.bench_devices.specs.Placed.{device_with, IfPlaced}
 use Rattle.bench_world.specs.Legal.{State}
 use Rattle.t3t_access.specs.declared.fault.T3Fault.TheVariants as fault
@@ -30,10 +30,11 @@ pub record Write3Unfinished (s : State) (id : List ℕ) (message : Msg) (cut : L
   pub holds : held_by (device_with id t.world.field.listeners) ≡ last_store [] (images_of id s.world.field cut)
   pub others : AllKeepBut id s.world.field.listeners t.world.field.listeners
 
--- From this state a command was cut off, behind these events, and left that one. A write that was cut off is said above. Any
--- other changes no store, no locked block, and not how much more time a device asks for; nor does it place a device or
+-- From this state a command was cut off, behind these events, and left that one. A write that was cut off is said above. Frames
+-- that are sent as they are may have changed each store, which is one of its kind still. Any other changes no store, no locked block, and not how much more time a device asks for; nor does it place a device or
 -- take one away.
 abbrev pub Unfinished : State → Command → List Event → State → Type 0
 Unfinished s (Write id message) cut t = WriteUnfinished s id message cut t
 Unfinished s (Write3 id message) cut t = Write3Unfinished s id message cut t
+Unfinished s (Raw id frames) cut t = AllStayDevices s.world.field.listeners t.world.field.listeners
 Unfinished s c cut t = map stable_of t.world.field.listeners ≡ map stable_of s.world.field.listeners

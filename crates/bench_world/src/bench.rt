@@ -20,6 +20,7 @@ use crate::joins::Joins;
 use crate::linking::link;
 use crate::machines::Machines;
 use crate::peers::{inbox, offer_value, place_peer};
+use crate::raws::raw;
 use crate::threes::{find_threes, read_tag_three, write_tag_three};
 use air_core::Field;
 use bench_devices::{Device, PoweredTag, T2Upper, T4Upper, is_named, place_of};
@@ -381,7 +382,7 @@ fn run_command(
         Command::Forge { id, payloads } => {
             forge(alloc, machines, joins, id, payloads.as_slice())
         }
-        Command::Raw { .. } => Err(ObeyFault::Refused),
+        Command::Raw { id, frames } => raw(alloc, machines, joins, id, frames.as_slice()),
         Command::Put { message } => put(alloc, machines, joins, message),
         Command::Get { acceptable, key } => get(machines, joins, *acceptable, key.as_slice()),
         Command::Lookup { name } => lookup(machines, joins, name.as_slice()),

@@ -76,7 +76,7 @@ fn send_all(
 }
 
 /// What is told of a link that ended.
-fn told_cause(cause: EndCause) -> Result<Answer, ObeyFault>
+pub(crate) fn told_cause(cause: EndCause) -> Result<Answer, ObeyFault>
     ensures { result ≡ told_cause cause }
 {
     match cause {
@@ -100,7 +100,7 @@ fn told_sent(
 }
 
 /// Adds a link that was opened, where there is room.
-fn add_opened(links: &mut Vec<LinkRange>, opened: bool, range: LinkRange)
+pub(crate) fn add_opened(links: &mut Vec<LinkRange>, opened: bool, range: LinkRange)
     requires { vec_len links.old < vec_capacity links.old }
     ensures { links.new.items ≡ (if opened then links.old.items ++ range ∷ [] else links.old.items) }
 {

@@ -5,6 +5,7 @@ ghost use Rattle.bench_world.specs.Behind.{WrittenIsRead, OneOfThreeIsRead, Brok
 ghost use Rattle.bench_world.specs.Completing.{ReadsComplete, WritesComplete, ShownIsWritten, ValidIsWritten, FindsComplete, TagsComplete, ThreesComplete};
 ghost use Rattle.bench_world.specs.CompletingLinks.{AskedComplete, PutsComplete, SeveralComplete, GetsComplete, LookupsComplete, UnlinksComplete, ValidIsOk, LinkingsComplete, KindsTold};
 ghost use Rattle.bench_world.specs.CompletingForging.{ForgedKindsTold, ForgingsComplete, QuietForgings};
+ghost use Rattle.bench_world.specs.CompletingRaws.{QuietRaws, RawsComplete};
 ghost use Rattle.bench_world.specs.CompletingThrees.{ThreesRead, ThreesWrite, ThreesWritten, QuietThreesRead, QuietThreesWrite, QuietThreesWritten, Written3IsRead, Written3IsWhole, OneOfTwo3IsRead, Undisturbed3IsRead, Quiet3IsRead};
 ghost use Rattle.bench_world.specs.LinkLaw.{CutArrivalLaw, CutLinkLaw, LinkLaw};
 ghost use Rattle.bench_world.specs.Quiet.{QuietStays, QuietReads, QuietWrites, QuietIsWritten, QuietFinds, QuietTags, QuietThrees};
@@ -43,7 +44,7 @@ pub fn finds_complete()
 /// A legal command on the open link is answered as its peer answers it, and the link is closed, exactly where no Break
 /// was used and no wait had six bad receptions: so a valid one gives what it's asked for. Where little noise is, a
 /// placed peer is linked, and of payloads that are sent to it by hand a reply to each is heard; and a tag tells that it
-/// has no link as peers do.
+/// has no link as peers do. Of frames that are sent to a placed device by hand it is told then what was heard of each.
 pub fn links_complete()
     ensures asked { AskedComplete }
     ensures puts { PutsComplete }
@@ -56,6 +57,7 @@ pub fn links_complete()
     ensures kinds { KindsTold }
     ensures forgings { ForgingsComplete }
     ensures forged { ForgedKindsTold }
+    ensures raws { RawsComplete }
 {}
 
 /// Behind a write, with no command between that touches its tag, a read that tells a message tells the new one where
@@ -88,7 +90,7 @@ pub fn lines_tell_events()
 
 /// Where no fate is left but Pass, the air stays quiet, a read of a placed tag tells what its store holds, a write what
 /// it comes to, which is success where the tag takes the message and none of its blocks is locked, a search lists the
-/// whole field, a placed peer is linked, and each command on the open link is answered as its peer answers it; no
+/// whole field, a placed peer is linked, frames that are sent by hand are each told of, and each command on the open link is answered as its peer answers it; no
 /// reception is bad but the silences of polling, so behind the selection of a device, and on a link, each is a whole
 /// answer. Where no line has another fate, all this holds of each entry of a script's journal.
 pub fn quiet_air()
@@ -106,6 +108,7 @@ pub fn quiet_air()
     ensures talks { QuietTalks }
     ensures linkings { QuietLinkings }
     ensures forgings { QuietForgings }
+    ensures raws { QuietRaws }
     ensures hears { QuietHears }
     ensures script { QuietScript }
 {}
@@ -113,8 +116,9 @@ pub fn quiet_air()
 /// Of each link in a legal journal, and of each client's SAP: what the peer accepted on it are the messages that were put
 /// and are within its limit, in order, each whole and once, none left out, up to some point. That point covers all that
 /// were told to be taken, and at most one more: the last put, which then wasn't answered. It's just what the payloads put
-/// that arrived there while the link was open, counted from PNI 0, whatever was offered between them. And an inbox tells
-/// what its peer accepted on each link, each message once, and nothing else. Behind a command that want of memory cut off
+/// that arrived there while the link was open, counted from PNI 0, whatever was offered between them; of a link whose frames
+/// were written by hand nothing of this is said. And an inbox tells what its peer accepted on no link, and then what it
+/// accepted on each, each message once, and nothing else. Behind a command that want of memory cut off
 /// it is so too, and its put counts as put; of what the last payload put there is a front.
 pub fn links_accept()
     ensures whole { LinkLaw }

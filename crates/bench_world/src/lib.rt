@@ -29,6 +29,7 @@ mod listed;
 mod machines;
 mod peers;
 mod pieces;
+mod raws;
 mod report;
 mod threes;
 

@@ -216,7 +216,7 @@ module _ (z : Setting) where
   after_is : (n : ℕ) (l : PeerState) → Is l → Is (after_giving serving n l)
   after_is n l h = either {X = PeerState} Is l.readable (given_parts serving n l).llc l (λ e. given_is l h (gave serving l) refl _) (λ e. h)
 
-  answers_is : (count : ℕ) (l : PeerState) (payload reply : List ℕ) (k : PeerState) → Answers serving count l payload reply k → Is l → Is k
+  pub answers_is : (count : ℕ) (l : PeerState) (payload reply : List ℕ) (k : PeerState) → Answers serving count l payload reply k → Is l → Is k
   answers_is count l payload reply k a h = subst Is (sym a.gives.left) (after_is count (taken_from serving l payload) (taken_is l payload h))
 
 -- by its parts
@@ -268,7 +268,7 @@ giving_is old new k =
     set_then old.service front.service new.service (of_setting front old front_is) (next_set front new.service k.halts.service) in
     by_parts new old k.miu k.window k.bound set.limit set.table
 
-stops_is : (old : PeerState) (payload : List ℕ) (new : PeerState) → Stops serving old payload new → setting_of new ≡ setting_of old
+pub stops_is : (old : PeerState) (payload : List ℕ) (new : PeerState) → Stops serving old payload new → setting_of new ≡ setting_of old
 stops_is old payload new (inl k) = stuck_is old new (brought old payload) k
 stops_is old payload new (inr k) = giving_is (taken_from serving old payload) new k ∙ taken_is (setting_of old) old payload refl
 

@@ -5,6 +5,7 @@ use Rattle.bench_world.specs.declared.bench.ObeyFault.{ObeyFault}
 use Rattle.bench_world.specs.declared.bench.ObeyFault.TheVariants as faults
 use Rattle.bench_world.specs.declared.entry.Answer.{Answer}
 use Rattle.bench_script.specs.declared.command.Command.{Command}
+use Rattle.bench_script.specs.declared.command.Command.TheVariants.{Raw}
 use Rattle.bench_world.specs.Legal.{Accepts, joins_for}
 use Rattle.bench_world.specs.Obeying.{Machines, IsCutOffBy, under, state_at}
 use Rattle.bench_world.specs.declared.inbox.LinkRange.{LinkRange}
@@ -72,3 +73,12 @@ returns-in-Read3-clause-cut c = λ e.
 pub returns-in-Write3-clause-cut : goal.returns-in-Write3-clause-cut
 returns-in-Write3-clause-cut c = λ e.
     subst (λ x. IsCutOffBy (joins_for x c.args.joins) c.args.machines.now c.write_tag_three.new.machines x) (sym c.in-Write3.is) (of_err c.write_tag_three.result e c.write_tag_three.ensures.cut)
+
+pub returns-in-Raw-clause-cut : goal.returns-in-Raw-clause-cut
+returns-in-Raw-clause-cut c = λ e.
+    let C : Command → Type 0 = λ x. IsCutOffBy (joins_for x c.args.joins) c.args.machines.now c.raw.new.machines x in
+    subst C (sym c.in-Raw.is) (subst (λ fs. C (Raw c.in-Raw.id fs)) c.as_slice-in-Raw.ensures (c.raw.ensures.cut e))
+
+pub returns-in-Put-clause-cut : goal.returns-in-Put-clause-cut
+returns-in-Put-clause-cut c = λ e.
+    subst (λ x. IsCutOffBy (joins_for x c.args.joins) c.args.machines.now c.put.new.machines x) (sym c.in-Put.is) (c.put.ensures.cut e)

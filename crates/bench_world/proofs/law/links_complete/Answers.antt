@@ -1,5 +1,6 @@
 use Rattle.bench_world.proofs.CompleteForging.{forged_kinds, forgings_complete}
 use Rattle.link_calls.specs.Asking.{Does, Closes, Finding, Getting, Putting, put_from}
+use Rattle.bench_world.proofs.CompleteRaws.{raws_complete}
 use Rattle.bench_world.proofs.CompleteLinks.{asked_complete, valid_is_ok}
 use Rattle.bench_world.proofs.CompleteLinkings.{kinds_told, linkings_complete}
 use Rattle.bench_world.proofs.law.links_complete.Goals as goal
@@ -36,3 +37,6 @@ returns-clause-forgings c = forgings_complete
 
 pub returns-clause-forged : goal.returns-clause-forged
 returns-clause-forged c = forged_kinds
+
+pub returns-clause-raws : goal.returns-clause-raws
+returns-clause-raws c = raws_complete

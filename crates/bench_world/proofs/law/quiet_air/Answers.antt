@@ -1,4 +1,5 @@
 use Rattle.bench_world.proofs.CompleteForging.{quiet_forgings}
+use Rattle.bench_world.proofs.CompleteRaws.{quiet_raws}
 use Rattle.bench_world.proofs.Quiet as quiet
 use Rattle.bench_world.proofs.QuietHearing as hearing
 use Rattle.bench_world.proofs.QuietLinks as links
@@ -54,3 +55,6 @@ returns-clause-written3 c = quiet_threes_written
 
 pub returns-clause-behind3 : goal.returns-clause-behind3
 returns-clause-behind3 c = quiet_is_read_three
+
+pub returns-clause-raws : goal.returns-clause-raws
+returns-clause-raws c = quiet_raws

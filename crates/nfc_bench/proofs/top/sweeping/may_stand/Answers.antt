@@ -3,7 +3,7 @@ use Rattle.std.specs.Prelude.{not}
 use Rattle.bench_script.specs.declared.command.Command.{Command}
 use Rattle.bench_script.specs.Script.{Spells}
 use Rattle.nfc_bench.specs.SweepStops.{is_fates, is_write, Stands}
-use Rattle.nfc_bench.proofs.Sweeping.{stands_by, stands_last}
+use Rattle.nfc_bench.proofs.Sweeping.{may_not_fates, stands_by, stands_last}
 use Rattle.nfc_bench.proofs.top.sweeping.may_stand.Goals.{then-not-is_last, else-not-is_last}
 use Rattle.nfc_bench.proofs.top.sweeping.may_stand.Goals as goal
 
@@ -19,3 +19,6 @@ returns c =
           subst (Stands c.args.is_last line) (sym (w.result-is ∙ ap not w.if-not-is_last.true)) (stands_by c.args.is_last line command spelled none (inl inner)))
       | else-not-is_last w ↦ stands_last c.args.is_last line command spelled none w.if-not-is_last.false c.if-not-is_last.result (w.result-is ∙ w.is_write.ensures)
     ]
+
+pub returns-then-is_fates : goal.returns-then-is_fates
+returns-then-is_fates c = may_not_fates c.args.is_last c.args.text.now c.in-Ok.command c.in-Ok.ensures.ok (sym c.if-is_fates.ensures)
