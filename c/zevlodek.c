@@ -41,6 +41,11 @@ const char *zev_fault_text(int32_t fault)
     }
 }
 
+const char *zev_version(void)
+{
+    return ZEV_VERSION_TEXT;
+}
+
 /* What the proved code asks of an allocator: whether a block is there, and where; the pointer is no null even where it isn't. */
 typedef struct {
     _Bool ok;

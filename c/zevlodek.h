@@ -252,6 +252,10 @@ int32_t zev_client_next(const zev_near *near_end, const uint8_t *general, size_t
 /* What a fault says, in English. */
 const char *zev_fault_text(int32_t fault);
 
+/* The version of the library that is linked; of this header, ZEV_VERSION_TEXT. */
+const char *zev_version(void);
+#define ZEV_VERSION_TEXT "0.2.0"
+
 /* A log, in memory of yours. */
 typedef struct {
     uint8_t *bytes;

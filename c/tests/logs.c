@@ -63,6 +63,7 @@ int main(void)
     static const uint8_t id[8];
     bool right = zev_read_next(2, id, log_bytes, length, out, 3, &told) == ZEV_DONE && told.length == 3 && told.writable == 1
         && memcmp(out, "\xD0\x00\x00", 3) == 0 && zev_read_next(2, id, log_bytes, length, out, 2, &told) == ZEV_SHORT && told.length == 3;
+    right = right && strcmp(zev_version(), ZEV_VERSION_TEXT) == 0 && strcmp(zev_fault_text(ZEV_DONE), "no fault") == 0;
     printf("wrong %ld, the message is %s\n", wrong, right ? "told" : "not told");
     return wrong != 0 || !right;
 }
