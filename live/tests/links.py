@@ -10,6 +10,7 @@ from typing import Iterator, Optional
 ATR, ATR_ANSWER, EXCHANGE, EXCHANGED = b"\xd4\x00", b"\xd5\x01", b"\xd4\x06", b"\xd5\x07"
 MORE, KIND = 0x10, 0xE0
 HEX = re.compile(r"[0-9A-F]+")
+CALLS = ("put", "get", "lookup", "unlink", "on", "puts", "raw", "close")
 
 
 @dataclass
@@ -22,7 +23,8 @@ class Peer:
 
 @dataclass
 class Link:
-    """A link that a line opened, and of each put on it the slot of its client, the message and what was told."""
+    """A link that a line opened, with the peer's general bytes and the sizes of the client's end; of each put on it the slot of its client, the message and
+    what was told; and the lines on it."""
 
     name: str
     peer: Peer
@@ -30,6 +32,9 @@ class Link:
     payloads: list[bytes] = field(default_factory=list)
     replies: list[bytes] = field(default_factory=list)
     puts: list[tuple[int, bytes, str]] = field(default_factory=list)
+    theirs: bytes = b""
+    sizes: tuple[int, int] = (128, 1)
+    calls: list[list[str]] = field(default_factory=list)
 
 
 def bytes_of(word: str) -> bytes:
@@ -58,7 +63,7 @@ class Following:
         self.link: Optional[Link] = None
         self.general, self.chains = b"", {EXCHANGE: b"", EXCHANGED: b""}
 
-    def frame(self, name: str, peer: Optional[Peer], content: bytes) -> None:
+    def frame(self, name: str, peer: Optional[Peer], sizes: tuple[int, int], content: bytes) -> None:
         """A frame that came whole. What isn't of NFC-DEP, or no information, says nothing of payloads."""
         if content[:1] != b"\xf0" or len(content) < 4:
             return
@@ -66,7 +71,8 @@ class Following:
         if kind == ATR:
             self.general = rest[14:]
         elif kind == ATR_ANSWER and peer:
-            self.link, self.chains = Link(name, Peer(peer.sizes, list(peer.offers)), self.general), {EXCHANGE: b"", EXCHANGED: b""}
+            self.link = Link(name, Peer(peer.sizes, list(peer.offers)), self.general, theirs=rest[15:], sizes=sizes)
+            self.chains = {EXCHANGE: b"", EXCHANGED: b""}
         elif self.link and kind in self.chains and rest[0] & KIND == 0:
             self.chains[kind] += rest[1:]
             if not rest[0] & MORE:
@@ -98,12 +104,15 @@ def links_of(script: Path) -> Iterator[Link]:
         elif answer == "ok" and words[0] == "offer":
             yield from following.over()
             peers[words[1]].offers.append((bytes_of(words[2]), bytes_of(words[3])))
+        if following.link and words[0] in CALLS:
+            following.link.calls.append(words)
         for text in passed:
             sign, word, *fate = text.split(" ")
             if sign == "!" or fate != ["pass"]:
                 yield from following.over()
             elif HEX.fullmatch(word):
-                following.frame(f"{script.parent.name}/{script.name} {number}", peers.get(words[1]) if words[0] == "link" else None, bytes.fromhex(word))
+                peer, sizes = (peers.get(words[1]), (int(words[2]), int(words[3]))) if words[0] == "link" else (None, (128, 1))
+                following.frame(f"{script.parent.name}/{script.name} {number}", peer, sizes, bytes.fromhex(word))
         if following.link:
             following.link.puts += puts_of(words, answer)
     yield from following.over()

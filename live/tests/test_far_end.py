@@ -10,7 +10,7 @@ from typing import Iterator, NamedTuple
 
 from tests.links import Link, Peer, bytes_of, links_of, report_of
 from tests.test_stored import scripts
-from zevlodek import FarEnd, Fault, LinkParams, Received, read_general, write_general
+from zevlodek import FarEnd, Fault, LinkParams, NearEnd, Received, carry, read_general, write_general
 
 ROOT = Path(__file__).resolve().parent.parent.parent
 LEAST = write_general(LinkParams(128))
@@ -73,6 +73,36 @@ class Stored(unittest.TestCase):
         with self.subTest(one.name):
             self.assertEqual([end.answer(payload).hex() for payload, _ in zip(one.payloads, one.replies)], [reply.hex() for reply in one.replies])
         return end
+
+    def near(self, link: Link) -> int:
+        """The calls of a link, by a near end that is given the replies of its report: how many payloads it sent, each that of the report."""
+        end, at = NearEnd(link.theirs, *link.sizes), 0
+
+        def swap(payload: bytes) -> bytes:
+            nonlocal at
+            self.assertEqual(payload.hex(), link.payloads[at].hex())
+            at += 1
+            return link.replies[at - 1]
+
+        for words in link.calls:
+            jobs = {"put": lambda: end.put(bytes_of(words[1])), "lookup": lambda: end.lookup(words[1]), "unlink": end.close}
+            jobs["get"] = lambda: end.get(bytes_of(words[2]), int(words[1]))
+            if words[0] not in jobs:
+                break
+            try:
+                carry(jobs[words[0]](), swap)
+            except Fault as fault:
+                self.assertLess(fault.number, -500)
+            except (IndexError, ValueError):
+                break  # noise ended the link here, or a log has no room for the message
+        return at
+
+    def test_clients_send_the_payloads_of_their_reports(self):
+        sent = 0
+        for link in (link for script in scripts() for link in links_of(script)):
+            with self.subTest(link.name):
+                sent += self.near(link)
+        self.assertGreater(sent, 1500)
 
     def test_forged_payloads_have_their_replies(self):
         seen = [self.check(one) for script in scripts() for one in forged(script)]

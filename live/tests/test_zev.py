@@ -12,6 +12,7 @@ from pathlib import Path
 from tests.links import links_of
 from tests.test_stored import scripts
 from zevlodek import LinkParams, NearEnd, carry, write_general
+from zevlodek import LinkParams, NearEnd, carry, write_general
 
 LIVE = Path(__file__).resolve().parent.parent
 TAG = f"{sys.executable} {LIVE / 'tag.py'}"
@@ -21,6 +22,48 @@ OLD = bytes.fromhex("D00000")
 def zev(*words: str, text: str = "") -> tuple[int, str, str]:
     ran = subprocess.run([sys.executable, LIVE / "zev", *words], input=text, capture_output=True, text=True, timeout=60)
     return ran.returncode, ran.stdout, ran.stderr
+
+
+class OfEachType(unittest.TestCase):
+    """Reading and writing with tags of each type behind the pipe; each write broken off at each command, obeyed or not, and read again."""
+
+    IDENT = "E004010203040506"
+    TAGS = (
+        ("2", (bytes(12) + bytes.fromhex("E11006000303D00000FE")).ljust(64, b"\0"), ()),
+        ("4", bytes.fromhex("000F20003B000E0406E10400320000" + "0003D00000").ljust(65, b"\0"), ()),
+        ("5", bytes.fromhex("E14006010303D00000FE").ljust(52, b"\0"), ("--id", IDENT)),
+        ("5", bytes.fromhex("E14006010303D00000FE").ljust(56, b"\0"), ("--id", IDENT, "--block", "8")),
+    )
+
+    def test_reading_and_writing(self):
+        new = bytes.fromhex("D1010154") + bytes(30)
+        with tempfile.TemporaryDirectory() as folder:
+            file = Path(folder) / "tag"
+            for kind, memory, more in self.TAGS:
+                words = "--type", kind, *more[:2]
+                over = f"pipe:{TAG} {file} --type {kind} {' '.join(more)}"
+                file.write_bytes(memory)
+                self.assertEqual(zev("read", "--reader", over, *words), (0, "D00000\n", ""))
+                self.assertEqual(zev("write", new.hex(), "--reader", over, *words), (0, "written\n", ""))
+                self.assertEqual(zev("read", "--reader", over, *words), (0, new.hex().upper() + "\n", ""))
+
+    def test_broken_off(self):
+        new = bytes.fromhex("D1010154") + bytes(20)
+        with tempfile.TemporaryDirectory() as folder:
+            file = Path(folder) / "tag"
+            for kind, memory, more in self.TAGS:
+                words, met, status, step = ("--type", kind, *more[:2]), set(), 1, 0
+                while status:
+                    file.write_bytes(memory)
+                    over = f"pipe:{TAG} {file} --type {kind} {' '.join(more)}"
+                    cut = f" --cut {step // 2}" + " --obeys" * (step % 2)
+                    status = zev("write", new.hex(), "--reader", over + cut, *words)[0]
+                    read = zev("read", "--reader", over, *words)
+                    message = bytes.fromhex(read[1].split("\n")[0].replace("-", ""))
+                    self.assertEqual((read[0], message in ((OLD, b"", new) if status else (new,))), (0, True))
+                    met.add(message)
+                    step += 1
+                self.assertEqual(met, {OLD, b"", new})
 
 
 class WithATag(unittest.TestCase):
@@ -113,6 +156,35 @@ class Peers(unittest.TestCase):
         shown = f"{self.OURS}> 8184020207FF05010F\nfrom 32: {self.PUT[9:].hex().upper()}\nhttp://www.example\n> 830401108100000000\n"
         self.assertEqual((status, out), (0, shown + self.OURS + shown + self.OURS))
         self.assertEqual(told, "zev: the general bytes are not of LLCP\n")
+
+    def test_a_client_of_the_library(self):
+        """`zev peer` at one end of a pipe, the near end of the library at the other: a put of 1,000 bytes, another, a get, a name looked up."""
+        words = [sys.executable, LIVE / "zev", "peer", "--offer", "6B31=A1A2"]
+        with subprocess.Popen(words, stdin=subprocess.PIPE, stdout=subprocess.PIPE, text=True) as ran:
+            shown: list[str] = []
+
+            def heard() -> bytes:
+                for line in ran.stdout:
+                    if line.startswith("> "):
+                        return bytes.fromhex(line[2:].strip().replace("-", ""))
+                    shown.append(line.strip())
+                raise EOFError
+
+            def swap(payload: bytes) -> bytes:
+                ran.stdin.write(f"< {payload.hex().upper()}\n")
+                ran.stdin.flush()
+                return heard()
+
+            client = NearEnd(heard())
+            ran.stdin.write(lines(write_general(LinkParams(2175))))
+            messages = bytes(range(250)) * 4, b"\xd1\x01\x01T\x00"
+            for message in messages:
+                carry(client.put(message), swap)
+            self.assertEqual(carry(client.get(b"k1"), swap), b"\xa1\xa2")
+            self.assertEqual(carry(client.lookup("urn:nfc:sn:snep"), swap), 4)
+            carry(client.close(), swap)
+            ran.stdin.close()
+            self.assertEqual((ran.wait(60), [line.split(": ")[1] for line in shown if line.startswith("from 32: ")]), (0, [one.hex().upper() for one in messages]))
 
     def test_a_client_of_the_library(self):
         """`zev peer` at one end of a pipe, the near end of the library at the other: a put of 1,000 bytes, another, a get, a name looked up."""
