@@ -2,6 +2,7 @@
 
 ghost use Rattle.std.specs.Prelude.{◌≡◌, ◌≤◌, ℕ, List, length, false, IfOk, OnOk};
 ghost use Rattle.dep_link.specs.Activating.{HasTarget};
+ghost use Rattle.link_calls.specs.AtOnce.{AreApart, IsAtRest};
 ghost use Rattle.link_calls.specs.Calls.{IsOpen};
 ghost use Rattle.snep_core.specs.Slots.{is_staged_at};
 
@@ -9,11 +10,11 @@ use crate::Phone;
 use crate::meeting::{OWN, PHONES, bytes_of, met};
 use air_core::{Field, Listener};
 use dep_link::{Initiator, activate};
-use link_calls::{close_and_release, get_on, lookup_on, put_on};
+use link_calls::{SlotMessage, close_and_release, get_on, lookup_on, put_on, run_on};
 use llcp_link::{Counted, Counts, Llc};
 use llcp_pdu::LinkParams;
-use nfc_base::{Answerer, EndCause, Event, Fate};
-use snep_core::{Client, NoService, Server, SnepFault};
+use nfc_base::{Answerer, EndCause, Event, Fate, Items};
+use snep_core::{Client, NoService, Outcome, Server, SnepFault};
 use std::alloc::{AllocError, Global};
 use std::process::Abort;
 use std::test::Fail;
@@ -44,6 +45,7 @@ fn linked(
     ensures open_ { IfOk result (λ p. IsOpen ⟦<Phone as Listener>⟧ (λ l. l.target) field.new p.0) }
     ensures going { IfOk result (λ p. p.1.spent ≡ false) }
     ensures free { IfOk result (λ p. is_staged_at p.1.slots 0 ≡ false) }
+    ensures rest { IfOk result (λ p. IsAtRest p.1.slots) }
 {
     let (initiator, general) = activate(field, OWN, far)?;
     let mut llc = Llc::new(alloc, PARAMS, 1, NoService);
@@ -363,5 +365,46 @@ fn payloads_of_one_pdu_have_no_agf_and_bring_a_put_once(rt: HostRuntime) -> Resu
     let alloc = rt.alloc();
     assert_eq!(rt; joined_by(&rt, alloc, &[1; 8])?, (false, 1));
     assert_eq!(rt; joined_by(&rt, alloc, &[])?, (true, 1));
+    Ok(())
+}
+
+/// A message of slot 2, and an empty one of slot 1.
+fn two_messages(alloc: Global) -> Result<Vec<SlotMessage>, AllocError>
+    ensures apart { IfOk result (λ v. AreApart v.items) }
+{
+    let mut messages = Vec::with_capacity(alloc, 2)?;
+    let long = Items::new(Vec::from_slice(alloc, &[0xD0, 0, 0])?);
+    messages.push(SlotMessage {
+        slot: 2,
+        message: long,
+    })?;
+    let message = Items::new(Vec::new(alloc));
+    messages.push(SlotMessage { slot: 1, message })?;
+    Ok(messages)
+}
+
+/// What three slots tell, where messages of two were put at once to this far end.
+fn slots_behind(alloc: Global, far: &mut Counted<Server>) -> Result<[Outcome; 3], Fail> {
+    let mut field = met(alloc, PHONES, &[])?;
+    let (mut initiator, mut client) = linked(alloc, &mut field, far)?;
+    let messages = two_messages(alloc)?;
+    run_on(
+        &mut field,
+        &mut initiator,
+        &mut client,
+        far,
+        Counts::most(alloc),
+        &messages,
+    )?;
+    Ok([client.outcome(0), client.outcome(1), client.outcome(2)])
+}
+
+#[test]
+fn messages_of_two_slots_go_over_at_once(rt: HostRuntime) -> Result<(), Fail> {
+    let alloc = rt.alloc();
+    let mut far = Counted::new(server(&rt, alloc), Counts::most(alloc));
+    let told = [Outcome::NoMessage, Outcome::Success, Outcome::Success];
+    assert_eq!(rt; slots_behind(alloc, &mut far)?, told);
+    assert_eq!(rt; messages_of(far), 2);
     Ok(())
 }
