@@ -41,7 +41,7 @@ def fresh(tag: Tag) -> Tag:
 
 
 def rows_of(script: Path) -> Iterator[tuple[Entry, Tag]]:
-    """Each such line with its tag, which is as the lines before leave it. A write that met noise leaves it unknown."""
+    """Each such line with its tag, which is as the lines before leave it. A write that met noise, and frames by hand, leave it unknown."""
     answers: dict[int, str] = {}
     for line in script.with_name(script.name + ".stdout").read_text(errors="replace").split("\n"):
         number, _, text = line.partition(" ")
@@ -59,6 +59,8 @@ def rows_of(script: Path) -> Iterator[tuple[Entry, Tag]]:
         elif len(words) > 1 and words[1] in tags and str(number) in entries:
             tags[words[1]] = fresh(tags[words[1]])
             yield entries[str(number)], tags[words[1]]
+        elif words[0] == "raw":
+            tags.clear()
         elif words[0] == "write" and answers.get(number) not in ("not found", "wrong kind"):
             tags.pop(words[1], None)
 
