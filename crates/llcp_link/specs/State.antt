@@ -1,5 +1,5 @@
 -- What contracts see of an end of a link (NFC Forum LLCP 1.3).
-use Rattle.std.specs.Prelude.{ℕ, ◌==◌, Bool, true, false, List, [], ◌∷◌, Option, Some, None, if◌then◌else◌, Result, Ok, Err}
+use Rattle.std.specs.Prelude.{◌≡◌, ℕ, ◌==◌, Bool, true, false, List, [], ◌∷◌, Option, Some, None, if◌then◌else◌, Result, Ok, Err}
 use Rattle.llcp_pdu.specs.declared.part.Part.{Part}
 use Rattle.llcp_pdu.specs.declared.general.GeneralFault.{GeneralFault}
 use Rattle.llcp_pdu.specs.declared.general.LinkParams.{LinkParams}
@@ -113,6 +113,10 @@ fresh_end miu window service = record {
   stuck = false;
   service = service;
 }
+
+-- no connection that the other end asked for is open, and nothing waits to be given
+abbrev pub IsIdle : {S : Type 0} → LlcState S → Type 0
+IsIdle l = (l.served ≡ []) × (l.queue ≡ [])
 
 -- the connection of a client's SAP
 abbrev pub conn_from : ℕ → List ConnState → Option ConnState

@@ -1,12 +1,12 @@
 //! One end of a link.
 
-ghost use Rattle.std.specs.Prelude.{◌≡◌, ◌≤◌, ◌⊎◌, Some, length, IfErr, OnOk, OnErr};
+ghost use Rattle.std.specs.Prelude.{◌≡◌, ◌↔◌, ◌≤◌, ◌⊎◌, IsTrue, Some, length, IfErr, OnOk, OnErr};
 ghost use Rattle.std.specs.Borrow.{sem};
 ghost use Rattle.llcp_pdu.specs.General.{IsMiu};
 ghost use Rattle.llcp_conn.specs.Conn.{IsSap, IsWindow};
 ghost use Rattle.llcp_link.specs.Binding.{Binds, binding_refusal};
 ghost use Rattle.llcp_link.specs.Lends.{lends_service};
-ghost use Rattle.llcp_link.specs.State.{fresh_end};
+ghost use Rattle.llcp_link.specs.State.{IsIdle, fresh_end};
 ghost use Rattle.llcp_link.specs.declared.fault.LlcFault.{LlcFault};
 
 use crate::fault::LlcFault;
@@ -105,6 +105,13 @@ impl<S> Llc<S> {
         ensures { result.now ≡ self.now.service }
     {
         &self.service
+    }
+
+    /// Whether no connection that the other end asked for is open, and nothing waits to be given.
+    pub fn is_idle(&self) -> bool
+        ensures { IsTrue result ↔ IsIdle self.now }
+    {
+        self.served.is_empty() && self.queue.is_empty()
     }
 
     /// Binds the service to a SAP, under a name of at most 64 bytes.
