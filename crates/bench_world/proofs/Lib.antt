@@ -99,6 +99,8 @@ pub mod ForgingDue
 pub mod PayloadsWithin
 pub mod SameStories
 pub mod LinkLaw
+mod Covered
+mod LinksAccepted
 pub mod Unfinished
 pub mod CutArrivals
 pub mod CutLinks

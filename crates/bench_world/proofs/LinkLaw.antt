@@ -55,9 +55,9 @@ use Rattle.bench_world.proofs.PutsTold.{AreTold}
 use Rattle.bench_world.proofs.Talked.{AddsBy, adds_all, apart_of, none_behind, puts_asked, talk_begins}
 use Rattle.bench_world.proofs.StoriesHere.{PlacesOf, Stand, StandBy, ended_closed, view_at, view_of}
 use Rattle.bench_world.proofs.StoriesOnLink.{call_over, left_open, link_begins, linked_number, linked_peer, messages_of, talk_over, tolds_of}
-use Rattle.bench_world.proofs.StoriesStand.{View, at, Closed, Opened, Open, IsInStep, closed_keep, closed_told, open_keep, open_told}
+use Rattle.bench_world.proofs.StoriesStand.{View, at, Closed, Covered, Opened, Open, IsInStep, closed_keep, closed_told, open_keep, open_told}
 use Rattle.bench_world.proofs.StoriesStep.{as_many_held, as_many_offered, as_many_with, base_held, many_numbers, no_link, own_below, peer_more, peer_stands, removed_stands, same_link, same_peer, same_tag, tag_more, tag_stands}
-use Rattle.bench_world.proofs.StoriesWithin.{within_stands}
+use Rattle.bench_world.proofs.StoriesWithin.{within_covered, within_stands}
 use Rattle.bench_world.proofs.Unlinking.{count_ended, same_numbers}
 use Rattle.bench_world.proofs.Tales.{goes_on, stories_behind, stories_from}
 use Rattle.bench_world.specs.ByPayloads.{IfPayloads, IsByPayloads}
@@ -113,14 +113,21 @@ module _ (w : WholeWorld) (q : List Fate) (p : Peers) (ys : List Story) (o : Opt
       (subst (λ x. Closed (view_at x (world_after s g.joins c es).fars) ys) (sym peers)
       (subst (λ ks. Closed (view_by (ended o w.fars p) ks) ys) (sym same) (ended_closed o p w.fars ys stand.stand)))
 
+  -- a new peer's list is empty
+  abbrev pub new_held : ℕ → Held
+  new_held limit = record { limit = limit; accepted = [] }
+
+  pub placed_view : (id : List ℕ) (lr miu window limit : ℕ) → view_of (behind (PlacePeer id lr miu window limit) []) ≡ peer_more s ys stand (new_held limit) refl
+  placed_view id lr miu window limit =
+      let V : ℕ → List (Option Held) → View = λ n ks. record { numbers = p.numbers ++ Some (next_number p) ∷ []; placed = n; links = p.links; held = ks } in
+      let end : Option FarEnd = Some (new_end miu window limit) in
+      ap (λ n. V n (map held (w.fars ++ end ∷ []))) (length-append p.gone (None ∷ [])) ∙ ap (V (next_number p + 1)) (map-append held w.fars (end ∷ []))
+
   pub peer_placed : (id : List ℕ) (lr miu window limit : ℕ) (es : List Event) → Steps (PlacePeer id lr miu window limit) es (behind (PlacePeer id lr miu window limit) [])
   peer_placed id lr miu window limit es =
       let c : Command = PlacePeer id lr miu window limit in
-      let k : Held = record { limit = limit; accepted = [] } in
-      let view : view_of (behind c []) ≡ peer_more s ys stand k refl =
-      let V : ℕ → List (Option Held) → View = λ n ks. record { numbers = p.numbers ++ Some (next_number p) ∷ []; placed = n; links = p.links; held = ks } in
-      let end : Option FarEnd = Some (new_end miu window limit) in
-      ap (λ n. V n (map held (w.fars ++ end ∷ []))) (length-append p.gone (None ∷ [])) ∙ ap (V (next_number p + 1)) (map-append held w.fars (end ∷ [])) in
+      let k : Held = new_held limit in
+      let view : view_of (behind c []) ≡ peer_more s ys stand k refl = placed_view id lr miu window limit in
       same_link s (behind c []) (stretch c es) ys stand refl refl refl refl
       (places_more w.field.listeners _ p.numbers (Some (next_number p)) w.fars _ (many_numbers s ys stand) (λ peer. refl) stand.places)
       (λ l is. ap (λ v. at v l.peer) view ∙ same_peer s ys stand k refl l.peer (own_below s ys stand l is))
@@ -193,6 +200,14 @@ module _ (w : WholeWorld) (q : List Fate) (p : Peers) (ys : List Story) (o : Opt
       (grown peer more t.world ends ∙ ap (λ ns. with_held more peer ns (map held w.fars)) (sym numbers)) peers refl
       (ap (λ v. if v then BeginsAndEnds ByForge id forged_general else NothingBegins) opened) refl gone
       (subst (λ ns. HavePlaces t.world.field.listeners ns t.world.fars) (sym (ap (λ (x : Peers). x.numbers) peers ∙ numbers)) places)
+
+  pub forged_covered : (t : State) (peer : ℕ) → placed_under id w.field.listeners p.numbers ≡ Some peer → (more : List Accepted) → (stable t.world).ends ≡ with_accepted more peer p.numbers (stable w).ends
+      → t.peers ≡ with_link_within peer w.fars t.world.fars (ended o w.fars p) → Covered (view_at (ended o w.fars p) w.fars) → Covered (view_of t)
+  forged_covered t peer placed more ends peers all =
+      let before : Peers = ended o w.fars p in
+      let numbers : before.numbers ≡ p.numbers = same_numbers o p w.fars in
+      within_covered unsent t sent ys before id forged_general ByForge (λ y. tt) (ended_closed o p w.fars ys stand.stand) numbers (count_ended o p w.fars) peer placed more
+      (grown peer more t.world ends ∙ ap (λ ns. with_held more peer ns (map held w.fars)) (sym numbers)) peers refl all
 
 -- so behind the command, whether it is answered or cut off
 module _ (w : WholeWorld) (q : List Fate) (p : Peers) (ys : List Story) (o : Option OpenLink) (stand : Stand (record { world = w; queue = q; peers = p; link = o }) ys) (g : Given) (told : Option Answer)
@@ -269,17 +284,24 @@ module _ (w : WholeWorld) (q : List Fate) (p : Peers) (ys : List Story) (l : Ope
     abbrev x : Stretch
     x = record { command = c; joins = g.joins; events = es; told = told }
 
+    -- the story of the open link went on by it
+    pub talk_opened : (now : WholeWorld) (queue : List Fate) (left : Option OpenLink) → map held now.fars ≡ with_held more l.peer p.numbers (map held w.fars)
+        → (z : Opened (view_by p (map held now.fars)) l.peer (last_goes_on (goes_on on x (called_then now queue left)) ys)) × (AreTold (tolds_of asked told) → IsInStep z.now.story)
+    talk_opened now queue left accepted =
+        let t : State = called_then now queue left in
+        let ws : List SlotMessage = messages_of asked in
+        let ts : List Told = tolds_of asked told in
+        let P : List (Option Held) → Type 0 = λ ks. (z : Opened (view_by p ks) l.peer (last_goes_on (goes_on on x t) ys)) × (AreTold ts → IsInStep z.now.story) in
+        subst P (sym accepted)
+        (talk_over on t l ys stand.stand x ws (apart_of on c asked asks may) ts (puts_asked c asked asks told) more (over_end (λ e. AddsBy asked told e more) (λ e. AllAdd ws e ts more) (λ e. adds_all asked told e more) (end_of on l) adds)
+        (unless_numbers left (Some l) now.fars p) accepted)
+
     pub talk_so : (now : WholeWorld) (queue : List Fate) (left : Option OpenLink) → HavePlaces now.field.listeners p.numbers now.fars → map held now.fars ≡ with_held more l.peer p.numbers (map held w.fars)
         → ((k : OpenLink) → left ≡ Some k → (k.peer ≡ l.peer) × AreTold (tolds_of asked told)) → Goes c es (called_then now queue left)
     talk_so now queue left places accepted goes =
         let t : State = called_then now queue left in
         let zs : List Story = last_goes_on (goes_on on x t) ys in
-        let ws : List SlotMessage = messages_of asked in
-        let ts : List Told = tolds_of asked told in
-        let P : List (Option Held) → Type 0 = λ ks. (z : Opened (view_by p ks) l.peer zs) × (AreTold ts → IsInStep z.now.story) in
-        let z : P (map held now.fars) = subst P (sym accepted)
-        (talk_over on t l ys stand.stand x ws (apart_of on c asked asks may) ts (puts_asked c asked asks told) more (over_end (λ e. AddsBy asked told e more) (λ e. AllAdd ws e ts more) (λ e. adds_all asked told e more) (end_of on l) adds)
-        (unless_numbers left (Some l) now.fars p) accepted) in
+        let z : (z : Opened (view_by p (map held now.fars)) l.peer zs) × (AreTold (tolds_of asked told) → IsInStep z.now.story) = talk_opened now queue left accepted in
         let over : Stand t zs = call_over now queue p l zs z.0 left places (λ k e. let ends = goes k e in (ends.0, z.1 ends.1)) in
         let still : (changed on c).link ≡ Some l = ap (λ (s : State). s.link) (still_on on c (on_link c asked asks)) in
         let told_so : stories_behind on x t ys ≡ zs =
@@ -291,48 +313,65 @@ module _ (w : WholeWorld) (q : List Fate) (p : Peers) (ys : List Story) (l : Ope
     pub as_many_talked : (now : WholeWorld) → map held now.fars ≡ with_held more l.peer p.numbers (map held w.fars) → length now.fars ≡ length w.fars
     as_many_talked now accepted = sym (length-map now.fars held) ∙ ap length accepted ∙ as_many_with more l.peer p.numbers (map held w.fars) open_held ∙ length-map w.fars held
 
+    abbrev pub left_behind : Option OpenLink
+    left_behind = asked_behind asked told (Some l) g.joins.own es
+
+    pub talked_then : (t : State) → FrontOf on g c es told t → t ≡ called_then (world_after on g.joins c es) (queue_after q es) left_behind
+    talked_then t front =
+        let now : WholeWorld = world_after on g.joins c es in
+        let still : changed on c ≡ on = still_on on c (on_link c asked asks) in
+        let S : List Fate → Peers → Option OpenLink → State = λ u ps o. record { world = now; queue = u; peers = ps; link = o } in
+        let link_is : link_after on g.joins c es told ≡ left_behind = ap (λ o. link_left o on g.joins c es told) asks in
+        let peers_is : peers_after on g.joins c es told ≡ ended_unless left_behind (Some l) now.fars p =
+        ap (λ o. peers_left o on g.joins c es told) asks ∙ ap (λ o. ended_unless o (Some l) now.fars p) link_is in
+        front.after ∙ ap (λ u. S u (peers_after on g.joins c es told) (link_after on g.joins c es told)) (ap (λ (s : State). queue_after s.queue es) still)
+        ∙ ap (λ ps. S (queue_after q es) ps (link_after on g.joins c es told)) peers_is ∙ ap (S (queue_after q es) (ended_unless left_behind (Some l) now.fars p)) link_is
+
     pub talked : (t : State) → FrontOf on g c es told t → (stable (world_after on g.joins c es)).ends ≡ with_accepted more l.peer p.numbers (stable w).ends
         → ((a : Answer) → told ≡ Some a → told_asked asked l g.joins.own es ≡ Some a) → Goes c es t
     talked t front ends tells =
         let now : WholeWorld = world_after on g.joins c es in
         let still : changed on c ≡ on = still_on on c (on_link c asked asks) in
-        let left : Option OpenLink = asked_behind asked told (Some l) g.joins.own es in
-        let S : List Fate → Peers → Option OpenLink → State = λ u ps o. record { world = now; queue = u; peers = ps; link = o } in
-        let link_is : link_after on g.joins c es told ≡ left = ap (λ o. link_left o on g.joins c es told) asks in
-        let peers_is : peers_after on g.joins c es told ≡ ended_unless left (Some l) now.fars p =
-        ap (λ o. peers_left o on g.joins c es told) asks ∙ ap (λ o. ended_unless o (Some l) now.fars p) link_is in
-        let after : t ≡ called_then now (queue_after q es) left =
-        front.after ∙ ap (λ u. S u (peers_after on g.joins c es told) (link_after on g.joins c es told)) (ap (λ (s : State). queue_after s.queue es) still)
-        ∙ ap (λ ps. S (queue_after q es) ps (link_after on g.joins c es told)) peers_is ∙ ap (S (queue_after q es) (ended_unless left (Some l) now.fars p)) link_is in
         let accepted : map held now.fars ≡ with_held more l.peer p.numbers (map held w.fars) = more_held now w more l.peer p.numbers ends in
         let places : HavePlaces now.field.listeners p.numbers now.fars =
         places_behind w q p ys (Some l) stand g told c es p.numbers (ap (λ (s : State). s.world.field.listeners) still) (as_many_talked now accepted) refl in
-        subst (Goes c es) (sym after) (talk_so now (queue_after q es) left places accepted (λ k e. left_open asked told l k g.joins.own es tells e))
+        subst (Goes c es) (sym (talked_then t front)) (talk_so now (queue_after q es) left_behind places accepted (λ k e. left_open asked told l k g.joins.own es tells e))
 
 -- Where no link is open nothing is sent, and nothing changes.
 module _ (w : WholeWorld) (q : List Fate) (p : Peers) (ys : List Story) (stand : Stand (record { world = w; queue = q; peers = p; link = None }) ys) (g : Given) (told : Option Answer) where
   abbrev off_link : State
   off_link = record { world = w; queue = q; peers = p; link = None }
 
+  -- what is then
+  abbrev pub quiet_then : State
+  quiet_then = record { world = with_numbers (replay bench_air (with_numbers w g.joins.far) []) []; queue = q; peers = p; link = None }
+
+  none_sent : (c : Command) (asked : LinkAsking) → asked_on_link c ≡ Some asked → (es : List Event) (t : State) → FrontOf off_link g c es told t → es ≡ []
+  none_sent c asked asks es t front =
+      nothing_sent (begun off_link g.joins c) es front.turns
+      (due_weaker (λ ns. Over) (due off_link g c) (λ ns n e d. sym (ap (λ o. due_by o off_link g c ns) asks) ∙ e) [] es front.each)
+
+  after_none : (c : Command) (asked : LinkAsking) → asked_on_link c ≡ Some asked → state_after off_link g.joins c [] told ≡ quiet_then
+  after_none c asked asks =
+      let W : State → WholeWorld = λ s. with_numbers (replay bench_air (with_numbers s.world g.joins.far) []) [] in
+      let S : WholeWorld → List Fate → Peers → Option OpenLink → State = λ u f ps o. record { world = u; queue = f; peers = ps; link = o } in
+      let link_is : link_after off_link g.joins c [] told ≡ None = ap (λ o. link_left o off_link g.joins c [] told) asks ∙ none_behind asked told g.joins.own in
+      let peers_is : peers_after off_link g.joins c [] told ≡ p =
+      ap (λ o. peers_left o off_link g.joins c [] told) asks ∙ ap (λ o. ended_unless o None (world_after off_link g.joins c []).fars p) link_is in
+      ap (λ s. S (W s) (queue_after s.queue []) (peers_after off_link g.joins c [] told) (link_after off_link g.joins c [] told)) (still_on off_link c (on_link c asked asks))
+      ∙ ap (λ ps. S (W off_link) q ps (link_after off_link g.joins c [] told)) peers_is ∙ ap (S (W off_link) q p) link_is
+
+  pub none_then : (c : Command) (asked : LinkAsking) → asked_on_link c ≡ Some asked → (es : List Event) (t : State) → FrontOf off_link g c es told t → t ≡ quiet_then
+  none_then c asked asks es t front =
+      front.after ∙ ap (λ xs. state_after off_link g.joins c xs told) (none_sent c asked asks es t front) ∙ after_none c asked asks
+
   pub talk_none : (c : Command) (asked : LinkAsking) → asked_on_link c ≡ Some asked → (es : List Event) (t : State) → FrontOf off_link g c es told t
       → Stand t (stories_behind off_link (record { command = c; joins = g.joins; events = es; told = told }) t ys)
   talk_none c asked asks es t front =
       let x : Stretch = record { command = c; joins = g.joins; events = es; told = told } in
       let still : changed off_link c ≡ off_link = still_on off_link c (on_link c asked asks) in
-      let none : es ≡ [] = nothing_sent (begun off_link g.joins c) es front.turns
-      (due_weaker (λ ns. Over) (due off_link g c) (λ ns n e d. sym (ap (λ o. due_by o off_link g c ns) asks) ∙ e) [] es front.each) in
-      let W : State → WholeWorld = λ s. with_numbers (replay bench_air (with_numbers s.world g.joins.far) []) [] in
-      let S : WholeWorld → List Fate → Peers → Option OpenLink → State = λ u f ps o. record { world = u; queue = f; peers = ps; link = o } in
-      let C : State = state_after off_link g.joins c [] told in
-      let link_is : link_after off_link g.joins c [] told ≡ None = ap (λ o. link_left o off_link g.joins c [] told) asks ∙ none_behind asked told g.joins.own in
-      let peers_is : peers_after off_link g.joins c [] told ≡ p =
-      ap (λ o. peers_left o off_link g.joins c [] told) asks ∙ ap (λ o. ended_unless o None (world_after off_link g.joins c []).fars p) link_is in
-      let is : C ≡ S (W off_link) q p None =
-      ap (λ s. S (W s) (queue_after s.queue []) (peers_after off_link g.joins c [] told) (link_after off_link g.joins c [] told)) still
-      ∙ ap (λ ps. S (W off_link) q ps (link_after off_link g.joins c [] told)) peers_is ∙ ap (S (W off_link) q p) link_is in
-      quietly w q p ys None stand g told c es t front none
-      (subst (λ u. Stand u (stories_behind off_link x u ys)) (sym is)
-      (no_link off_link (S (W off_link) q p None) x ys (talk_begins c es told (on_link c asked asks)) (ap (λ (s : State). s.link) still) refl stand.places stand.stand))
+      subst (λ u. Stand u (stories_behind off_link x u ys)) (sym (none_then c asked asks es t front))
+      (no_link off_link quiet_then x ys (talk_begins c es told (on_link c asked asks)) (ap (λ (s : State). s.link) still) refl stand.places stand.stand)
 
 -- Each legal step.
 module _ (w : WholeWorld) (q : List Fate) (p : Peers) (ys : List Story) (g : Given) (a : Answer) where
@@ -600,88 +639,22 @@ numbers_told : (es : List Entry) → of_entries (λ c events a. told_link c a) e
 numbers_told [] = refl
 numbers_told (e ∷ es) = ap (λ zs. told_link e.command e.answer ++ zs) (numbers_told es)
 
-all_openers : (s t : State) (gs : List Given) (es : List Entry) → Stand s [] → EachLegal s gs es t
+pub all_openers : (s t : State) (gs : List Given) (es : List Entry) → Stand s [] → EachLegal s gs es t
     → map (λ (y : Story). y.opener) (stories_from s [] (map (λ (g : Given). g.joins) gs) es) ≡ openers_in es
 all_openers s t gs es stand legal =
     sym (openers_are (stories_from s [] (map (λ (g : Given). g.joins) gs) es))
     ∙ all_along opener_in opener_told (λ s t x y. refl) begun_openers s t gs es [] stand legal ∙ openers_told es
 
-all_numbers : (s t : State) (gs : List Given) (es : List Entry) → Stand s [] → EachLegal s gs es t
+pub all_numbers : (s t : State) (gs : List Given) (es : List Entry) → Stand s [] → EachLegal s gs es t
     → numbers_by_link (stories_from s [] (map (λ (g : Given). g.joins) gs) es) ≡ told_links es
 all_numbers s t gs es stand legal =
     sym (numbers_are (stories_from s [] (map (λ (g : Given). g.joins) gs) es))
     ∙ all_along linked_in (λ c events a. told_link c a) (λ s t x y. refl) begun_numbers s t gs es [] stand legal ∙ numbers_told es
 
--- An inbox on the way.
-inbox_so : (v : View) (o : Option OpenLink) (ys : List Story) → StandBy v o ys → (peer : ℕ) (k : Held) → at v peer ≡ Some k
-    → inbox_of v.links peer k.accepted ≡ told_of 0 (chosen (λ n. not (came_on_link v.links peer n)) 0 k.accepted) ++ told_by_stories ys peer
-inbox_so v None ys stand peer k found = closed_told v peer k found ys stand
-inbox_so v (Some l) ys stand peer k found = open_told v peer k found l.peer ys stand
-
-end_there : (links : List LinkRange) (peer : ℕ) (k : Held) (x : Option FarEnd) → held x ≡ Some k → inbox_at links (Some peer) x ≡ inbox_of links peer k.accepted
-end_there links peer k None is = absurd cc
-end_there links peer k (Some end) is =
-    let same : record { limit = end.service.limit; accepted = end.service.accepted } ≡ k = cc in
-    ap (λ (h : Held). inbox_of links peer h.accepted) same
-
-accepted_as : (o stayed : Option FarEnd) (k : Held) → held o ≡ Some k → accepted_of o stayed ≡ k.accepted
-accepted_as None stayed k is = absurd cc
-accepted_as (Some end) stayed k is = let same : record { limit = end.service.limit; accepted = end.service.accepted } ≡ k = cc in ap (λ (h : Held). h.accepted) same
-
-inbox_told : (s : State) (ys : List Story) (id : DeviceId) (peer : ℕ) → Stand s ys → peer_under id s ≡ Some peer → inbox_now s id ≡ told_of 0 (gained_aside s peer) ++ told_by_stories ys peer
-inbox_told s ys id peer stand is =
-    let ds : List Device = s.world.field.listeners in
-    let both = base_held (view_of s) s.link ys stand.stand in
-    let there = at_own_place peer (next_number s.peers) (bytes_of id) ds s.peers.numbers (map held s.world.fars) both.0 both.1 is in
-    let end : Option FarEnd = placed_under (bytes_of id) ds s.world.fars in
-    ap (λ n. inbox_at s.peers.links n end) is ∙ end_there s.peers.links peer there.0 end (sym (held_under (bytes_of id) ds s.world.fars) ∙ there.2)
-    ∙ inbox_so (view_of s) s.link ys stand.stand peer there.0 there.1
-    ∙ ap (λ xs. told_of 0 (chosen (λ n. not (came_on_link s.peers.links peer n)) 0 xs) ++ told_by_stories ys peer)
-    (sym (accepted_as (end_numbered peer s.peers.numbers s.world.fars) (get_or s.peers.gone peer None) there.0 (held_at peer s.peers.numbers s.world.fars ∙ there.1)))
-
-inbox_here : (s t : State) (g : Given) (e : Entry) (ys : List Story) (id : DeviceId) → Stand s ys → LegalStep s g e t → e.command ≡ Inbox id → TellsInbox s ys id e.answer
-inbox_here s t g e ys id stand legal is =
-    let answered : e.answer ≡ answers.Inbox (inbox_now s id) = subst (λ c. AnswerLaw s g c e.events e.answer) is legal.answered in
-    let placed : IsPeerPlaced s id = subst (Accepts s) is legal.front.accepted in
-    let number = number_under (bytes_of id) s.world.field.listeners s.peers.numbers stand.places.numbers placed in
-    record { peer = number.0; placed = number.1; told = answered ∙ ap answers.Inbox (inbox_told s ys id number.0 stand number.1) }
-
-inbox_along : (s t : State) (gs : List Given) (before : List Entry) (e : Entry) (behind : List Entry) (ys : List Story) (id : DeviceId) → Stand s ys → EachLegal s gs (before ++ e ∷ behind) t
-    → e.command ≡ Inbox id → TellsInbox (state_from s (map (λ (g : Given). g.joins) gs) before) (stories_from s ys (map (λ (g : Given). g.joins) gs) before) id e.answer
-inbox_along s t [] [] e behind ys id stand legal is = absurd legal
-inbox_along s t [] (b ∷ before) e behind ys id stand legal is = absurd legal
-inbox_along s t (g ∷ gs) [] e behind ys id stand legal is = inbox_here s legal.0 g e ys id stand legal.1 is
-inbox_along s t (g ∷ gs) (b ∷ before) e behind ys id stand legal is =
-    let mid : State = legal.0 in
-    let ns : List Joins = map (λ (h : Given). h.joins) gs in
-    subst (λ x. TellsInbox (state_from x ns before) (stories_from x (stories_behind s (stretch_of g.joins b) x ys) ns before) id e.answer) legal.1.front.after
-    (inbox_along mid t gs before e behind (stories_behind s (stretch_of g.joins b) mid ys) id (step s mid g b ys stand legal.1) legal.2 is)
-
--- The law.
+-- Each story keeps the law, and they are counted.
 pub first_stand : Stand first_state []
 first_stand = record { places = record { fars = refl; numbers = tt }; stand = record { done = []; base = record { held = tt; apart = tt; each = tt; counted = tt }; links = refl; told = refl } }
 
 pub all_keep : (v : View) (o : Option OpenLink) (ys : List Story) → StandBy v o ys → AllByRecursion KeepsLinkLaw ys × AreCounted 1 ys
 all_keep v None ys stand = (closed_keep v ys stand, stand.base.counted)
 all_keep v (Some l) ys stand = (open_keep v l.peer ys stand, stand.opened.base.counted)
-
-pub link_law : LinkLaw
-link_law lines numbers journal last leads =
-    subst (λ ns. LinksAccept ns journal) leads.joins
-    (let ns : List Joins = map (λ (g : Given). g.joins) leads.given in
-    let ys : List Story = stories_from first_state [] ns journal in
-    let stand = along first_state last leads.given journal [] first_stand leads.steps in
-    let all = all_keep (view_of last) last.link ys stand.stand in
-    let whole : stories_of ns journal ≡ ys =
-    same_from step first_state last leads.given journal [] [] first_stand (subst (λ es. EachLegal first_state leads.given es last) (sym (append-nil journal)) leads.steps) in
-    record {
-      accept = subst (AllByRecursion KeepsLinkLaw) (sym whole) all.0;
-      arrived = subst (AllByRecursion (IfPayloads IsByPayloads)) (sym whole) (steps_kept first_state leads.given journal last [] (record { all = tt; going = tt }) leads.steps);
-      opened = ap (map (λ (y : Story). y.opener)) whole ∙ all_openers first_state last leads.given journal first_stand leads.steps;
-      linked = ap numbers_by_link whole ∙ all_numbers first_state last leads.given journal first_stand leads.steps;
-      counted = subst (AreCounted 1) (sym whole) all.1;
-      inboxes = λ before e behind id split is.
-          let steps : EachLegal first_state leads.given (before ++ e ∷ behind) last = subst (λ es. EachLegal first_state leads.given es last) split leads.steps in
-          subst (λ zs. TellsInbox (state_from first_state ns before) zs id e.answer) (sym (same_from step first_state last leads.given before (e ∷ behind) [] first_stand steps))
-          (inbox_along first_state last leads.given before e behind [] id first_stand steps is);
-    })

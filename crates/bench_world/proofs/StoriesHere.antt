@@ -89,11 +89,11 @@ pub count_is : (o : Option FarEnd) → accepted_by o ≡ length (taken_by (held 
 count_is None = refl
 count_is (Some l) = refl
 
+pub count_there : (p : Peers) (fars : List (Option FarEnd)) (n : ℕ) (ys : List Story) (o : Opened (view_at p fars) n ys) → length o.going.there.accepted ≡ accepted_at n p fars
+count_there p fars n ys o = sym (count_is (end_numbered n p.numbers fars) ∙ ap (λ k. length (taken_by k)) (held_at n p.numbers fars ∙ o.going.found))
+
 pub over_closed : (p : Peers) (fars : List (Option FarEnd)) (n : ℕ) (ys : List Story) → Opened (view_at p fars) n ys → Closed (view_at (with_last_ended (accepted_at n p fars) p) fars) ys
-over_closed p fars n ys o =
-    let count : length o.going.there.accepted ≡ accepted_at n p fars =
-    sym (count_is (end_numbered n p.numbers fars) ∙ ap (λ k. length (taken_by k)) (held_at n p.numbers fars ∙ o.going.found)) in
-    subst (λ m. Closed (view_ended (view_at p fars) m) ys) count (closed_here (view_at p fars) n ys o)
+over_closed p fars n ys o = subst (λ m. Closed (view_ended (view_at p fars) m) ys) (count_there p fars n ys o) (closed_here (view_at p fars) n ys o)
 
 pub ended_closed : (o : Option OpenLink) (p : Peers) (fars : List (Option FarEnd)) (ys : List Story) → StandBy (view_at p fars) o ys → Closed (view_at (ended o fars p) fars) ys
 ended_closed None p fars ys stand = stand

@@ -66,9 +66,12 @@ pub record IsGoing (v : View) (n : ℕ) (x : Paired) : Type 0 where
   pub unended : x.range.end ≡ None
   pub start : x.range.start ≤ length there.accepted
 
--- each message came on a link, as it is where no frames of a script's own were sent
+-- each message of a peer's list came on a link, as it is where no frames of a script's own were sent
 abbrev pub IsCovered : View → ℕ → Type 0
 IsCovered v p = IfHeld (λ k. (n : ℕ) → n < length k.accepted → came_on_link v.links p n ≡ true) (at v p)
+
+abbrev pub Covered : View → Type 0
+Covered v = (p : ℕ) → IsCovered v p
 
 pub record Base (v : View) (done : List Paired) (ys : List Story) : Type 0 where
   pub held : AreHeld v.numbers v.held
@@ -316,7 +319,7 @@ module _ (v : View) (n : ℕ) (ys : List Story) (o : Opened v n ys) (more : List
       ap (λ ls. came_on_link ls p m) o.links
       ∙ came_last (ranges o.done) o.now.range p m own (in_open o.now.range m o.going.unended (omega (arith, beyond, o.going.start)))
 
-  pub covered_more : ((p : ℕ) → IsCovered v p) → (p : ℕ) → IsCovered after p
+  pub covered_more : Covered v → Covered after
   covered_more all p = by (nat_eq n p) refl
     where
       Covers : Held → Type 0
@@ -491,7 +494,7 @@ module _ (v : View) (n : ℕ) (ys : List Story) (o : Opened v n ys) where
   done_over : (x : Paired) → IsDone v x → IsDone over x
   done_over x d = record { fits = record { peer = d.fits.peer; below = d.fits.below; holds = d.fits.holds }; law = d.law; closed = d.closed }
 
-  pub covered_over : ((p : ℕ) → IsCovered v p) → (p : ℕ) → IsCovered over p
+  pub covered_over : Covered v → Covered over
   covered_over all p = by (at v p) refl (all p)
     where
       same_place : (m : ℕ) → (nat_eq o.now.range.peer p ≡ true → m < count) → came_on_link (last_ended count v.links) p m ≡ came_on_link v.links p m
@@ -527,6 +530,15 @@ module _ (v : View) (n : ℕ) (ys : List Story) (o : Opened v n ys) where
     told = o.told ∙ sym (stories_more o.done last);
   }
 
+-- one link more
+pub covered_linked : (v : View) (r : LinkRange) → Covered v → Covered (record { numbers = v.numbers; placed = v.placed; links = v.links ++ r ∷ []; held = v.held })
+covered_linked v r all p = by (at v p) (all p)
+  where
+    by : (x : Option Held) → IfHeld (λ h. (m : ℕ) → m < length h.accepted → came_on_link v.links p m ≡ true) x
+        → IfHeld (λ h. (m : ℕ) → m < length h.accepted → came_on_link (v.links ++ r ∷ []) p m ≡ true) x
+    by None h = tt
+    by (Some x) h = λ m within. came_before v.links (r ∷ []) p m (h m within)
+
 -- A link begins, to a peer that is placed.
 abbrev pub view_begun : View → ℕ → ℕ → View
 view_begun v n start = record { numbers = v.numbers; placed = v.placed; links = v.links ++ record { peer = n; start = start; end = None } ∷ []; held = v.held }
@@ -541,14 +553,6 @@ module _ (v : View) (n : ℕ) (ys : List Story) (c : Closed v ys) (k : Held) (fo
 
   done_begun : (x : Paired) → IsDone v x → IsDone from_here x
   done_begun x d = record { fits = record { peer = d.fits.peer; below = d.fits.below; holds = d.fits.holds }; law = d.law; closed = d.closed }
-
-  pub covered_begun : ((p : ℕ) → IsCovered v p) → (p : ℕ) → IsCovered from_here p
-  covered_begun all p = by (at v p) (all p)
-    where
-      by : (x : Option Held) → IfHeld (λ h. (m : ℕ) → m < length h.accepted → came_on_link v.links p m ≡ true) x
-          → IfHeld (λ h. (m : ℕ) → m < length h.accepted → came_on_link (v.links ++ first.range ∷ []) p m ≡ true) x
-      by None h = tt
-      by (Some x) h = λ m within. came_before v.links (first.range ∷ []) p m (h m within)
 
   step_begun : IsInStep y
   step_begun client =

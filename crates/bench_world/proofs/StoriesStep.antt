@@ -192,7 +192,7 @@ module _ (w : WholeWorld) (q : List Fate) (p : Peers) (c : Stretch) (ys : List S
     still_next : (ps : Peers) → next_number (without_number id ds w.fars ps) ≡ next_number ps
     still_next ps = as_many_gone (placed_under id ds ps.numbers) (placed_under id ds w.fars) ps.gone
 
-    gone_view : (ps : Peers) → view_less (view_at ps w.fars) id ds ≡ view_at (without_number id ds w.fars ps) (without_place id ds w.fars)
+    pub gone_view : (ps : Peers) → view_less (view_at ps w.fars) id ds ≡ view_at (without_number id ds w.fars ps) (without_place id ds w.fars)
     gone_view ps =
         let V : ℕ → List (Option Held) → View = λ n ks. record { numbers = without_place id ds ps.numbers; placed = n; links = ps.links; held = ks } in
         ap (λ n. V n (without_place id ds (map held w.fars))) (sym (still_next ps)) ∙ ap (V (next_number (without_number id ds w.fars ps))) (sym (held_gone id ds w.fars))

@@ -14,7 +14,7 @@ use Rattle.bench_world.proofs.AtNumbers.{Held, adding, at_number, at_own, at_own
 use Rattle.bench_world.proofs.PeersNumbered.{HavePlaces}
 use Rattle.bench_world.proofs.SameStories.{last_equal}
 use Rattle.bench_world.proofs.StoriesHere.{Stand, StandBy, count_is, gain, taken_by, view_at, view_of}
-use Rattle.bench_world.proofs.StoriesStand.{Closed, Open, Opened, View, at, closed_here, last_range, last_story, open_here, opened_more, stories, view_begun, view_ended, view_more, went_on}
+use Rattle.bench_world.proofs.StoriesStand.{Closed, Covered, Open, Opened, View, at, closed_here, covered_linked, covered_more, covered_over, last_range, last_story, open_here, opened_more, stories, view_begun, view_ended, view_more, went_on}
 use Rattle.bench_world.proofs.Tales.{gained_by, goes_on, stories_behind}
 
 -- The end that stands at a number, and what it held.
@@ -107,6 +107,12 @@ module _ (s t : State) (x : Stretch) (ys : List Story) (p : Peers) (id general :
       ∙ ap (λ a. V (p.links ++ R a (length goes.going.there.accepted) ∷ []) (map held t.world.fars)) start_is
       ∙ ap (λ b. V (p.links ++ R (accepted_at peer p s.world.fars) b ∷ []) (map held t.world.fars)) counted
       ∙ ap (λ q. view_at q t.world.fars) (sym peers)
+
+  pub within_covered : Covered v → Covered (view_of t)
+  within_covered all =
+      subst Covered view_is (covered_over went peer (ys ++ story ∷ []) goes
+      (covered_more (view_begun v peer (length k.accepted)) peer (ys ++ begun_story ∷ []) begins.opened more
+      (covered_linked v (record { peer = peer; start = length k.accepted; end = None }) all)))
 
   -- what begins in the stretch is this story
   begun_is : begins_in x ≡ BeginsAndEnds opener id general → begun_by (begins_in x) (goes_on s x t) s t ≡ story ∷ []

@@ -1,7 +1,7 @@
 -- The law of links: what a peer accepts on a link is a prefix of what was put there and fits, which covers all that was
 -- told to be taken, and at most one more; and it's what the payloads put that arrived there (NFC Forum SNEP 1.0; the law
 -- is this project's own).
-use Rattle.std.specs.Prelude.{◌≡◌, ℕ, ◌+◌, ◌==◌, nat_eq, not, ◌⊎◌, List, [], ◌∷◌, ◌++◌, map, if◌then◌else◌, Option, Some, None}
+use Rattle.std.specs.Prelude.{◌≡◌, Bool, true, false, ℕ, ◌+◌, ◌==◌, nat_eq, not, ◌⊎◌, List, [], ◌∷◌, ◌++◌, map, if◌then◌else◌, Option, Some, None}
 use Rattle.std.specs.List.{AllByRecursion}
 use Rattle.snep_core.specs.Links.{Put, LinkAccepts}
 use Rattle.snep_core.specs.Payloads.{accepted_from}
@@ -100,6 +100,18 @@ InboxesTell numbers journal =
     (before : List Entry) (e : Entry) (behind : List Entry) (id : DeviceId) → journal ≡ before ++ e ∷ behind → e.command ≡ commands.Inbox id
     → TellsInbox (state_from first_state numbers before) (stories_of numbers before) id e.answer
 
+-- Frames of a script's own are sent by a command.
+abbrev pub is_raw : Command → Bool
+is_raw (commands.Raw id frames) = true
+is_raw c = false
+
+-- As long as a journal sends no such frames, what stands in a peer's list came on its links: an inbox tells of no others.
+abbrev pub NothingAside : List Joins → List Entry → Type 0
+NothingAside numbers journal =
+    (before : List Entry) (behind : List Entry) (id : DeviceId) (peer : ℕ) → journal ≡ before ++ behind
+    → AllByRecursion (λ (e : Entry). is_raw e.command ≡ false) before → peer_under id (state_from first_state numbers before) ≡ Some peer
+    → gained_aside (state_from first_state numbers before) peer ≡ []
+
 -- The links of a journal, by the numbers of PDUs of its entries. Each has its story, and its number, in order, from 1 on;
 -- an entry has one exactly where a link begins in it; and those that `link` opened are those that the answers `linked`
 -- tell of.
@@ -110,6 +122,7 @@ pub record LinksAccept (numbers : List Joins) (journal : List Entry) : Type 0 wh
   pub linked : numbers_by_link (stories_of numbers journal) ≡ told_links journal
   pub counted : AreCounted 1 (stories_of numbers journal)
   pub inboxes : InboxesTell numbers journal
+  pub aside : NothingAside numbers journal
 
 -- So it is of each legal journal.
 abbrev pub LinkLaw : Type 0
