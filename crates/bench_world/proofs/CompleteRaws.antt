@@ -31,7 +31,7 @@ use Rattle.bench_world.specs.declared.entry.Entry.{Entry}
 use Rattle.bench_world.specs.declared.entry.Loss.TheVariants as losses
 use Rattle.bench_world.specs.declared.entry.RawHeard.{RawHeard}
 use Rattle.bench_world.specs.Completing.{IsQuietOnce}
-use Rattle.bench_world.specs.CompletingRaws.{IsHeardOf, IsUndisturbedRaw, QuietRaws, RawsComplete, RawsPlaced}
+use Rattle.bench_world.specs.CompletingRaws.{IsHeardOf, IsUndisturbedRaw, QuietRaws, RawsComplete, RawsQuietly, RawsPlaced}
 use Rattle.bench_world.specs.Journal.{asking_lines}
 use Rattle.bench_world.specs.Legal.{State, Given, LegalStep, AnswerLaw, RawLaw, begun, due, first_state}
 use Rattle.bench_world.specs.Linking.{IsFieldLost}
@@ -159,5 +159,8 @@ module _ (s t : State) (g : Given) (e : Entry) (id : DeviceId) (frames : List Si
 pub raws_complete : RawsComplete
 raws_complete lines numbers journal s t g e id frames d leads step o calm = raw_complete s t g e id frames d step o calm
 
+pub raws_quietly : (s t : State) (g : Given) (e : Entry) → LegalStep s g e t → AllPass s.queue → RawsQuietly s e
+raws_quietly s t g e step pass id frames d o = raw_complete s t g e id frames d step o (undisturbed s t g e id frames d step o pass)
+
 pub quiet_raws : QuietRaws
-quiet_raws lines numbers journal s t g e id frames d leads step pass o = raw_complete s t g e id frames d step o (undisturbed s t g e id frames d step o pass)
+quiet_raws lines numbers journal s t g e leads step pass = raws_quietly s t g e step pass

@@ -43,6 +43,7 @@ use Rattle.bench_world.specs.Quiet.{AllPass}
 use Rattle.bench_world.specs.QuietHearing.{AllAlong, selected_by, AnswersAll, IsWellHeard, IsHeardIfQuiet, IsQuietLine, IsQuietEntry, QuietHears, QuietScript}
 use Rattle.bench_world.proofs.Complete.{of_first}
 use Rattle.bench_world.proofs.CompleteForging.{forges_quietly}
+use Rattle.bench_world.proofs.CompleteRaws.{raws_quietly}
 use Rattle.bench_world.proofs.CompleteLinkings.{links_quietly}
 use Rattle.bench_world.proofs.Fronts.{on_field}
 use Rattle.bench_world.proofs.Placing.{IsWith, is_with, with_sound}
@@ -256,6 +257,7 @@ quiet_entry s t g line e calm q sp step =
         written3 = λ id m d is p shows. quiet_threes_written s t g e id m d step is p calm.queue shows;
         links = links_quietly s t g e calm.ready step calm.queue;
         forges = forges_quietly s t g e calm.ready step calm.queue;
+        raws = raws_quietly s t g e step calm.queue;
         talks = quiet_talks s t g e step calm.queue;
       },
       record { ready = ready_step s t g line e sp step calm.ready; well = stored_step s t g e step calm.ready.tame.sound calm.well; queue = on.1 },

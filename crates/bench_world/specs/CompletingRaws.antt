@@ -48,7 +48,10 @@ RawsComplete =
     → LegalStep s g e t → RawsPlaced s e id frames d → IsUndisturbedRaw id frames e.events → IsHeardOf (length frames) e.answer
 
 -- On quiet air, where no fate is left but Pass, nothing keeps them from that.
+abbrev pub RawsQuietly : State → Entry → Type 0
+RawsQuietly s e = (id : DeviceId) (frames : List Signal) (d : Device) → RawsPlaced s e id frames d → IsHeardOf (length frames) e.answer
+
 abbrev pub QuietRaws : Type 0
 QuietRaws =
-    (lines : List (List ℕ)) (numbers : List Joins) (journal : List Entry) (s t : State) (g : Given) (e : Entry) (id : DeviceId) (frames : List Signal) (d : Device) → LeadsTo lines numbers journal s
-    → LegalStep s g e t → AllPass s.queue → RawsPlaced s e id frames d → IsHeardOf (length frames) e.answer
+    (lines : List (List ℕ)) (numbers : List Joins) (journal : List Entry) (s t : State) (g : Given) (e : Entry) → LeadsTo lines numbers journal s → LegalStep s g e t → AllPass s.queue
+    → RawsQuietly s e

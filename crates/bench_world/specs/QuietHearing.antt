@@ -29,6 +29,7 @@ use Rattle.bench_world.specs.Journal.{LeadsTo}
 use Rattle.bench_world.specs.Legal.{State, Joins, changed, state_after, first_state}
 use Rattle.bench_world.specs.Quiet.{AllPass}
 use Rattle.bench_world.specs.CompletingForging.{ForgesQuietly}
+use Rattle.bench_world.specs.CompletingRaws.{RawsQuietly}
 use Rattle.bench_world.specs.CompletingThrees.{IsPlaced3}
 use Rattle.bench_world.specs.Threes.{TellsRead3, TellsWrite3}
 use Rattle.bench_devices.specs.Threes.{ShowsThreeWriteOf}
@@ -103,8 +104,8 @@ pub record WritesPlaced (s : State) (e : Entry) (id : DeviceId) (m : Msg) (d : D
 
 -- An entry of a script without noise: everything passed; a read of a placed tag tells what its store holds, a write
 -- what it comes to, which is success where the tag takes the message and none of its blocks is locked, a search lists
--- the whole field, and one for Type 5 or Type 3 tags all of these; a placed peer is linked, and replies to each payload that is sent to it by hand, and each command on
--- the open link is answered as the peer answers it.
+-- the whole field, and one for Type 5 or Type 3 tags all of these; a placed peer is linked, and replies to each payload that is sent to it by hand; of each frame that is
+-- sent to a placed device by hand it is told what was heard, and a silence may come of any of them; and each command on the open link is answered as the peer answers it.
 pub record IsQuietEntry (s : State) (e : Entry) (t : State) : Type 0 where
   pub quiet : noise e.events ≡ 0
   pub hears : IsWellHeard e
@@ -119,6 +120,7 @@ pub record IsQuietEntry (s : State) (e : Entry) (t : State) : Type 0 where
   pub written3 : (id : List ℕ) (m : Msg) (d : Device) → e.command ≡ Write3 id m → IsPlaced3 s id d → ShowsThreeWriteOf (message_of m) d (Ok tt) → e.answer ≡ answers.Written
   pub links : LinksQuietly s e
   pub forges : ForgesQuietly s e
+  pub raws : RawsQuietly s e
   pub talks : TalksQuietly s e t
 
 -- Where no line has another fate than Pass, each entry is one.

@@ -117,8 +117,8 @@ pub fn quiet_air()
 /// and are within its limit, in order, each whole and once, none left out, up to some point. That point covers all that
 /// were told to be taken, and at most one more: the last put, which then wasn't answered. It's just what the payloads put
 /// that arrived there while the link was open, counted from PNI 0, whatever was offered between them; of a link whose frames
-/// were written by hand nothing of this is said. And an inbox tells what its peer accepted on no link, and then what it
-/// accepted on each, each message once, and nothing else. Behind a command that want of memory cut off
+/// were written by hand nothing of this is said. And an inbox tells what its peer accepted on no link, which is nothing
+/// as long as no frames of a script's own were sent, and then what it accepted on each, each message once, and nothing else. Behind a command that want of memory cut off
 /// it is so too, and its put counts as put; of what the last payload put there is a front.
 pub fn links_accept()
     ensures whole { LinkLaw }
