@@ -12,6 +12,7 @@ use Rattle.peer_air.specs.PeerFars.{peer_ends}
 use Rattle.snep_core.specs.Accord.{Accords}
 use Rattle.llcp_link.specs.Counting.{StopsCounted}
 use Rattle.snep_core.specs.Server.{Received, serving}
+use Rattle.snep_core.specs.declared.job.OnSap.{OnSap}
 use Rattle.snep_core.specs.Talk.{EndState, Step, Ends}
 use Rattle.link_calls.specs.Asking.{Call, call_begins}
 use Rattle.link_calls.specs.CallDue.{Comes, BrokenBy, call_due_at}
@@ -38,7 +39,7 @@ use Rattle.bench_world.specs.Peers.{Peers}
 use Rattle.bench_world.proofs.CallCalm.{added_calm, made_calm}
 use Rattle.bench_world.proofs.OnLink.{Ends as FarEnds, end_is, leaves, linked_in, own, opened, stands, trace_is}
 use Rattle.bench_world.proofs.Restarted.{set_there}
-use Rattle.bench_world.proofs.OnCall.{IsCall, Law, broke, came, end, events, from_state, gone_then, halted, next, open_then, place, plain, same, short}
+use Rattle.bench_world.proofs.OnCall.{IsCall, Law, broke, came, end, events, from_state, gone_then, halted, link_then, next, open_then, place, plain, same, short}
 
 module _ (air : Air Device) (ends : FarEnds) (peers : Peers) (l : OpenLink) (settled : IsSettled (under ends peers (Some l) air)) where
   -- what holds of the far end holds of it in the state
@@ -65,8 +66,8 @@ module _ (air : Air Device) (ends : FarEnds) (peers : Peers) (l : OpenLink) (set
     abbrev Old : Machines
     Old = under ends peers (Some l) air
 
-    abbrev pub Open : EndState → Machines
-    Open client = open_then air ends peers l settled c call is b j after client
+    abbrev pub Open : List OnSap → EndState → Machines
+    Open jobs client = open_then air ends peers l settled c call is b j after jobs client
 
     abbrev pub Gone : Machines
     Gone = gone_then air ends peers l settled c call is b j after
@@ -79,9 +80,9 @@ module _ (air : Air Device) (ends : FarEnds) (peers : Peers) (l : OpenLink) (set
         in_step (own air ends peers l settled) spot b left.at j j.core.number [] [] made.open_.in_step.1 made.open_.in_step.0
 
     -- the link is open again
-    reopened : (to : Step) (client : EndState) → IsMade ghosts device_end joins.own from air l.initiator counted b j after to → Accords client after.end
-        → IsOpen b (slice_set ends spot (Some after.end)) peers (record { peer = l.peer; initiator = j; client = client })
-    reopened to client made accords = record {
+    reopened : (to : Step) (jobs : List OnSap) (client : EndState) → IsMade ghosts device_end joins.own from air l.initiator counted b j after to → Accords client after.end
+        → IsOpen b (slice_set ends spot (Some after.end)) peers (link_then air ends peers l settled c call is b j after jobs client)
+    reopened to jobs client made accords = record {
       place = spot;
       number = (opened air ends peers l settled).number;
       step = in_step_still to made;
@@ -92,14 +93,14 @@ module _ (air : Air Device) (ends : FarEnds) (peers : Peers) (l : OpenLink) (set
     }
 
     -- the call came to its end
-    pub made_obeyed : (jobs : _) (client : EndState) (answer : Answer) → IsMade ghosts device_end joins.own from air l.initiator counted b j after (Ends jobs client) → told_step call (Ends jobs client) ≡ Some answer
-        → ((loss : Loss) → answer ≡ answers.LinkEnded loss → ⊥) → AnswerSo answer → Accords client after.end → ObeyedBy joins Old (Open client) c answer
+    pub made_obeyed : (jobs : List OnSap) (client : EndState) (answer : Answer) → IsMade ghosts device_end joins.own from air l.initiator counted b j after (Ends jobs client) → told_step call (Ends jobs client) ≡ Some answer
+        → ((loss : Loss) → answer ≡ answers.LinkEnded loss → ⊥) → AnswerSo answer → Accords client after.end → ObeyedBy joins Old (Open jobs client) c answer
     made_obeyed jobs client answer made told never law accords =
         let t = made.turns device_linked devices_link spot (stands air ends peers l settled) ends in
         came air ends peers l settled c call is b j after joins (Comes (Ends jobs client) j) t made.carried.setting jobs client refl answer told never
         (added_calm air b (made_calm joins.own from (Ends jobs client) air b l.initiator j counted after made) settled.idle.quiet (events air ends peers l settled c call is b j after joins (Comes (Ends jobs client) j) t)
         (trace_is air ends peers l settled (next air ends peers l settled c call is b j after joins (Comes (Ends jobs client) j) t) (plain air ends peers l settled c call is b j after joins (Comes (Ends jobs client) j) t) b joins.far after t.notes t.going)) law
-        (made.carried.arrives, (linked_in b spot j (in_step_still (Ends jobs client) made), made.carried.counted refl)) (reopened (Ends jobs client) client made accords)
+        (made.carried.arrives, (linked_in b spot j (in_step_still (Ends jobs client) made), made.carried.counted refl)) (reopened (Ends jobs client) jobs client made accords)
 
     -- its link ended
     pub lost_obeyed : (why : EndCause) (answer : Answer) → IsEndedBy ghosts device_end joins.own from air l.initiator counted b j after why → told_loss why ≡ Some answer → AnswerSo answer → ObeyedBy joins Old Gone c answer

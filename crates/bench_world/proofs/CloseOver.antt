@@ -10,6 +10,7 @@ use Rattle.dep_link.specs.Releasing.{rls_frame}
 use Rattle.snep_core.specs.declared.fault.SnepFault.{SnepFault}
 use Rattle.snep_core.specs.declared.fault.SnepFault.TheVariants.{LinkEnded, Memory}
 use Rattle.snep_core.specs.Accord.{Accords, AsideFails, IsClosed}
+use Rattle.snep_core.specs.declared.slot.Slot.{Slot}
 use Rattle.snep_core.specs.Talk.{EndState, Step, closes}
 use Rattle.link_calls.specs.Closing.{ClosingFails, IsReleased}
 use Rattle.bench_script.specs.declared.command.Command.TheVariants.{Unlink}
@@ -30,9 +31,9 @@ use Rattle.bench_world.proofs.LinkOver.{Before, GoneAt, accords, called, counted
 
 module _ (old mid : Machines) (settled : IsSettled old) (q : ℕ) (l : OpenLink) (far : Choosing FarEnd) (t : TakesLink old q l far.end mid) (joins : Joins) (counts : far.numbers ≡ joins.far)
     (b : Air Device) (j : InitState) (after : Choosing FarEnd)
-    (client : EndState) where
+    (client : EndState) (slots : List Slot) where
   abbrev Of : FarEnd → Choosing FarEnd
-  Of f = counted old mid settled q l far.end t joins b j after client f
+  Of f = counted old mid settled q l far.end t joins b j after client slots f
 
   abbrev Own : FarEnd
   Own = its old mid settled q l far.end t
@@ -47,13 +48,13 @@ module _ (old mid : Machines) (settled : IsSettled old) (q : ℕ) (l : OpenLink)
   accord = accords old mid settled q l far.end t
 
   abbrev pub Down : Machines
-  Down = put_down (called old mid settled q l far.end t joins b j after client) q after.end
+  Down = put_down (called old mid settled q l far.end t joins b j after client slots) q after.end
 
   abbrev Gone : Machines
-  Gone = GoneAt old mid settled q l far.end t joins b j after client (spot old mid settled q l far.end t)
+  Gone = GoneAt old mid settled q l far.end t joins b j after client slots (spot old mid settled q l far.end t)
 
   abbrev Was : Machines
-  Was = Before old mid settled q l far.end t joins b j after client
+  Was = Before old mid settled q l far.end t joins b j after client slots
 
   abbrev Quiet : Type 0
   Quiet = (d : Device) → devices.handed d rls_frame ≡ Untouched
@@ -66,13 +67,13 @@ module _ (old mid : Machines) (settled : IsSettled old) (q : ℕ) (l : OpenLink)
 
   pub told_closed : (new : Machines) → new ≡ Down → (to : Step) → Closed to far mid.air → (Accords l.client far.end → Quiet → IsClosed far.end client after.end) → ObeyedBy joins old new Unlink answers.Unlinked
   told_closed new down to r closed =
-      gone_so old mid settled q l far.end t joins b j after client Unlink new answers.Unlinked down
+      gone_so old mid settled q l far.end t joins b j after client slots Unlink new answers.Unlinked down
       (released old.air old.ends old.peers l (so old mid settled q l far.end t) joins b after none_at_rls j client to (of_own (Closed to) r) (of_own (λ f a. IsClosed f.end client after.end) (closed accord none_at_rls)))
 
   pub told_lost : (new : Machines) → new ≡ Down → (x : SnepFault) (c : EndCause) → x ≡ LinkEnded c → Fails x far mid.air → (Accords l.client far.end → Quiet → AsideFails far.end x after.end)
       → (answer : Answer) → told_loss c ≡ Some answer → ObeyedBy joins old new Unlink answer
   told_lost new down x c r fails left answer told =
-      gone_so old mid settled q l far.end t joins b j after client Unlink new answer down
+      gone_so old mid settled q l far.end t joins b j after client slots Unlink new answer down
       (by c told (of_own (Fails (LinkEnded c)) (subst (λ y. Fails y far mid.air) r fails)) (of_own (λ f a. AsideFails f.end (LinkEnded c) after.end) (subst (λ y. AsideFails far.end y after.end) r (left accord none_at_rls))))
     where
       by : (c : EndCause) → told_loss c ≡ Some answer → Fails (LinkEnded c) (Of Own) old.air → AsideFails Own (LinkEnded c) after.end → ObeyedBy joins Was Gone Unlink answer
@@ -83,7 +84,7 @@ module _ (old mid : Machines) (settled : IsSettled old) (q : ℕ) (l : OpenLink)
 
   pub told_short : (new : Machines) → new ≡ Down → (x : SnepFault) → x ≡ Memory → Fails x far mid.air → (Accords l.client far.end → Quiet → AsideFails far.end x after.end) → IsCutOffBy joins old new Unlink
   told_short new down x r fails left =
-      short_so old mid settled q l far.end t joins b j after client Unlink new down
+      short_so old mid settled q l far.end t joins b j after client slots Unlink new down
       (short old.air old.ends old.peers l (so old mid settled q l far.end t) joins b after none_at_rls j client
       (of_own (Fails Memory) (subst (λ y. Fails y far mid.air) r fails)) (of_own (λ f a. AsideFails f.end Memory after.end) (subst (λ y. AsideFails far.end y after.end) r (left accord none_at_rls))))
 

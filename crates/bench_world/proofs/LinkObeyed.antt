@@ -32,6 +32,7 @@ use Rattle.llcp_conn.specs.Conn.{IsWindow}
 use Rattle.llcp_link.specs.Names.{is_bound}
 use Rattle.llcp_link.specs.State.{fresh_end, readable_by, restarted}
 use Rattle.llcp_pdu.specs.General.{IsMiu, general}
+use Rattle.snep_core.specs.Slots.{fresh_slots}
 use Rattle.snep_core.specs.Accord.{Accords}
 use Rattle.snep_core.specs.Talk.{server_sap}
 use Rattle.snep_core.proofs.Ends.{begun_accords}
@@ -513,7 +514,7 @@ module _ (ends : Ends) (peers : Peers) (old : Air Device) (id : List ℕ) (miu r
         opened_so = subst (OpeningEnds new place s.device) is o.ends
 
         abbrev link_now : OpenLink
-        link_now = record { peer = n; initiator = p.0; client = new_client miu rw p.1.items }
+        link_now = record { peer = n; initiator = p.0; client = new_client miu rw p.1.items; slots = fresh_slots }
 
         sound : AreSound (map kept (stands.before ++ stands.device ∷ stands.behind))
         sound = subst (λ xs. AreSound (map kept xs)) stands.split idle.tame.sound
@@ -529,7 +530,7 @@ module _ (ends : Ends) (peers : Peers) (old : Air Device) (id : List ℕ) (miu r
         link_so : Some link_now ≡ link_after st no_joins (Link id miu rw) es (Some (answers.Linked count))
         link_so =
             let target : device_target s.device ≡ device_target stands.device = ap (λ (k : Kept). k.fixed.target) (sym old_at.same) in
-            let L : InitState → List ℕ → Option OpenLink = λ i told_bytes. Some (record { peer = n; initiator = i; client = new_client miu rw told_bytes }) in
+            let L : InitState → List ℕ → Option OpenLink = λ i told_bytes. Some (record { peer = n; initiator = i; client = new_client miu rw told_bytes; slots = fresh_slots }) in
             ap (λ i. L i p.1.items) opened_so.initiator ∙ ap (L (waiting (device_target s.device).lr)) opened_so.general ∙ ap (λ t. Some (link_to n t miu rw)) target
             ∙ sym (ap (λ x. link_if x (device_with id old.listeners) miu rw) under_id ∙ ap (λ x. link_if (Some n) x miu rw) with_id)
 

@@ -1,11 +1,12 @@
 -- The open link was taken out of the machines for a command, with its peer's end, and put back: what becomes of the command then, by what
 -- its call on the field says.
-use Rattle.std.proofs.Common.{◌≡◌, ℕ, zero, suc, [], ◌∷◌, Option, Some, None, refl, sym, ◌∙◌, ap, subst}
+use Rattle.std.proofs.Common.{◌≡◌, ℕ, zero, suc, List, [], ◌∷◌, Option, Some, None, refl, sym, ◌∙◌, ap, subst}
 use Rattle.std.specs.Prelude.{get_or, slice_set}
 use Rattle.nfc_base.specs.Choosing.{Choosing}
 use Rattle.air_core.specs.Turn.{Air}
 use Rattle.dep_link.specs.Initiator.{InitState}
 use Rattle.snep_core.specs.Accord.{Accords}
+use Rattle.snep_core.specs.declared.slot.Slot.{Slot}
 use Rattle.snep_core.specs.Talk.{EndState}
 use Rattle.bench_script.specs.declared.command.Command.{Command}
 use Rattle.bench_devices.specs.declared.device.Device.{Device}
@@ -43,13 +44,13 @@ module _ (old mid : Machines) (settled : IsSettled old) (q : ℕ) (l : OpenLink)
   pub accords : Accords l.client far
   accords = subst (Accords l.client) (sym far_is) (opened old.air old.ends old.peers l so).accords
 
-  module _ (joins : Joins) (b : Air Device) (j : InitState) (after : Choosing FarEnd) (client : EndState) where
+  module _ (joins : Joins) (b : Air Device) (j : InitState) (after : Choosing FarEnd) (client : EndState) (slots : List Slot) where
     -- the peer's end with the numbers that are left to it
     abbrev pub counted : FarEnd → Choosing FarEnd
     counted f = record { end = f; numbers = joins.far }
 
     abbrev pub link : OpenLink
-    link = record { peer = l.peer; initiator = j; client = client }
+    link = record { peer = l.peer; initiator = j; client = client; slots = slots }
 
     abbrev pub Before : Machines
     Before = under old.ends old.peers (Some l) old.air

@@ -21,6 +21,7 @@ use Rattle.far_air.specs.FarLaws.{seen, shown}
 use Rattle.far_air.specs.FarTurns.{FarGoing}
 use Rattle.peer_air.specs.PeerFars.{peer_ends}
 use Rattle.snep_core.specs.Server.{Received}
+use Rattle.snep_core.specs.declared.job.OnSap.{OnSap}
 use Rattle.snep_core.specs.Talk.{EndState, Step, Ends}
 use Rattle.link_calls.specs.Arriving.{Arrives, ArrivesCut}
 use Rattle.link_calls.specs.Asking.{Call, call_begins}
@@ -39,7 +40,7 @@ use Rattle.bench_world.specs.declared.entry.Answer.TheVariants as answers
 use Rattle.bench_world.specs.declared.entry.Loss.{Loss}
 use Rattle.bench_world.specs.declared.entry.Loss.TheVariants as losses
 use Rattle.bench_world.specs.World.{FarEnd, WholeWorld, Stable, bench_air, stable}
-use Rattle.bench_world.specs.Calls.{IsTold, OfEnd, link_behind, stands_on, told_call, told_loss, told_step, with_accepted}
+use Rattle.bench_world.specs.Calls.{IsTold, OfEnd, link_behind, slots_behind, stands_on, told_call, told_loss, told_step, with_accepted}
 use Rattle.bench_world.specs.Links.{OpenLink, accepted_by, end_numbered, ended, ended_unless, with_last_ended}
 use Rattle.bench_world.specs.Arriving.{ArrivesAt, ArrivesCutAt}
 use Rattle.bench_world.specs.Asked.{IsOnLink}
@@ -261,7 +262,7 @@ module _ (air : Air Device) (ends : FarEnds) (peers : Peers) (l : OpenLink) (set
     pub asks : IsAskedBy from_state c []
     pub takes : (joins : Joins) → joins ≡ joins_for c joins
     pub same : (joins : Joins) (ns : List Note) → due from_state (given_by joins) c ns ≡ call_due joins.own (call_begins l.client call) l.initiator ns
-    pub link_on : (joins : Joins) (es : List Event) (answer : Answer) → link_after from_state joins c es (Some answer) ≡ link_behind l.peer (stands_on l joins.own call es)
+    pub link_on : (joins : Joins) (es : List Event) (answer : Answer) → link_after from_state joins c es (Some answer) ≡ link_behind l call (stands_on l joins.own call es)
     pub link_off : (joins : Joins) (es : List Event) → link_after from_state joins c es None ≡ None
     pub peers_on : (joins : Joins) (es : List Event) (told : Option Answer)
         → peers_after from_state joins c es told ≡ ended_unless (link_after from_state joins c es told) (Some l) (world_after from_state joins c es).fars peers
@@ -283,8 +284,11 @@ module _ (air : Air Device) (ends : FarEnds) (peers : Peers) (l : OpenLink) (set
     Law answer = (joins : Joins) (events : List Event) → Facts joins events answer → AnswerLaw from_state (record { asked = []; joins = joins }) c events answer
 
     -- the machines with the link open, and with it gone
-    abbrev pub open_then : EndState → Machines
-    open_then client = under (slice_set ends place (Some after.end)) peers (Some (record { peer = l.peer; initiator = j; client = client })) b
+    abbrev pub link_then : List OnSap → EndState → OpenLink
+    link_then jobs client = record { peer = l.peer; initiator = j; client = client; slots = slots_behind call jobs l.slots }
+
+    abbrev pub open_then : List OnSap → EndState → Machines
+    open_then jobs client = under (slice_set ends place (Some after.end)) peers (Some (link_then jobs client)) b
 
     abbrev pub gone_then : Machines
     gone_then = under (slice_set ends place (Some after.end)) (with_last_ended (accepted_by (get_or (slice_set ends place (Some after.end)) place None)) peers) None b
@@ -349,18 +353,18 @@ module _ (air : Air Device) (ends : FarEnds) (peers : Peers) (l : OpenLink) (set
       over_at : call_due_at standing ≡ Over → next t.notes ≡ Over
       over_at e = ap call_due_at t.stands ∙ e
 
-      pub came : setting_of after.end ≡ setting_of end → (jobs : _) (client : EndState) → standing ≡ Comes (Ends jobs client) j → (answer : Answer) → told_step call (Ends jobs client) ≡ Some answer
-          → ((loss : Loss) → answer ≡ answers.LinkEnded loss → ⊥) → (noise events ≡ 0 → bad_receptions events ≡ 0) → Law answer → Arrived (Some (record { peer = l.peer; initiator = j; client = client })) → KeepsLink (open_then client)
-          → ObeyedBy joins (under ends peers (Some l) air) (open_then client) c answer
+      pub came : setting_of after.end ≡ setting_of end → (jobs : List OnSap) (client : EndState) → standing ≡ Comes (Ends jobs client) j → (answer : Answer) → told_step call (Ends jobs client) ≡ Some answer
+          → ((loss : Loss) → answer ≡ answers.LinkEnded loss → ⊥) → (noise events ≡ 0 → bad_receptions events ≡ 0) → Law answer → Arrived (Some (link_then jobs client)) → KeepsLink (open_then jobs client)
+          → ObeyedBy joins (under ends peers (Some l) air) (open_then jobs client) c answer
       came set jobs client comes answer told never calm law arrived keeps =
-          let link_is : link_after from_state joins c events (Some answer) ≡ Some (record { peer = l.peer; initiator = j; client = client }) =
-          is.link_on joins events answer ∙ ap (link_behind l.peer) (stand_is ∙ comes) in
-          obeyed next plain c joins b after t.notes t.going is.still is.accepts is.asks (is.takes joins) same answer (Some (record { peer = l.peer; initiator = j; client = client })) peers
+          let link_is : link_after from_state joins c events (Some answer) ≡ Some (link_then jobs client) =
+          is.link_on joins events answer ∙ ap (link_behind l call) (stand_is ∙ comes) in
+          obeyed next plain c joins b after t.notes t.going is.still is.accepts is.asks (is.takes joins) same answer (Some (link_then jobs client)) peers
           (over_at (ap call_due_at comes)) link_is
           (is.peers_on joins events (Some answer) ∙ ap (λ o. ended_unless o (Some l) (world_after from_state joins c events).fars peers) link_is)
           (law joins events (facts set answer (told_so answer (ap (told_call call) comes ∙ told)
           ((λ e. absurd (let clash : Comes (Ends jobs client) j ≡ BrokenBy cause.FieldLost = sym comes ∙ e in cc)), (λ e. absurd (never losses.FieldLost e))) (λ e. absurd (never losses.SixBad e)) calm)
-          (came_then answer (Some (record { peer = l.peer; initiator = j; client = client })) link_is arrived)))
+          (came_then answer (Some (link_then jobs client)) link_is arrived)))
           set refl refl keeps
 
       -- a link that ended so had noise
@@ -379,7 +383,7 @@ module _ (air : Air Device) (ends : FarEnds) (peers : Peers) (l : OpenLink) (set
           → ((why ≡ cause.FieldLost) ↔ (answer ≡ answers.LinkEnded losses.FieldLost)) → (answer ≡ answers.LinkEnded losses.SixBad → 0 < noise events) → Law answer → Arrived None
           → ObeyedBy joins (under ends peers (Some l) air) gone_then c answer
       broke set why broken answer told lost noisy law arrived =
-          let link_is : link_after from_state joins c events (Some answer) ≡ None = is.link_on joins events answer ∙ ap (link_behind l.peer) (stand_is ∙ broken) in
+          let link_is : link_after from_state joins c events (Some answer) ≡ None = is.link_on joins events answer ∙ ap (link_behind l call) (stand_is ∙ broken) in
           obeyed next plain c joins b after t.notes t.going is.still is.accepts is.asks (is.takes joins) same answer None
           (with_last_ended (accepted_by (get_or (slice_set ends place (Some after.end)) place None)) peers)
           (over_at (ap call_due_at broken)) link_is (gone_peers (Some answer) link_is)

@@ -26,9 +26,9 @@ use Rattle.bench_world.specs.declared.entry.Entry.{Entry}
 use Rattle.bench_world.specs.World.{FarEnd, bench_air}
 use Rattle.bench_world.specs.Arriving.{ArrivesAt}
 use Rattle.bench_world.specs.ByPayloads.{IsByPayloads, IfPayloads}
-use Rattle.link_calls.specs.Asking.{LinkAsking, Does, Closes, Finding, Getting, put_from, Putting}
+use Rattle.link_calls.specs.Asking.{Call, LinkAsking, Does, Closes, Finding, Getting, put_from, Putting}
 use Rattle.bench_world.specs.Asked.{asked_on_link, slot_messages}
-use Rattle.bench_world.specs.Calls.{IfLinked, asked_behind, call_behind, link_behind, stands_on}
+use Rattle.bench_world.specs.Calls.{IfLinked, asked_behind, call_behind, link_behind, slots_behind, stands_on}
 use Rattle.bench_world.specs.Legal.{State, Given, AnswerBy, AnswerLaw, CallLaw, EachLegal, ForgeLeaves, LinkingLaw, begun, changed, due, is_linked_to, link_after, link_left, peers_left, state_after, unlinked, world_after}
 use Rattle.bench_world.specs.Linking.{link_if, own_general}
 use Rattle.bench_world.specs.Links.{OpenLink, begun_if, end_numbered, ended_unless, is_number, is_with}
@@ -105,13 +105,13 @@ end_offered_at key value n id (d ∷ ds) (q ∷ ps) os x e = by (pointwise nat_e
     by false false e rest = rest e
 
 -- the link behind a call is to the same peer
-behind_peer : (n : ℕ) (c : CallStanding) (k : OpenLink) → link_behind n c ≡ Some k → k.peer ≡ n
-behind_peer n (Comes (Finishes jobs l) i) k e = (let same : record { peer = n; initiator = i; client = l } ≡ k = cc in sym (ap (λ (o : OpenLink). o.peer) same))
-behind_peer n (Comes (GivesUp l) i) k e = absurd cc
-behind_peer n (Comes (Goes w) i) k e = absurd cc
-behind_peer n (Carries (w, ns) s) k e = absurd cc
-behind_peer n (BrokenBy c) k e = absurd cc
-behind_peer n Strays k e = absurd cc
+behind_peer : (l : OpenLink) (call : Call) (c : CallStanding) (k : OpenLink) → link_behind l call c ≡ Some k → k.peer ≡ l.peer
+behind_peer l call (Comes (Finishes jobs client) i) k e = (let same : record { peer = l.peer; initiator = i; client = client; slots = slots_behind call jobs l.slots } ≡ k = cc in sym (ap (λ (o : OpenLink). o.peer) same))
+behind_peer l call (Comes (GivesUp client) i) k e = absurd cc
+behind_peer l call (Comes (Goes w) i) k e = absurd cc
+behind_peer l call (Carries (w, ns) s) k e = absurd cc
+behind_peer l call (BrokenBy c) k e = absurd cc
+behind_peer l call Strays k e = absurd cc
 
 -- a link that was just opened counts from 0
 opened_first : (p : Option ℕ) (d : Option Device) (miu window : ℕ) (l : OpenLink) → link_if p d miu window ≡ Some l → l.initiator.core.number ≡ 0
@@ -242,21 +242,21 @@ module _ (s : State) (g : Given) (ys : List Story) (h : KeptIn s ys) where
   on_it P R l at law = subst (λ o. IfLinked o P R) at law
 
   -- by a call, whose link is that behind it
-  call_kept : (c : Command) (es : List Event) (answer : Answer) (stands : OpenLink → CallStanding) → (behind c es answer).peers.numbers ≡ ps
-      → (behind c es answer).link ≡ call_behind (Some answer) s.link stands
-      → ((l : OpenLink) → s.link ≡ Some l → ArrivesSo l g.joins.far (behind c es answer).world.fars es (call_behind (Some answer) s.link stands)) → GoesOn s.link c es answer
-  call_kept c es answer stands numbers link came =
+  call_kept : (call : Call) (c : Command) (es : List Event) (answer : Answer) (stands : OpenLink → CallStanding) → (behind c es answer).peers.numbers ≡ ps
+      → (behind c es answer).link ≡ call_behind (Some answer) s.link call stands
+      → ((l : OpenLink) → s.link ≡ Some l → ArrivesSo l g.joins.far (behind c es answer).world.fars es (call_behind (Some answer) s.link call stands)) → GoesOn s.link c es answer
+  call_kept call c es answer stands numbers link came =
       let t : State = behind c es answer in
       let x : Stretch = stretch c es answer in
       subst (λ o. Kept o t (open_goes_on s.link (goes_on s x t) ys)) (sym link)
-      (called_kept s.link refl (call_behind (Some answer) s.link stands) x t numbers (λ at. ap (λ o. call_behind (Some answer) o stands) at) came
-      (λ l k at is. behind_peer l.peer (stands l) k (sym (ap (λ o. call_behind (Some answer) o stands) at) ∙ is)))
+      (called_kept s.link refl (call_behind (Some answer) s.link call stands) x t numbers (λ at. ap (λ o. call_behind (Some answer) o call stands) at) came
+      (λ l k at is. behind_peer l call (stands l) k (sym (ap (λ o. call_behind (Some answer) o call stands) at) ∙ is)))
 
   -- so by whatever is asked
   asked_kept : (asked : LinkAsking) (c : Command) (es : List Event) (answer : Answer) → (behind c es answer).peers.numbers ≡ ps → (behind c es answer).link ≡ asked_behind asked (Some answer) s.link g.joins.own es
       → ((l : OpenLink) → s.link ≡ Some l → ArrivesSo l g.joins.far (behind c es answer).world.fars es (behind c es answer).link) → GoesOn s.link c es answer
   asked_kept (Does call) c es answer numbers link came =
-      call_kept c es answer (λ l. stands_on l g.joins.own call es) numbers link (λ l at. subst (ArrivesSo l g.joins.far (behind c es answer).world.fars es) link (came l at))
+      call_kept call c es answer (λ l. stands_on l g.joins.own call es) numbers link (λ l at. subst (ArrivesSo l g.joins.far (behind c es answer).world.fars es) link (came l at))
   asked_kept Closes c es answer numbers link came =
       let t : State = behind c es answer in
       subst (λ o. Kept o t (open_goes_on s.link (goes_on s (stretch c es answer) t) ys)) (sym link)

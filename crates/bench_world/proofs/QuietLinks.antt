@@ -19,7 +19,7 @@ use Rattle.bench_world.specs.declared.entry.Answer.{Answer}
 use Rattle.bench_world.specs.declared.entry.Answer.TheVariants as answers
 use Rattle.bench_world.specs.declared.entry.Entry.{Entry}
 use Rattle.bench_world.specs.declared.entry.Loss.TheVariants as losses
-use Rattle.bench_world.specs.Calls.{AllAdd, CallAdds, EachAdds, HadSixBad, IsTold, MessageAdds, OfEnd, PeerAdds, asked_behind, told_asked, told_call, told_each, link_behind, stands_on}
+use Rattle.bench_world.specs.Calls.{AllAdd, CallAdds, EachAdds, HadSixBad, IsTold, MessageAdds, OfEnd, PeerAdds, asked_behind, told_asked, told_call, told_each, link_behind, slots_behind, stands_on}
 use Rattle.bench_world.specs.CompletingLinks.{peer_answer, IsUndisturbedOn}
 use Rattle.bench_world.specs.Legal.{State, Given, LegalStep, CallLaw, changed, link_left, world_after, end_of}
 use Rattle.link_calls.specs.Asking.{LinkAsking, Call, Does, Closes, Finding, Getting, Putting}
@@ -45,16 +45,17 @@ record GoesOnWith (peer : ℕ) (o : Option OpenLink) : Type 0 where
   pub is : o ≡ Some now
   pub same : now.peer ≡ peer
 
-goes_on : (call : Call) (peer : ℕ) (c : CallStanding) (answer : Answer) → told_call call c ≡ Some answer → GoesOn answer → GoesOnWith peer (link_behind peer c)
-goes_on call peer (Carries (w, ns) s) answer told on = absurd (none_told answer told)
-goes_on call peer (Comes (Goes w) i) answer told on = absurd (none_told answer told)
-goes_on call peer (Comes (GivesUp l) i) answer told on = absurd (none_told answer told)
-goes_on call peer (Comes (Ends jobs l) i) answer told on = record { now = record { peer = peer; initiator = i; client = l }; is = refl; same = refl }
-goes_on call peer (BrokenBy FieldLost) answer told on = absurd (on losses.FieldLost (told_once (answers.LinkEnded losses.FieldLost) answer told))
-goes_on call peer (BrokenBy SixBad) answer told on = absurd (on losses.SixBad (told_once (answers.LinkEnded losses.SixBad) answer told))
-goes_on call peer (BrokenBy Protocol) answer told on = absurd (none_told answer told)
-goes_on call peer (BrokenBy Memory) answer told on = absurd (none_told answer told)
-goes_on call peer Strays answer told on = absurd (none_told answer told)
+goes_on : (call : Call) (l : OpenLink) (c : CallStanding) (answer : Answer) → told_call call c ≡ Some answer → GoesOn answer → GoesOnWith l.peer (link_behind l call c)
+goes_on call l (Carries (w, ns) s) answer told on = absurd (none_told answer told)
+goes_on call l (Comes (Goes w) i) answer told on = absurd (none_told answer told)
+goes_on call l (Comes (GivesUp client) i) answer told on = absurd (none_told answer told)
+goes_on call l (Comes (Ends jobs client) i) answer told on =
+    record { now = record { peer = l.peer; initiator = i; client = client; slots = slots_behind call jobs l.slots }; is = refl; same = refl }
+goes_on call l (BrokenBy FieldLost) answer told on = absurd (on losses.FieldLost (told_once (answers.LinkEnded losses.FieldLost) answer told))
+goes_on call l (BrokenBy SixBad) answer told on = absurd (on losses.SixBad (told_once (answers.LinkEnded losses.SixBad) answer told))
+goes_on call l (BrokenBy Protocol) answer told on = absurd (none_told answer told)
+goes_on call l (BrokenBy Memory) answer told on = absurd (none_told answer told)
+goes_on call l Strays answer told on = absurd (none_told answer told)
 
 -- Of what was put the peer's server gains what is within the limit.
 either : (v w : Bool) (xs ys : List (List ℕ)) → v ≡ w → (if v then xs else ys) ≡ (if w then xs else ys)
@@ -144,8 +145,8 @@ module _ (s t : State) (g : Given) (e : Entry) (step : LegalStep s g e t) (pass 
       → t.link ≡ asked_behind a (Some e.answer) (Some l) g.joins.own e.events → StaysBehind a l t
   stays (Does call) told none link =
       let x : CameSo call e.answer = ended call told none in
-      let r : GoesOnWith l.peer (link_behind l.peer (stands_on l g.joins.own call e.events)) =
-      goes_on call l.peer (stands_on l g.joins.own call e.events) e.answer told.tells (jobs_on call x.jobs e.answer x.told) in
+      let r : GoesOnWith l.peer (link_behind l call (stands_on l g.joins.own call e.events)) =
+      goes_on call l (stands_on l g.joins.own call e.events) e.answer told.tells (jobs_on call x.jobs e.answer x.told) in
       (r.now, link ∙ r.is, r.same)
   stays Closes told none link = tt
 

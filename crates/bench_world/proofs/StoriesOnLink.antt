@@ -31,7 +31,7 @@ use Rattle.bench_world.specs.declared.entry.Answer.TheVariants as answers
 use Rattle.bench_world.specs.World.{FarEnd, WholeWorld}
 use Rattle.bench_world.specs.Answering.{poll_answer}
 use Rattle.bench_world.specs.declared.entry.SlotDone.{SlotDone}
-use Rattle.bench_world.specs.Calls.{AllAdd, EachAdds, OfEnd, all_done, asked_behind, link_behind, stands_on, told_asked, told_at_once, told_call, told_done, told_each, told_jobs, told_one, told_several}
+use Rattle.bench_world.specs.Calls.{AllAdd, EachAdds, OfEnd, all_done, asked_behind, link_behind, slots_behind, stands_on, told_asked, told_at_once, told_call, told_done, told_each, told_jobs, told_one, told_several}
 use Rattle.bench_world.specs.Legal.{State, Joins, end_of}
 use Rattle.bench_world.specs.Linking.{LinkTells, LinkEnds, TellsLoss, link_if}
 use Rattle.bench_world.specs.Links.{OpenLink, ended_unless, begun_if, end_numbered, accepted_at}
@@ -82,21 +82,21 @@ jobs_told (Putting ws) jobs a e = at_once_told ws jobs a e
 jobs_told (Getting sap most key) jobs a e = tt
 jobs_told (Finding name) jobs a e = tt
 
-came_to_end : (call : Call) (n : ℕ) (s : CallStanding) (a : Answer) (m : OpenLink) → told_call call s ≡ Some a → link_behind n s ≡ Some m → (m.peer ≡ n) × AreTold (tolds_of (Does call) (Some a))
-came_to_end call n (Comes (Ends jobs k) i) a m told is =
-    let same : record { peer = n; initiator = i; client = k } ≡ m = cc in
+came_to_end : (call : Call) (l : OpenLink) (s : CallStanding) (a : Answer) (m : OpenLink) → told_call call s ≡ Some a → link_behind l call s ≡ Some m → (m.peer ≡ l.peer) × AreTold (tolds_of (Does call) (Some a))
+came_to_end call l (Comes (Ends jobs k) i) a m told is =
+    let same : record { peer = l.peer; initiator = i; client = k; slots = slots_behind call jobs l.slots } ≡ m = cc in
     (sym (ap (λ (o : OpenLink). o.peer) same), jobs_told call jobs a told)
-came_to_end call n (Comes (Goes w) i) a m told is = absurd cc
-came_to_end call n (Comes (GivesUp k) i) a m told is = absurd cc
-came_to_end call n (Carries (w, ns) s) a m told is = absurd cc
-came_to_end call n (BrokenBy why) a m told is = absurd cc
-came_to_end call n Strays a m told is = absurd cc
+came_to_end call l (Comes (Goes w) i) a m told is = absurd cc
+came_to_end call l (Comes (GivesUp k) i) a m told is = absurd cc
+came_to_end call l (Carries (w, ns) s) a m told is = absurd cc
+came_to_end call l (BrokenBy why) a m told is = absurd cc
+came_to_end call l Strays a m told is = absurd cc
 
 -- so behind whatever was asked, or cut off
 pub left_open : (asked : LinkAsking) (told : Option Answer) (l m : OpenLink) (joins : List ℕ) (es : List Event) → ((a : Answer) → told ≡ Some a → told_asked asked l joins es ≡ Some a)
     → asked_behind asked told (Some l) joins es ≡ Some m → (m.peer ≡ l.peer) × AreTold (tolds_of asked told)
 left_open (Does call) None l m joins es tells is = absurd cc
-left_open (Does call) (Some a) l m joins es tells is = came_to_end call l.peer (stands_on l joins call es) a m (tells a refl) is
+left_open (Does call) (Some a) l m joins es tells is = came_to_end call l (stands_on l joins call es) a m (tells a refl) is
 left_open Closes told l m joins es tells is = absurd cc
 
 -- Behind a call the link is open still, and all was told on it as it is, or it ended.

@@ -16,7 +16,7 @@ use Rattle.snep_core.specs.Accord.{Accords}
 use Rattle.snep_core.specs.declared.slot.Slot.{Slot}
 use Rattle.snep_core.specs.declared.job.OnSap.{OnSap}
 use Rattle.snep_core.specs.Talk.{EndState, Ends, Task, Puts, Gets, Finds, all_closed, client_sap, closes, one_on, sap_of_slot}
-use Rattle.link_calls.specs.Asking.{LinkAsking, Call, Does, Closes, Finding, Getting, Putting, asking_of, call_begins, is_closing, put_from}
+use Rattle.link_calls.specs.Asking.{LinkAsking, Call, Does, Closes, Finding, Getting, MayAsk, Putting, asking_of, call_begins, is_closing, put_from}
 use Rattle.link_calls.specs.AtOnce.{AreApart, IsAtRest, ServedAtOnce}
 use Rattle.link_calls.specs.Called.{AllCalled, AllFailed, Called, ClosingCalled, OpenAir, Served, TaskCalled}
 use Rattle.link_calls.specs.declared.request.LinkRequest.{LinkRequest}
@@ -35,16 +35,16 @@ use Rattle.bench_world.specs.declared.entry.Answer.TheVariants as answers
 use Rattle.bench_world.specs.declared.entry.Loss.TheVariants as losses
 use Rattle.bench_world.specs.World.{FarEnd}
 use Rattle.bench_world.specs.Asked.{IsOnLink, asked_on_link}
-use Rattle.bench_world.specs.Calls.{told_at_once, told_ending, told_jobs, told_loss}
+use Rattle.bench_world.specs.Calls.{slots_behind, told_at_once, told_ending, told_jobs, told_loss}
 use Rattle.bench_world.specs.Legal.{Accepts, AnswerLaw, FrontOf, IsAskedBy, Joins, due, joins_for, state_after}
 use Rattle.bench_world.specs.Links.{OpenLink}
-use Rattle.bench_world.specs.LinkTaken.{TakesLink, fault_told, put_back, put_down, told_slots}
+use Rattle.bench_world.specs.LinkTaken.{TakesLink, fault_told, put_back, put_down, told_request, told_slots}
 use Rattle.bench_world.specs.Obeying.{Machines, IsCutOffBy, IsSettled, ObeyedBy, state_at, under}
 use Rattle.bench_world.specs.Peers.{Peers}
 use Rattle.bench_world.proofs.OnCall.{given_by}
 use Rattle.bench_world.proofs.OnLink.{Ends as FarEnds}
 use Rattle.bench_world.proofs.CloseOver as closing
-use Rattle.bench_world.proofs.LinkOver.{Before, GoneAt, accords, called, counted, far_is, gone_so, its, link, open_so, short_so, so, spot}
+use Rattle.bench_world.proofs.LinkOver.{Before, GoneAt, OpenAt, accords, called, counted, far_is, gone_so, its, link, open_so, short_so, so, spot}
 use Rattle.bench_world.proofs.Saying.{Left, LeftBy, Says, all_left, find_left, get_left, put_left, says_all, says_find, says_get, says_put}
 use Rattle.bench_world.proofs.SlotsTold.{told_by_slots}
 use Rattle.bench_world.proofs.Talking as talking
@@ -96,9 +96,9 @@ closes_is Unlink e = refl
 closes_is c e = absurd cc
 
 module _ (old mid : Machines) (settled : IsSettled old) (q : ℕ) (l : OpenLink) (far : Choosing FarEnd) (t : TakesLink old q l far.end mid) (joins : Joins) (counts : far.numbers ≡ joins.far)
-    (b : Air Device) (j : InitState) (after : Choosing FarEnd) (client : EndState) where
+    (b : Air Device) (j : InitState) (after : Choosing FarEnd) (client : EndState) (slots : List Slot) where
   abbrev Of : FarEnd → Choosing FarEnd
-  Of f = counted old mid settled q l far.end t joins b j after client f
+  Of f = counted old mid settled q l far.end t joins b j after client slots f
 
   abbrev Own : FarEnd
   Own = its old mid settled q l far.end t
@@ -119,16 +119,16 @@ module _ (old mid : Machines) (settled : IsSettled old) (q : ℕ) (l : OpenLink)
   Now = record { air = b; initiator = j; far = after }
 
   abbrev pub Back : Machines
-  Back = put_back (called old mid settled q l far.end t joins b j after client) q after.end (link old mid settled q l far.end t joins b j after client)
+  Back = put_back (called old mid settled q l far.end t joins b j after client slots) q after.end (link old mid settled q l far.end t joins b j after client slots)
 
   abbrev pub Down : Machines
-  Down = put_down (called old mid settled q l far.end t joins b j after client) q after.end
+  Down = put_down (called old mid settled q l far.end t joins b j after client slots) q after.end
 
   abbrev Stood : Machines
-  Stood = Before old mid settled q l far.end t joins b j after client
+  Stood = Before old mid settled q l far.end t joins b j after client slots
 
   abbrev Gone : Machines
-  Gone = GoneAt old mid settled q l far.end t joins b j after client (spot old mid settled q l far.end t)
+  Gone = GoneAt old mid settled q l far.end t joins b j after client slots (spot old mid settled q l far.end t)
 
   module _ (c : Command) (may : Accepts (state_at old) c) where
     may_then : Accepts (state_at Stood) c
@@ -138,17 +138,19 @@ module _ (old mid : Machines) (settled : IsSettled old) (q : ℕ) (l : OpenLink)
       abbrev Made : List OnSap → Choosing FarEnd → Air Device → Type 0
       Made jobs f a = IsMade ghosts device_end joins.own (call_begins l.client call) a l.initiator f b j after (Ends jobs client)
 
-      ended : (jobs : List OnSap) (answer : Answer) (new : Machines) → new ≡ Back → Made jobs far mid.air → told_jobs call jobs ≡ Some answer → Says call Own answer client after.end → ObeyedBy joins old new c answer
-      ended jobs answer new back made told says =
-          open_so old mid settled q l far.end t joins b j after client c new answer back
-          (talking.made_so old.air old.ends old.peers l (so old mid settled q l far.end t) c call asks may_then joins b j after client jobs answer (of_own (Made jobs) made) told says)
+      ended : (jobs : List OnSap) (answer : Answer) (new : Machines) → new ≡ Back → Made jobs far mid.air → slots ≡ slots_behind call jobs l.slots → told_jobs call jobs ≡ Some answer → Says call Own answer client after.end
+          → ObeyedBy joins old new c answer
+      ended jobs answer new back made same told says =
+          open_so old mid settled q l far.end t joins b j after client slots c new answer back
+          (subst (λ xs. ObeyedBy joins Stood (OpenAt old mid settled q l far.end t joins b j after client xs (spot old mid settled q l far.end t)) c answer) (sym same)
+          (talking.made_so old.air old.ends old.peers l (so old mid settled q l far.end t) c call asks may_then joins b j after client jobs answer (of_own (Made jobs) made) told says))
 
       abbrev Fails : SnepFault → Choosing FarEnd → Air Device → Type 0
-      Fails x f a = CallFails ghosts device_end joins.own (call_begins l.client call) a l.initiator f b j after client x
+      Fails x f a = CallFails ghosts device_end joins.own (call_begins l.client call) a l.initiator f b j after client slots x
 
       lost : (why : EndCause) (answer : Answer) (new : Machines) → new ≡ Down → Fails (faults.LinkEnded why) far mid.air → Left call Own after.end → told_loss why ≡ Some answer → ObeyedBy joins old new c answer
       lost why answer new down goes left told =
-          gone_so old mid settled q l far.end t joins b j after client c new answer down (by why told (of_own (Fails (faults.LinkEnded why)) goes))
+          gone_so old mid settled q l far.end t joins b j after client slots c new answer down (by why told (of_own (Fails (faults.LinkEnded why)) goes))
         where
           by : (w : EndCause) → told_loss w ≡ Some answer → Fails (faults.LinkEnded w) (Of Own) old.air → ObeyedBy joins Stood Gone c answer
           by w e (inl (bad, came, made)) = absurd cc
@@ -158,7 +160,7 @@ module _ (old mid : Machines) (settled : IsSettled old) (q : ℕ) (l : OpenLink)
           by cause.Memory e (inr never) = absurd never
 
       short : (new : Machines) → new ≡ Down → Fails faults.Memory far mid.air → Left call Own after.end → IsCutOffBy joins old new c
-      short new down goes left = short_so old mid settled q l far.end t joins b j after client c new down (by (of_own (Fails faults.Memory) goes))
+      short new down goes left = short_so old mid settled q l far.end t joins b j after client slots c new down (by (of_own (Fails faults.Memory) goes))
         where
           by : Fails faults.Memory (Of Own) old.air → IsCutOffBy joins Stood Gone c
           by (inl (bad, came, made)) = absurd cc
@@ -198,7 +200,7 @@ module _ (old mid : Machines) (settled : IsSettled old) (q : ℕ) (l : OpenLink)
     -- what a call of one task did at the peer
     module _ (sap : ℕ) (task : Task) where
       abbrev Did : Result Ending SnepFault → Type 0
-      Did result = TaskCalled ghosts device_end joins.own sap task l.client Was result client Now
+      Did result = TaskCalled ghosts device_end joins.own sap task l.client l.slots Was result client slots Now
 
       served : (result : Result Ending SnepFault) → Did result → Served sap task Own result client after.end
       served result k = of_own (λ f a. Served sap task f.end result client after.end) (k.serves accord)
@@ -211,7 +213,7 @@ module _ (old mid : Machines) (settled : IsSettled old) (q : ℕ) (l : OpenLink)
       closed : (ending : Ending) (new : Machines) → new ≡ Down → Closed (Ok ending) → ObeyedBy joins old new c answers.Unlinked
       closed Done new down k =
           subst (λ x. ObeyedBy joins old new x answers.Unlinked) (closes_is c asks)
-          (closing.told_closed old mid settled q l far t joins counts b j after client new down (Ends all_closed client) k.goes k.serves)
+          (closing.told_closed old mid settled q l far t joins counts b j after client slots new down (Ends all_closed client) k.goes k.serves)
       closed (Value v) new down k = absurd k.goes
       closed (Sap n) new down k = absurd k.goes
       closed (Refused why) new down k = absurd k.goes
@@ -219,7 +221,7 @@ module _ (old mid : Machines) (settled : IsSettled old) (q : ℕ) (l : OpenLink)
       closing_lost : (why : EndCause) (answer : Answer) (new : Machines) → new ≡ Down → Closed (Err (faults.LinkEnded why)) → told_loss why ≡ Some answer → ObeyedBy joins old new c answer
       closing_lost why answer new down k told =
           subst (λ x. ObeyedBy joins old new x answer) (closes_is c asks)
-          (closing.told_lost old mid settled q l far t joins counts b j after client new down (faults.LinkEnded why) why refl k.goes k.serves answer told)
+          (closing.told_lost old mid settled q l far t joins counts b j after client slots new down (faults.LinkEnded why) why refl k.goes k.serves answer told)
 
       told_closing_fault : (x : SnepFault) (new : Machines) → new ≡ Down → Closed (Err x) → IfOk (fault_told x) (λ answer. ObeyedBy joins old new c answer)
       told_closing_fault (faults.LinkEnded cause.FieldLost) new down k = closing_lost cause.FieldLost (answers.LinkEnded losses.FieldLost) new down k refl
@@ -244,38 +246,56 @@ module _ (old mid : Machines) (settled : IsSettled old) (q : ℕ) (l : OpenLink)
       closing_cut faults.Excess new down k e = absurd k.goes
       closing_cut faults.NotImplemented new down k e = absurd k.goes
       closing_cut faults.Memory new down k e =
-          subst (λ x. IsCutOffBy joins old new x) (closes_is c asks) (closing.told_short old mid settled q l far t joins counts b j after client new down faults.Memory refl k.goes k.serves)
+          subst (λ x. IsCutOffBy joins old new x) (closes_is c asks) (closing.told_short old mid settled q l far t joins counts b j after client slots new down faults.Memory refl k.goes k.serves)
       closing_cut faults.BadPeer new down k e = absurd (k.serves accord none_at_rls)
       closing_cut faults.SlotBusy new down k e = absurd k.goes
 
   -- by what was asked
   module _ (c : Command) (may : Accepts (state_at old) c) (new : Machines) where
     abbrev Asked : LinkRequest → Result Ending SnepFault → Type 0
-    Asked r result = Called ghosts device_end joins.own r l.client Was result client Now
+    Asked r result = Called ghosts device_end joins.own r l.client l.slots Was result client slots Now
 
-    pub asked_ended : (r : LinkRequest) (ending : Ending) → asked_on_link c ≡ Some (asking_of r) → is_closing (asking_of r) ≡ false → new ≡ Back → Asked r (Ok ending) → ObeyedBy joins old new c (told_ending ending)
-    asked_ended (requests.Put m) ending e open_ back k =
+    -- of messages that were put at once
+    all_served : (ws : List SlotMessage) (x : SnepFault) → AllFailed ghosts device_end joins.own ws l.client Was x client Now → LeftBy (Putting ws) Own after.end x
+    all_served ws x k = all_left ws Own x client after.end (of_own (λ f a. ServedAtOnce ws f.end (Err x) client after.end) (k.serves accord))
+
+    all_ended : (ws : List SlotMessage) → asked_on_link c ≡ Some (Does (Putting ws)) → AreApart ws → IsAtRest l.slots → new ≡ Back
+        → AllCalled ghosts device_end joins.own ws l.client l.slots Was client slots Now → ObeyedBy joins old new c (told_slots ws slots)
+    all_ended ws e apart rest back k =
+        let told_is : told_at_once ws k.jobs ≡ Some (told_slots ws slots) = told_by_slots ws l.slots slots k.jobs apart rest k.told_is k.rest in
+        ended c may (Putting ws) e k.jobs (told_slots ws slots) new back k.goes k.told_is told_is
+        (says_all ws Own k.jobs (told_slots ws slots) client after.end told_is (of_own (λ f a. ServedAtOnce ws f.end (Ok k.jobs) client after.end) (k.serves accord)))
+
+    pub asked_ended : (r : LinkRequest) (ending : Ending) → asked_on_link c ≡ Some (asking_of r) → is_closing (asking_of r) ≡ false → MayAsk r → IsAtRest l.slots → new ≡ Back → Asked r (Ok ending)
+        → ObeyedBy joins old new c (told_request r ending slots)
+    asked_ended (requests.Put m) ending e open_ may_ask rest back k =
         let x = says_put m.now Own ending client after.end (served c may client_sap (Puts m.now) (Ok ending) k) in
-        ended c may (put_from 0 m.now) e (one_on client_sap (Ended ending)) (told_ending ending) new back k.goes x.1 x.0
-    asked_ended (requests.Get slot most key) ending e open_ back k =
-        ended c may (Getting (sap_of_slot slot) most key.now) e (one_on (sap_of_slot slot) (Ended ending)) (told_ending ending) new back k.goes refl
+        ended c may (put_from 0 m.now) e (one_on client_sap (Ended ending)) (told_ending ending) new back k.goes k.tells x.1 x.0
+    asked_ended (requests.Get slot most key) ending e open_ may_ask rest back k =
+        ended c may (Getting (sap_of_slot slot) most key.now) e (one_on (sap_of_slot slot) (Ended ending)) (told_ending ending) new back k.goes k.tells refl
         (says_get (sap_of_slot slot) most key.now Own ending client after.end (served c may (sap_of_slot slot) (Gets most key.now) (Ok ending) k))
-    asked_ended (requests.Lookup name) ending e open_ back k =
-        ended c may (Finding name.now) e (one_on client_sap (Ended ending)) (told_ending ending) new back k.goes refl
+    asked_ended (requests.Lookup name) ending e open_ may_ask rest back k =
+        ended c may (Finding name.now) e (one_on client_sap (Ended ending)) (told_ending ending) new back k.goes k.tells refl
         (says_find name.now Own ending client after.end (served c may client_sap (Finds name.now) (Ok ending) k))
-    asked_ended requests.Close ending e open_ back k = absurd cc
+    asked_ended (requests.Run ws) Done e open_ may_ask rest back k = all_ended ws.now e may_ask rest back k
+    asked_ended (requests.Run ws) (Value v) e open_ may_ask rest back k = absurd k
+    asked_ended (requests.Run ws) (Sap n) e open_ may_ask rest back k = absurd k
+    asked_ended (requests.Run ws) (Refused why) e open_ may_ask rest back k = absurd k
+    asked_ended requests.Close ending e open_ may_ask rest back k = absurd cc
 
     pub asked_closed : (r : LinkRequest) (ending : Ending) → asked_on_link c ≡ Some (asking_of r) → is_closing (asking_of r) ≡ true → new ≡ Down → Asked r (Ok ending) → ObeyedBy joins old new c answers.Unlinked
     asked_closed requests.Close ending e over down k = closed c may e ending new down k
     asked_closed (requests.Put m) ending e over down k = absurd cc
     asked_closed (requests.Get slot most key) ending e over down k = absurd cc
     asked_closed (requests.Lookup name) ending e over down k = absurd cc
+    asked_closed (requests.Run ws) ending e over down k = absurd cc
 
     pub asked_told : (r : LinkRequest) (x : SnepFault) → asked_on_link c ≡ Some (asking_of r) → new ≡ Down → Asked r (Err x) → IfOk (fault_told x) (λ answer. ObeyedBy joins old new c answer)
     asked_told (requests.Put m) x e down k = told c may (put_from 0 m.now) e x new down k.goes (put_left m.now Own x client after.end (served c may client_sap (Puts m.now) (Err x) k))
     asked_told (requests.Get slot most key) x e down k =
         told c may (Getting (sap_of_slot slot) most key.now) e x new down k.goes (get_left (sap_of_slot slot) most key.now Own x client after.end (served c may (sap_of_slot slot) (Gets most key.now) (Err x) k))
     asked_told (requests.Lookup name) x e down k = told c may (Finding name.now) e x new down k.goes (find_left name.now Own x client after.end (served c may client_sap (Finds name.now) (Err x) k))
+    asked_told (requests.Run ws) x e down k = told c may (Putting ws.now) e x new down k.goes (all_served ws.now x k)
     asked_told requests.Close x e down k = told_closing_fault c may e x new down k
 
     pub asked_cut : (r : LinkRequest) (x : SnepFault) → asked_on_link c ≡ Some (asking_of r) → new ≡ Down → Asked r (Err x) → IsErr (fault_told x) → IsCutOffBy joins old new c
@@ -283,23 +303,5 @@ module _ (old mid : Machines) (settled : IsSettled old) (q : ℕ) (l : OpenLink)
     asked_cut (requests.Get slot most key) x e down k err =
         cut c may (Getting (sap_of_slot slot) most key.now) e x new down k.goes (get_left (sap_of_slot slot) most key.now Own x client after.end (served c may (sap_of_slot slot) (Gets most key.now) (Err x) k)) err
     asked_cut (requests.Lookup name) x e down k err = cut c may (Finding name.now) e x new down k.goes (find_left name.now Own x client after.end (served c may client_sap (Finds name.now) (Err x) k)) err
+    asked_cut (requests.Run ws) x e down k err = cut c may (Putting ws.now) e x new down k.goes (all_served ws.now x k) err
     asked_cut requests.Close x e down k err = closing_cut c may e x new down k err
-
-    -- of messages that were put at once
-    pub all_ended : (ws : List SlotMessage) (slots told_now : List Slot) → asked_on_link c ≡ Some (Does (Putting ws)) → AreApart ws → IsAtRest slots → new ≡ Back
-        → AllCalled ghosts device_end joins.own ws l.client slots Was client told_now Now → ObeyedBy joins old new c (told_slots ws told_now)
-    all_ended ws slots told_now e apart rest back k =
-        let told_is : told_at_once ws k.jobs ≡ Some (told_slots ws told_now) = told_by_slots ws slots told_now k.jobs apart rest k.told_is k.rest in
-        ended c may (Putting ws) e k.jobs (told_slots ws told_now) new back k.goes told_is
-        (says_all ws Own k.jobs (told_slots ws told_now) client after.end told_is (of_own (λ f a. ServedAtOnce ws f.end (Ok k.jobs) client after.end) (k.serves accord)))
-
-    all_served : (ws : List SlotMessage) (x : SnepFault) → AllFailed ghosts device_end joins.own ws l.client Was x client Now → LeftBy (Putting ws) Own after.end x
-    all_served ws x k = all_left ws Own x client after.end (of_own (λ f a. ServedAtOnce ws f.end (Err x) client after.end) (k.serves accord))
-
-    pub all_told : (ws : List SlotMessage) (x : SnepFault) → asked_on_link c ≡ Some (Does (Putting ws)) → new ≡ Down → AllFailed ghosts device_end joins.own ws l.client Was x client Now
-        → IfOk (fault_told x) (λ answer. ObeyedBy joins old new c answer)
-    all_told ws x e down k = told c may (Putting ws) e x new down k.goes (all_served ws x k)
-
-    pub all_cut : (ws : List SlotMessage) (x : SnepFault) → asked_on_link c ≡ Some (Does (Putting ws)) → new ≡ Down → AllFailed ghosts device_end joins.own ws l.client Was x client Now
-        → IsErr (fault_told x) → IsCutOffBy joins old new c
-    all_cut ws x e down k err = cut c may (Putting ws) e x new down k.goes (all_served ws x k) err

@@ -62,14 +62,14 @@ module _ (air : Air Device) (ends : FarEnds) (peers : Peers) (l : OpenLink) (set
     abbrev Old : Machines
     Old = under ends peers (Some l) air
 
-    abbrev pub opens : Machines
-    opens = Open air ends peers l settled c call call_is joins b j after client
+    abbrev pub opens : List OnSap → Machines
+    opens jobs = Open air ends peers l settled c call call_is joins b j after jobs client
 
     abbrev pub gone : Machines
     gone = Gone air ends peers l settled c call call_is joins b j after
 
     pub made_so : (jobs : List OnSap) (answer : Answer) → IsMade ghosts device_end joins.own (call_begins l.client call) air l.initiator counted b j after (Ends jobs client) → told_jobs call jobs ≡ Some answer
-        → Says call far answer client after.end → ObeyedBy joins Old opens c answer
+        → Says call far answer client after.end → ObeyedBy joins Old (opens jobs) c answer
     made_so jobs answer made told x =
         made_obeyed air ends peers l settled c call call_is joins b j after jobs client answer made told x.never
         (λ joined events facts.

@@ -22,9 +22,11 @@ use Rattle.snep_core.specs.declared.job.Job.TheVariants.{Over as Ended}
 use Rattle.snep_core.specs.Server.{Received}
 use Rattle.snep_core.specs.Session.{value_of}
 use Rattle.snep_core.specs.declared.job.OnSap.{OnSap}
+use Rattle.snep_core.specs.declared.slot.Slot.{Slot}
+use Rattle.snep_core.specs.Slots.{noted}
 use Rattle.snep_core.specs.Talk.{Step, Ends, closes, sap_of_slot}
 use Rattle.link_calls.specs.Asking.{LinkAsking, Does, Closes, Call, Finding, Getting, Putting, call_begins}
-use Rattle.link_calls.specs.AtOnce.{is_from, told_on}
+use Rattle.link_calls.specs.AtOnce.{all_staged, is_from, told_on}
 use Rattle.link_calls.specs.declared.request.SlotMessage.{SlotMessage}
 use Rattle.link_calls.specs.CallDue.{CallStanding, Comes, BrokenBy, call_stand, call_due}
 use Rattle.link_calls.specs.ClosingDue.{ClosingStanding, Calls, Released, closing_stand, closing_due}
@@ -145,20 +147,25 @@ abbrev pub HadSixBad : LinkAsking → OpenLink → List ℕ → List Event → T
 HadSixBad (Does call) l joins events = stands_on l joins call events ≡ BrokenBy cause.SixBad
 HadSixBad Closes l joins events = stands_closing l joins events ≡ Calls (BrokenBy cause.SixBad)
 
+-- what its client's slots were told last, behind a call whose jobs came to this
+abbrev pub slots_behind : Call → List OnSap → List Slot → List Slot
+slots_behind (Putting ws) jobs slots = noted jobs (all_staged ws slots)
+slots_behind call jobs slots = slots
+
 -- the link behind a call: it is open where the call came to its end, and stands so then
-abbrev pub link_behind : ℕ → CallStanding → Option OpenLink
-link_behind peer (Comes (Ends jobs l) i) = Some (record { peer = peer; initiator = i; client = l })
-link_behind peer _ = None
+abbrev pub link_behind : OpenLink → Call → CallStanding → Option OpenLink
+link_behind l call (Comes (Ends jobs client) i) = Some (record { peer = l.peer; initiator = i; client = client; slots = slots_behind call jobs l.slots })
+link_behind l call _ = None
 
 -- behind a call on the link that was open, unless it was cut off
-abbrev pub call_behind : Option Answer → Option OpenLink → (OpenLink → CallStanding) → Option OpenLink
-call_behind None o stands = None
-call_behind (Some answer) None stands = None
-call_behind (Some answer) (Some l) stands = link_behind l.peer (stands l)
+abbrev pub call_behind : Option Answer → Option OpenLink → Call → (OpenLink → CallStanding) → Option OpenLink
+call_behind None o call stands = None
+call_behind (Some answer) None call stands = None
+call_behind (Some answer) (Some l) call stands = link_behind l call (stands l)
 
 -- behind what was asked on it; a closing leaves none
 abbrev pub asked_behind : LinkAsking → Option Answer → Option OpenLink → List ℕ → List Event → Option OpenLink
-asked_behind (Does call) told o joins events = call_behind told o (λ l. stands_on l joins call events)
+asked_behind (Does call) told o joins events = call_behind told o call (λ l. stands_on l joins call events)
 asked_behind Closes told o joins events = None
 
 -- How a command on the link was told: by where it stands. The link ended by a lost field exactly where a Break was

@@ -3,10 +3,13 @@ use Rattle.std.specs.Prelude.{◌≡◌, ◌<◌, ℕ, Bool, true, false, if◌t
 use Rattle.nfc_base.specs.declared.carrier.EndCause.TheVariants as cause
 use Rattle.snep_core.specs.declared.fault.SnepFault.{SnepFault}
 use Rattle.snep_core.specs.declared.fault.SnepFault.TheVariants.{LinkEnded}
+use Rattle.snep_core.specs.declared.job.Ending.{Ending}
 use Rattle.snep_core.specs.declared.slot.Outcome.{Outcome}
 use Rattle.snep_core.specs.declared.slot.Outcome.TheVariants as outcomes
 use Rattle.snep_core.specs.declared.slot.Slot.{Slot}
 use Rattle.snep_core.specs.Slots.{outcome_of, slot_at}
+use Rattle.link_calls.specs.declared.request.LinkRequest.{LinkRequest}
+use Rattle.link_calls.specs.declared.request.LinkRequest.TheVariants as requests
 use Rattle.link_calls.specs.declared.request.SlotMessage.{SlotMessage}
 use Rattle.bench_world.specs.declared.bench.ObeyFault.{ObeyFault}
 use Rattle.bench_world.specs.declared.bench.ObeyFault.TheVariants.{Memory}
@@ -15,6 +18,7 @@ use Rattle.bench_world.specs.declared.entry.Answer.TheVariants as answers
 use Rattle.bench_world.specs.declared.entry.Loss.TheVariants as losses
 use Rattle.bench_world.specs.declared.entry.SlotDone.{SlotDone}
 use Rattle.bench_world.specs.World.{FarEnd}
+use Rattle.bench_world.specs.Calls.{told_ending}
 use Rattle.bench_world.specs.Links.{OpenLink, accepted_by, end_numbered, with_last_ended}
 use Rattle.bench_world.specs.Obeying.{Machines, under}
 
@@ -56,9 +60,22 @@ told_slots [] slots = answers.Puts []
 told_slots (w ∷ []) slots = if is_taken slots w.slot then answers.Success else answers.Reject
 told_slots (w ∷ v ∷ ws) slots = answers.Puts (map (done_at slots) (w ∷ v ∷ ws))
 
+-- what is told of a request that came to its end: of messages that were put at once each slot tells
+abbrev pub told_request : LinkRequest → Ending → List Slot → Answer
+told_request (requests.Put m) ending slots = told_ending ending
+told_request (requests.Get slot most key) ending slots = told_ending ending
+told_request (requests.Lookup name) ending slots = told_ending ending
+told_request (requests.Run ws) ending slots = told_slots ws.now slots
+told_request requests.Close ending slots = told_ending ending
+
 -- a slot's message isn't answered yet; and once it is
 abbrev pub not_yet : SlotMessage → SlotDone
 not_yet w = record { slot = w.slot; success = false }
 
 abbrev pub marked_done : List Slot → SlotDone → SlotDone
 marked_done slots d = record { slot = d.slot; success = is_taken slots d.slot }
+
+-- there is room to tell of each of several messages
+abbrev pub HasRoom : LinkRequest → List SlotDone → Type 0
+HasRoom (requests.Run ws) done = (length ws.now ≡ 1 → ⊥) → done ≡ map not_yet ws.now
+HasRoom r done = Unit {0}

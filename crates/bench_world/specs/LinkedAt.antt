@@ -7,6 +7,7 @@ use Rattle.arrayvec.specs.ArrayVec.{ArrayVec}
 use Rattle.dep_link.specs.Initiator.{InitState}
 use Rattle.llcp_link.specs.Answering.{Answers}
 use Rattle.llcp_link.specs.State.{restarted}
+use Rattle.snep_core.specs.Slots.{fresh_slots}
 use Rattle.snep_core.specs.Server.{serving}
 use Rattle.snep_core.specs.Talk.{EndState}
 use Rattle.bench_devices.specs.declared.device.Device.{Device}
@@ -27,7 +28,7 @@ begun m peer start i client = record {
   air = m.air;
   ends = m.ends;
   peers = with_link (record { peer = peer; start = start; end = None }) m.peers;
-  link = Some (record { peer = peer; initiator = i; client = client });
+  link = Some (record { peer = peer; initiator = i; client = client; slots = fresh_slots });
 }
 
 -- what is told of a link that couldn't be opened; no answer comes that isn't allowed

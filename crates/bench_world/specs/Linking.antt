@@ -15,6 +15,7 @@ use Rattle.dep_link.specs.Target.{TargetState}
 use Rattle.llcp_pdu.specs.declared.general.LinkParams.{LinkParams}
 use Rattle.llcp_pdu.specs.General.{general_bytes}
 use Rattle.llcp_link.specs.State.{fresh_end, restarted}
+use Rattle.snep_core.specs.Slots.{fresh_slots}
 use Rattle.snep_core.specs.declared.silent.NoService.{NoService}
 use Rattle.snep_core.specs.Talk.{EndState, silent}
 use Rattle.bench_script.specs.declared.command.DeviceId.{DeviceId}
@@ -53,6 +54,7 @@ link_to peer t miu window = record {
   peer = peer;
   initiator = waiting t.lr;
   client = new_client miu window t.general;
+  slots = fresh_slots;
 }
 
 abbrev pub link_if : Option ℕ → Option Device → ℕ → ℕ → Option OpenLink

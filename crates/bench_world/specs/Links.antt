@@ -3,17 +3,19 @@
 use Rattle.std.specs.Prelude.{ℕ, nat_eq, length, Bool, false, List, [], ◌∷◌, ◌++◌, if◌then◌else◌, Option, Some, None}
 use Rattle.dep_link.specs.Initiator.{InitState}
 use Rattle.far_air.specs.FarEnds.{first_far, later_fars}
+use Rattle.snep_core.specs.declared.slot.Slot.{Slot}
 use Rattle.snep_core.specs.Talk.{EndState}
 use Rattle.bench_world.specs.World.{FarEnd}
 use Rattle.bench_world.specs.declared.inbox.LinkRange.{LinkRange}
 use Rattle.bench_world.specs.Peers.{Peers}
 
--- An open link: its peer, by its number; where the initiator stands between two exchanges; and this end of it, from
--- which a client asks.
+-- An open link: its peer, by its number; where the initiator stands between two exchanges; this end of it, from which a client asks; and
+-- what each slot of the client was told last.
 pub record OpenLink : Type 0 where
   pub peer : ℕ
   pub initiator : InitState
   pub client : EndState
+  pub slots : List Slot
 
 -- a device has this number among the peers; a tag has none
 abbrev pub is_number : ℕ → Option ℕ → Bool

@@ -1,26 +1,19 @@
 //! Messages that several clients of the reader put at once over the open link, each from its slot, and a value that one of them gets.
 
-ghost use Rattle.std.specs.Prelude.{◌≡◌, ◌↔◌, ◌<◌, [], ◌∷◌, IsTrue, length, map, Some, IfOk, IsErr, IsErrOf};
+ghost use Rattle.std.specs.Prelude.{◌≡◌, ◌↔◌, [], ◌∷◌, IsTrue, IfOk, IsErrOf};
 ghost use Rattle.std.specs.List.{All};
-ghost use Rattle.snep_core.specs.Slots.{slot_count};
-ghost use Rattle.link_calls.specs.Asking.{Does, Putting};
-ghost use Rattle.link_calls.specs.AtOnce.{AreApart};
-ghost use Rattle.bench_world.specs.Asked.{asked_on_link, slot_messages};
+ghost use Rattle.bench_world.specs.Asked.{slot_messages};
 ghost use Rattle.bench_world.specs.Legal.{Accepts, IsSlotPut, MayPutOn, MayPuts};
-ghost use Rattle.bench_world.specs.LinkTaken.{is_success, marked_done, not_yet, told_slots};
-ghost use Rattle.bench_world.specs.Obeying.{IsSettled, ObeyedBy, IsCutOffBy, RefusedOnly, state_at};
+ghost use Rattle.bench_world.specs.Obeying.{IsSettled, ObeyedBy, IsCutOffBy, RefusedOnly};
 
 use crate::bench::ObeyFault;
-use crate::calling::{
-    LONGEST_MESSAGE, fault_told, is_too_long, put_back, put_down, take_link, talk,
-};
-use crate::entry::{Answer, SlotDone};
+use crate::calling::{LONGEST_MESSAGE, is_too_long, talk};
+use crate::entry::Answer;
 use crate::joins::Joins;
 use crate::machines::Machines;
 use bench_script::{Command, Msg, SlotPut, have_own_slots};
-use link_calls::{LinkRequest, SlotMessage, run_on};
+use link_calls::{LinkRequest, SlotMessage};
 use nfc_base::Items;
-use snep_core::{Client, Outcome};
 use std::alloc::{AllocError, Global};
 
 /// The last of a client's slots.
@@ -30,82 +23,6 @@ const LAST_SLOT: u8 = 7;
 const LEAST_PUTS: usize = 2;
 
 const MOST_PUTS: usize = 8;
-
-/// Whether a message was told to be taken.
-fn is_success(outcome: Outcome) -> bool
-    ensures { result ≡ is_success outcome }
-{
-    match outcome {
-        Outcome::Success => true,
-        Outcome::NoMessage | Outcome::Staged | Outcome::Rejected => false,
-    }
-}
-
-/// Each message is told of as its slot tells.
-fn mark_done(done: &mut [SlotDone], client: &Client)
-    requires { All (λ d. d.slot < slot_count) done.old }
-    ensures { done.new ≡ map (marked_done client.now.slots) done.old }
-{
-    for one in done.iter_mut() {
-        one.success = is_success(client.outcome(one.slot));
-    }
-}
-
-/// What is told of messages that were put at once, once all were answered.
-fn told_of(client: &Client, messages: &[SlotMessage], done: Vec<SlotDone>) -> Answer
-    requires apart { AreApart messages.now }
-    requires done { (length messages.now ≡ 1 → ⊥) → done.items ≡ map not_yet messages.now }
-    ensures { result ≡ told_slots messages.now client.now.slots }
-{
-    if messages.len() == 1 {
-        if is_success(client.outcome(messages[0].slot)) {
-            return Answer::Success;
-        }
-        return Answer::Reject;
-    }
-    let mut done = done;
-    mark_done(&mut done, client);
-    Answer::Puts(Items::new(done))
-}
-
-/// Puts messages at once on the open link, where there is one: the link stays open where all are answered.
-fn put_at_once(
-    machines: &mut Machines,
-    joins: Joins,
-    messages: &[SlotMessage],
-    done: Vec<SlotDone>,
-) -> Result<Answer, ObeyFault>
-    requires settled { IsSettled machines.old }
-    requires apart { AreApart messages.now }
-    requires done { (length messages.now ≡ 1 → ⊥) → done.items ≡ map not_yet messages.now }
-    ensures ok { IfOk result (λ a. (c : Command) → asked_on_link c ≡ Some (Does (Putting messages.now))
-        → Accepts (state_at machines.old) c → ObeyedBy joins machines.old machines.new c a) }
-    ensures cut { IsErr result → (c : Command) → asked_on_link c ≡ Some (Does (Putting messages.now))
-        → Accepts (state_at machines.old) c → IsCutOffBy joins machines.old machines.new c }
-    ensures never { IsErrOf result ObeyFault.Refused → ⊥ }
-{
-    let Some(mut on) = take_link(machines, joins.far) else {
-        return Ok(Answer::NoLink);
-    };
-    match run_on(
-        &mut machines.field,
-        &mut on.initiator,
-        &mut on.client,
-        &mut on.far,
-        joins.own,
-        messages,
-    ) {
-        Err(fault) => {
-            put_down(machines, on);
-            fault_told(fault)
-        }
-        Ok(()) => {
-            let answer = told_of(&on.client, messages, done);
-            put_back(machines, on);
-            Ok(answer)
-        }
-    }
-}
 
 /// A message and its slot, alone.
 fn alone(alloc: Global, slot: u8, message: &Msg) -> Result<Vec<SlotMessage>, AllocError>
@@ -137,11 +54,12 @@ pub fn on_put(
     let Ok(messages) = alone(alloc, slot, message) else {
         return Err(ObeyFault::Memory);
     };
-    put_at_once(machines, joins, &messages, Vec::new(alloc))
+    talk(alloc, machines, joins, &LinkRequest::Run(&messages))
 }
 
 /// Gets a value of at most so many bytes from the server of the link's peer, on the connection of a slot.
 pub fn on_get(
+    alloc: Global,
     machines: &mut Machines,
     joins: Joins,
     slot: u8,
@@ -165,7 +83,7 @@ pub fn on_get(
         most: acceptable,
         key,
     };
-    talk(machines, joins, &request)
+    talk(alloc, machines, joins, &request)
 }
 
 /// Whether each names a slot, and no message is longer than one may be.
@@ -205,20 +123,6 @@ fn messages_of(alloc: Global, puts: &[SlotPut]) -> Result<Vec<SlotMessage>, Allo
     Ok(messages)
 }
 
-/// Of each message that it isn't answered yet.
-fn none_done(alloc: Global, messages: &[SlotMessage]) -> Result<Vec<SlotDone>, AllocError>
-    ensures { IfOk result (λ v. v.items ≡ map not_yet messages.now) }
-{
-    let mut done = Vec::with_capacity(alloc, messages.len())?;
-    for one in messages {
-        done.push(SlotDone {
-            slot: one.slot,
-            success: false,
-        })?;
-    }
-    Ok(done)
-}
-
 /// Puts messages at once, each on the connection of its slot.
 pub fn puts(
     alloc: Global,
@@ -238,8 +142,5 @@ pub fn puts(
     let Ok(messages) = messages_of(alloc, all) else {
         return Err(ObeyFault::Memory);
     };
-    let Ok(done) = none_done(alloc, &messages) else {
-        return Err(ObeyFault::Memory);
-    };
-    put_at_once(machines, joins, &messages, done)
+    talk(alloc, machines, joins, &LinkRequest::Run(&messages))
 }

@@ -384,16 +384,16 @@ fn run_command(
         }
         Command::Raw { id, frames } => raw(alloc, machines, joins, id, frames.as_slice()),
         Command::Put { message } => put(alloc, machines, joins, message),
-        Command::Get { acceptable, key } => get(machines, joins, *acceptable, key.as_slice()),
-        Command::Lookup { name } => lookup(machines, joins, name.as_slice()),
+        Command::Get { acceptable, key } => get(alloc, machines, joins, *acceptable, key.as_slice()),
+        Command::Lookup { name } => lookup(alloc, machines, joins, name.as_slice()),
         Command::OnPut { slot, message } => on_put(alloc, machines, joins, *slot, message),
         Command::OnGet {
             slot,
             acceptable,
             key,
-        } => on_get(machines, joins, *slot, *acceptable, key.as_slice()),
+        } => on_get(alloc, machines, joins, *slot, *acceptable, key.as_slice()),
         Command::Puts(all) => puts(alloc, machines, joins, all.as_slice()),
-        Command::Unlink => unlink(machines, joins),
+        Command::Unlink => unlink(alloc, machines, joins),
     }
 }
 
@@ -541,6 +541,7 @@ impl Bench {
     /// The client that asks over the open link; none where no link is open.
     pub fn client(&self) -> Option<&Client>
         ensures end { option_map (λ (c : ClientState). c.llc) (option_copied result) ≡ option_map (λ (l : OpenLink). l.client) self.now.state.link }
+        ensures slots { option_map (λ (c : ClientState). c.slots) (option_copied result) ≡ option_map (λ (l : OpenLink). l.slots) self.now.state.link }
         ensures going { IfSome (option_copied result) (λ c. c.spent ≡ false) }
     {
         self.machines.client()

@@ -9,21 +9,20 @@ ghost use Rattle.link_calls.specs.AtOnce.{IsAtRest};
 ghost use Rattle.bench_script.specs.Messages.{message_of};
 ghost use Rattle.bench_script.specs.Script.{SpellsName, longest_message};
 ghost use Rattle.bench_world.specs.Asked.{asked_on_link};
-ghost use Rattle.bench_world.specs.Calls.{told_ending};
 ghost use Rattle.bench_world.specs.Legal.{Accepts};
-ghost use Rattle.bench_world.specs.LinkTaken.{TakesLink, fault_told, put_back, put_down};
+ghost use Rattle.bench_world.specs.LinkTaken.{TakesLink, put_back, put_down};
 ghost use Rattle.bench_world.specs.Obeying.{IsSettled, ObeyedBy, IsCutOffBy, RefusedOnly, state_at};
 
 use crate::bench::ObeyFault;
-use crate::entry::{Answer, Loss};
+use crate::entry::Answer;
 use crate::joins::Joins;
 use crate::machines::{Link, Machines, accepted_above, end_last, place_numbered};
+use crate::told::{answer_to, fault_told, room_for};
 use bench_script::{Command, Msg};
 use dep_link::Initiator;
 use link_calls::{LinkRequest, call_on};
 use llcp_link::{Counted, Counts};
-use nfc_base::EndCause;
-use snep_core::{Client, Ending, Refusal, Server, SnepFault};
+use snep_core::{Client, Server};
 use std::alloc::Global;
 
 /// The longest message (NFC Forum SNEP 1.0 has no limit; this one is this project's own).
@@ -47,7 +46,7 @@ pub(crate) fn take_link(machines: &mut Machines, counts: Counts) -> Option<OnLin
     requires { IsSettled machines.old }
     ensures none { result ≡ None → (machines.old.link ≡ None) × (machines.new ≡ machines.old) }
     ensures some { IfSome result (λ on. TakesLink machines.old on.place
-        (record { peer = on.peer; initiator = on.initiator; client = on.client.llc }) on.far.end machines.new) }
+        (record { peer = on.peer; initiator = on.initiator; client = on.client.llc; slots = on.client.slots }) on.far.end machines.new) }
     ensures going { IfSome result (λ on. on.client.spent ≡ false) }
     ensures rest { IfSome result (λ on. IsAtRest on.client.slots) }
     ensures counts { IfSome result (λ on. on.far.numbers ≡ counts) }
@@ -78,7 +77,7 @@ pub(crate) fn put_back(machines: &mut Machines, on: OnLink)
     requires going { on.client.spent ≡ false }
     requires rest { IsAtRest on.client.slots }
     ensures { machines.new ≡ put_back machines.old on.place on.far.end
-        (record { peer = on.peer; initiator = on.initiator; client = on.client.llc }) }
+        (record { peer = on.peer; initiator = on.initiator; client = on.client.llc; slots = on.client.slots }) }
 {
     let OnLink {
         place,
@@ -107,34 +106,9 @@ pub(crate) fn put_down(machines: &mut Machines, on: OnLink)
     end_last(&mut machines.links, end);
 }
 
-/// The answer that tells how a call ended.
-fn answer_of(ending: Ending) -> Answer
-    ensures { result ≡ told_ending ending }
-{
-    match ending {
-        Ending::Done => Answer::Success,
-        Ending::Value(value) => Answer::Value(value),
-        Ending::Sap(sap) => Answer::Sap(sap),
-        Ending::Refused(Refusal::Reject) => Answer::Reject,
-        Ending::Refused(Refusal::NotFound) => Answer::NoValue,
-        Ending::Refused(Refusal::Excess) => Answer::Excess,
-        Ending::Refused(Refusal::NotImplemented) => Answer::NotImplemented,
-    }
-}
-
-/// What is told of a call that has no ending.
-pub(crate) fn fault_told(fault: SnepFault) -> Result<Answer, ObeyFault>
-    ensures { result ≡ fault_told fault }
-{
-    match fault {
-        SnepFault::LinkEnded(EndCause::FieldLost) => Ok(Answer::LinkEnded(Loss::FieldLost)),
-        SnepFault::LinkEnded(EndCause::SixBad) => Ok(Answer::LinkEnded(Loss::SixBad)),
-        _ => Err(ObeyFault::Memory),
-    }
-}
-
 /// Asks something on the open link, where there is one: the link stays open behind a call that came to its end.
 pub(crate) fn talk(
+    alloc: Global,
     machines: &mut Machines,
     joins: Joins,
     request: &LinkRequest<'_>,
@@ -147,6 +121,9 @@ pub(crate) fn talk(
         → Accepts (state_at machines.old) c → IsCutOffBy joins machines.old machines.new c }
     ensures never { IsErrOf result ObeyFault.Refused → ⊥ }
 {
+    let Ok(done) = room_for(alloc, request) else {
+        return Err(ObeyFault::Memory);
+    };
     let Some(mut on) = take_link(machines, joins.far) else {
         return Ok(Answer::NoLink);
     };
@@ -167,8 +144,9 @@ pub(crate) fn talk(
                 put_down(machines, on);
                 return Ok(Answer::Unlinked);
             }
+            let answer = answer_to(request, ending, &on.client, done);
             put_back(machines, on);
-            Ok(answer_of(ending))
+            Ok(answer)
         }
     }
 }
@@ -202,11 +180,12 @@ pub fn put(
     let Ok(bytes) = message.bytes(alloc) else {
         return Err(ObeyFault::Memory);
     };
-    talk(machines, joins, &LinkRequest::Put(&bytes))
+    talk(alloc, machines, joins, &LinkRequest::Put(&bytes))
 }
 
 /// Gets a value of at most so many bytes from the server of the link's peer.
 pub fn get(
+    alloc: Global,
     machines: &mut Machines,
     joins: Joins,
     acceptable: u32,
@@ -226,7 +205,7 @@ pub fn get(
         most: acceptable,
         key,
     };
-    talk(machines, joins, &request)
+    talk(alloc, machines, joins, &request)
 }
 
 /// Whether these are characters from 21h to 7Eh alone.
@@ -252,7 +231,12 @@ fn service_name(bytes: &[u8]) -> Option<&str>
 }
 
 /// Looks up at which SAP the link's peer has the service of this name.
-pub fn lookup(machines: &mut Machines, joins: Joins, name: &[u8]) -> Result<Answer, ObeyFault>
+pub fn lookup(
+    alloc: Global,
+    machines: &mut Machines,
+    joins: Joins,
+    name: &[u8],
+) -> Result<Answer, ObeyFault>
     requires { IsSettled machines.old }
     ensures ok { IfOk result (λ a. ObeyedBy joins machines.old machines.new (Command.Lookup name.now) a) }
     ensures refused { IsErrOf result ObeyFault.Refused → (machines.new ≡ machines.old) }
@@ -262,15 +246,15 @@ pub fn lookup(machines: &mut Machines, joins: Joins, name: &[u8]) -> Result<Answ
     let Some(service) = service_name(name) else {
         return Err(ObeyFault::Refused);
     };
-    talk(machines, joins, &LinkRequest::Lookup(service))
+    talk(alloc, machines, joins, &LinkRequest::Lookup(service))
 }
 
 /// Closes the open link.
-pub fn unlink(machines: &mut Machines, joins: Joins) -> Result<Answer, ObeyFault>
+pub fn unlink(alloc: Global, machines: &mut Machines, joins: Joins) -> Result<Answer, ObeyFault>
     requires { IsSettled machines.old }
     ensures ok { IfOk result (λ a. ObeyedBy joins machines.old machines.new Command.Unlink a) }
     ensures cut { OnErr result (IsCutOffBy joins machines.old machines.new Command.Unlink) }
     ensures never { IsErrOf result ObeyFault.Refused → ⊥ }
 {
-    talk(machines, joins, &LinkRequest::Close)
+    talk(alloc, machines, joins, &LinkRequest::Close)
 }

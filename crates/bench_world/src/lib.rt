@@ -31,6 +31,7 @@ mod peers;
 mod pieces;
 mod raws;
 mod report;
+mod told;
 mod threes;
 
 pub use bench::{Bench, ObeyFault, Run};

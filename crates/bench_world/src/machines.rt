@@ -40,7 +40,7 @@ impl Model for Link {
 
     ghost Value = { OpenLink };
 
-    ghost view = { λ l. record { peer = l.peer; initiator = l.initiator; client = l.client.llc } };
+    ghost view = { λ l. record { peer = l.peer; initiator = l.initiator; client = l.client.llc; slots = l.client.slots } };
 
     ghost invariant = { λ l. (l.client.spent ≡ false) × IsAtRest l.client.slots };
 }
@@ -224,6 +224,7 @@ impl Machines {
     /// The client of the open link.
     pub fn client(&self) -> Option<&Client>
         ensures end { option_map (λ (c : ClientState). c.llc) (option_copied result) ≡ option_map (λ (l : OpenLink). l.client) self.now.link }
+        ensures slots { option_map (λ (c : ClientState). c.slots) (option_copied result) ≡ option_map (λ (l : OpenLink). l.slots) self.now.link }
         ensures going { IfSome (option_copied result) (λ c. c.spent ≡ false) }
     {
         match &self.link {
@@ -374,6 +375,7 @@ impl Machines {
     ) -> Result<Answer, ObeyFault>
         requires few { length self.old.peers.links + 1 < 2 ^ 32 }
         requires fresh { client.spent ≡ false }
+        requires slots { client.slots ≡ fresh_slots }
         requires rest { IsAtRest client.slots }
         ensures ok { IfOk result (λ a. a ≡ Answer.Linked (length self.old.peers.links + 1)) }
         ensures opened { OnOk result (self.new ≡ begun self.old peer start initiator client.llc) }

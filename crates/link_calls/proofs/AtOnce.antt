@@ -1,6 +1,6 @@
 -- Messages that are put at once, each from a slot.
-use Rattle.std.proofs.Common.{◌≡◌, ◌<◌, ◌≤◌, ◌≢◌, ◌⊎◌, ◌==◌, ◌||◌, ◌+◌, ◌-◌, ◌++◌, ℕ, zero, suc, nat_lt, Bool, true, false, List, [], ◌∷◌, length, replicate, set, get_or, Option, Some, Result, Ok, Err, OnOk, refl, sym, ◌∙◌, ap, subst, append-nil, arith, inl, inr}
-use Rattle.std.proofs.lemmas.Bool.{eqb-true, le-ltb, lt-ltb, ltb-false, ltb-true}
+use Rattle.std.proofs.Common.{◌≡◌, ◌<◌, ◌≤◌, ◌≢◌, ◌⊎◌, ◌==◌, ◌||◌, ◌+◌, ◌-◌, ◌++◌, ℕ, zero, suc, nat_lt, Bool, true, false, List, [], ◌∷◌, length, replicate, set, get_or, if◌then◌else◌, Option, Some, None, Result, Ok, Err, OnOk, refl, sym, ◌∙◌, ap, subst, append-nil, arith, inl, inr}
+use Rattle.std.proofs.lemmas.Bool.{eqb-true, ne_eqb, le-ltb, lt-ltb, ltb-false, ltb-true}
 use Rattle.std.proofs.lemmas.Bool.Decides.{nat_tests}
 use Rattle.std.proofs.lemmas.List.{get_or-set_other, get_or-set_same, length-set}
 use Rattle.nfc_base.specs.declared.carrier.EndCause.{EndCause}
@@ -8,7 +8,10 @@ use Rattle.nfc_base.specs.declared.carrier.EndCause.TheVariants as cause
 use Rattle.snep_core.specs.declared.fault.SnepFault.{SnepFault}
 use Rattle.snep_core.specs.declared.fault.SnepFault.TheVariants as faults
 use Rattle.snep_core.specs.declared.job.Ending.{Ending}
-use Rattle.snep_core.specs.declared.job.Ending.TheVariants.{Done}
+use Rattle.snep_core.specs.declared.job.Ending.TheVariants.{Done, Refused}
+use Rattle.snep_core.specs.declared.job.Job.{Job}
+use Rattle.snep_core.specs.declared.job.Job.TheVariants.{Over}
+use Rattle.snep_core.specs.declared.job.Refusal.TheVariants as refusals
 use Rattle.snep_core.specs.declared.slot.Outcome.{Outcome}
 use Rattle.snep_core.specs.declared.slot.Outcome.TheVariants as outcomes
 use Rattle.snep_core.specs.Accord.{AddsFrom, IsClientSap, IsRun, PeerState, RunAdds, RunFails, SlotTells, TellsOf}
@@ -19,10 +22,10 @@ use Rattle.snep_core.specs.declared.slot.Slot.{Slot}
 use Rattle.snep_core.specs.declared.slot.Slot.TheVariants.{NoMessage, Rejected, Staged, Success}
 use Rattle.snep_core.specs.Slots.{NoneStaged, all_puts, answered_as, fresh_slots, has_staged, is_staged_at, job_from, marked, noted, noted_from, put_with, puts_from, slot_at, slot_count, staged_on, told_by, put_alone}
 use Rattle.snep_core.specs.declared.job.OnSap.{OnSap}
-use Rattle.snep_core.specs.Talk.{EndState, TaskOn, client_sap, sap_of_slot}
+use Rattle.snep_core.specs.Talk.{EndState, Puts, TaskOn, client_sap, one_on, sap_of_slot}
 use Rattle.snep_core.proofs.SlotPuts.{noted_length, noted_there, slot_of, slot_there}
 use Rattle.link_calls.specs.AtOnce.{AllAnswered, AllPut, AreApart, EachOf, IsAtRest, PutSo, ServedAtOnce, all_staged, is_from, puts_at_once, told_on}
-use Rattle.link_calls.specs.Called.{came_to}
+use Rattle.link_calls.specs.Called.{SlotsTold, came_to}
 use Rattle.link_calls.specs.declared.request.SlotMessage.{SlotMessage}
 
 pub two_false : (a b : Bool) → (a || b) ≡ false → (a ≡ false) × (b ≡ false)
@@ -268,6 +271,44 @@ put_rests m slots now r ending rest e is = subst (λ z. OnOk z (IsAtRest now)) (
     by (Err faults.Excess) (inl f) = subst IsAtRest (sym f) (set_rests slots 0 Rejected rest refl)
     by (Err faults.Excess) (inr (f, g)) = absurd cc
     by (Err faults.NotImplemented) (inl f) = subst IsAtRest (sym f) (set_rests slots 0 Rejected rest refl)
+    by (Err faults.NotImplemented) (inr (f, g)) = absurd cc
+    by (Err (faults.LinkEnded c)) f = tt
+    by (Err faults.Memory) f = tt
+    by (Err faults.BadPeer) f = tt
+    by (Err faults.SlotBusy) f = tt
+
+-- What a put from the first slot leaves there, and that it leaves the others.
+none_marked : (s : Slot) → marked None s ≡ s
+none_marked NoMessage = refl
+none_marked Success = refl
+none_marked Rejected = refl
+none_marked (Staged m) = refl
+
+others_still : (job : Job) (sap : ℕ) → client_sap < sap → (ss : List Slot) → noted_from sap (one_on client_sap job) ss ≡ ss
+others_still job sap above [] = refl
+others_still job sap above (s ∷ ss) =
+    let apart : (client_sap == sap) ≡ false = ne_eqb client_sap sap (λ same. omega (arith, above, same)) in
+    ap (λ v. marked (if v then Some job else None) s ∷ noted_from (sap + 1) (one_on client_sap job) ss) apart
+    ∙ ap (λ x. x ∷ noted_from (sap + 1) (one_on client_sap job) ss) (none_marked s) ∙ ap (λ xs. s ∷ xs) (others_still job (sap + 1) (omega (arith, above)) ss)
+
+one_noted : (job : Job) (m : List ℕ) (slots : List Slot) → noted (one_on client_sap job) (staged_on slots 0 m) ≡ set slots 0 (marked (Some job) (Staged m))
+one_noted job m [] = refl
+one_noted job m (s ∷ ss) = ap (λ xs. marked (Some job) (Staged m) ∷ xs) (others_still job (client_sap + 1) (omega arith) ss)
+
+pub put_tells : (m : List ℕ) (slots now : List Slot) (r : Result Unit SnepFault) (ending : Result Ending SnepFault)
+    → (now ≡ put_alone r m slots) ⊎ ((r ≡ Err faults.Memory) × (now ≡ slots)) → ending ≡ came_to (λ (e : Ending). e) (put_ended r) → SlotsTold client_sap (Puts m) slots ending now
+put_tells m slots now r ending e is = subst (λ z. SlotsTold client_sap (Puts m) slots z now) (sym is) (by r e)
+  where
+    by : (q : Result Unit SnepFault) → (now ≡ put_alone q m slots) ⊎ ((q ≡ Err faults.Memory) × (now ≡ slots)) → SlotsTold client_sap (Puts m) slots (came_to (λ (x : Ending). x) (put_ended q)) now
+    by (Ok u) (inl f) = f ∙ sym (one_noted (Over Done) m slots)
+    by (Ok u) (inr (f, g)) = absurd cc
+    by (Err faults.Reject) (inl f) = f ∙ sym (one_noted (Over (Refused refusals.Reject)) m slots)
+    by (Err faults.Reject) (inr (f, g)) = absurd cc
+    by (Err faults.NotFound) (inl f) = f ∙ sym (one_noted (Over (Refused refusals.NotFound)) m slots)
+    by (Err faults.NotFound) (inr (f, g)) = absurd cc
+    by (Err faults.Excess) (inl f) = f ∙ sym (one_noted (Over (Refused refusals.Excess)) m slots)
+    by (Err faults.Excess) (inr (f, g)) = absurd cc
+    by (Err faults.NotImplemented) (inl f) = f ∙ sym (one_noted (Over (Refused refusals.NotImplemented)) m slots)
     by (Err faults.NotImplemented) (inr (f, g)) = absurd cc
     by (Err (faults.LinkEnded c)) f = tt
     by (Err faults.Memory) f = tt

@@ -10,10 +10,11 @@ use Rattle.snep_core.specs.declared.job.Ending.TheVariants.{Refused}
 use Rattle.snep_core.specs.declared.job.Job.TheVariants.{Over}
 use Rattle.snep_core.specs.declared.job.Refusal.{Refusal}
 use Rattle.snep_core.specs.declared.job.Refusal.TheVariants as refusals
+use Rattle.snep_core.specs.declared.slot.Slot.{Slot}
 use Rattle.snep_core.specs.Accord.{Accords, GetFails, PutFails}
 use Rattle.snep_core.specs.Calling.{refused_by}
 use Rattle.snep_core.specs.Talk.{EndState, Ends, Task, Puts, Gets, begins_from, one_on}
-use Rattle.link_calls.specs.Called.{OpenAir, Served, TaskCalled, came_to}
+use Rattle.link_calls.specs.Called.{OpenAir, Served, SlotsTold, TaskCalled, came_to}
 use Rattle.link_calls.specs.Calls.{CallFails, IsMade, RequestFails}
 
 same_refusal : (v w : Refusal) → refused_by v ≡ refused_by w → w ≡ v
@@ -69,7 +70,7 @@ none_busy refusals.NotFound e = cc
 none_busy refusals.Excess e = cc
 none_busy refusals.NotImplemented e = cc
 
-module _ {L : Type 0} (k : Ghosts L) (target : L → TargetState) (ns : List ℕ) (client left : EndState) (old new : OpenAir L) (sap : ℕ) where
+module _ {L : Type 0} (k : Ghosts L) (target : L → TargetState) (ns : List ℕ) (client left : EndState) (slots told : List Slot) (old new : OpenAir L) (sap : ℕ) where
   abbrev Made : Task → Ending → Type 0
   Made task ending = IsMade k target ns (begins_from client sap task) old.air old.initiator old.far new.air new.initiator new.far (Ends (one_on sap (Over ending)) left)
 
@@ -95,19 +96,32 @@ module _ {L : Type 0} (k : Ghosts L) (target : L → TargetState) (ns : List ℕ
   -- a request that failed, of which this holds by its fault
   module _ (task : Task) (Left : SnepFault → Type 0) (refused : (w : Refusal) → Left (refused_by w) → Served sap task old.far.end (Ok (Refused w)) left new.far.end)
       (failed : (x : SnepFault) → Left x → Served sap task old.far.end (Err x) left new.far.end) where
-    by_fault : (x : SnepFault) → Fell task x → (Accords client old.far.end → Left x) → TaskCalled k target ns sap task client old (came_to (λ (e : Ending). e) (Err x)) left new
-    by_fault faults.Reject f s = record { goes = made_refused task refusals.Reject f; serves = λ a. refused refusals.Reject (s a) }
-    by_fault faults.NotFound f s = record { goes = made_refused task refusals.NotFound f; serves = λ a. refused refusals.NotFound (s a) }
-    by_fault faults.Excess f s = record { goes = made_refused task refusals.Excess f; serves = λ a. refused refusals.Excess (s a) }
-    by_fault faults.NotImplemented f s = record { goes = made_refused task refusals.NotImplemented f; serves = λ a. refused refusals.NotImplemented (s a) }
-    by_fault (faults.LinkEnded c) f s = record { goes = not_refused task (faults.LinkEnded c) (none_link c) f; serves = λ a. failed (faults.LinkEnded c) (s a) }
-    by_fault faults.Memory f s = record { goes = not_refused task faults.Memory none_memory f; serves = λ a. failed faults.Memory (s a) }
-    by_fault faults.BadPeer f s = record { goes = not_refused task faults.BadPeer none_bad f; serves = λ a. failed faults.BadPeer (s a) }
-    by_fault faults.SlotBusy f s = record { goes = not_refused task faults.SlotBusy none_busy f; serves = λ a. failed faults.SlotBusy (s a) }
+    by_fault : (x : SnepFault) → Fell task x → SlotsTold sap task slots (came_to (λ (e : Ending). e) (Err x)) told → (Accords client old.far.end → Left x)
+        → TaskCalled k target ns sap task client slots old (came_to (λ (e : Ending). e) (Err x)) left told new
+    by_fault faults.Reject f t s = record { goes = made_refused task refusals.Reject f; tells = t; serves = λ a. refused refusals.Reject (s a) }
+    by_fault faults.NotFound f t s = record { goes = made_refused task refusals.NotFound f; tells = t; serves = λ a. refused refusals.NotFound (s a) }
+    by_fault faults.Excess f t s = record { goes = made_refused task refusals.Excess f; tells = t; serves = λ a. refused refusals.Excess (s a) }
+    by_fault faults.NotImplemented f t s = record { goes = made_refused task refusals.NotImplemented f; tells = t; serves = λ a. refused refusals.NotImplemented (s a) }
+    by_fault (faults.LinkEnded c) f t s = record { goes = not_refused task (faults.LinkEnded c) (none_link c) f; tells = t; serves = λ a. failed (faults.LinkEnded c) (s a) }
+    by_fault faults.Memory f t s = record { goes = not_refused task faults.Memory none_memory f; tells = t; serves = λ a. failed faults.Memory (s a) }
+    by_fault faults.BadPeer f t s = record { goes = not_refused task faults.BadPeer none_bad f; tells = t; serves = λ a. failed faults.BadPeer (s a) }
+    by_fault faults.SlotBusy f t s = record { goes = not_refused task faults.SlotBusy none_busy f; tells = t; serves = λ a. failed faults.SlotBusy (s a) }
 
-  pub put_failed : (m : List ℕ) (x : SnepFault) → Fell (Puts m) x → (Accords client old.far.end → PutFails sap m old.far.end x left new.far.end) → TaskCalled k target ns sap (Puts m) client old (came_to (λ (e : Ending). e) (Err x)) left new
+  pub put_failed : (m : List ℕ) (x : SnepFault) → Fell (Puts m) x → SlotsTold sap (Puts m) slots (came_to (λ (e : Ending). e) (Err x)) told
+      → (Accords client old.far.end → PutFails sap m old.far.end x left new.far.end) → TaskCalled k target ns sap (Puts m) client slots old (came_to (λ (e : Ending). e) (Err x)) left told new
   put_failed m = by_fault (Puts m) (λ e. PutFails sap m old.far.end e left new.far.end) (λ w s. s) (λ e s. s)
 
-  pub get_failed : (most : ℕ) (key : List ℕ) (x : SnepFault) → Fell (Gets most key) x → (Accords client old.far.end → GetFails sap most key old.far.end x left new.far.end)
-      → TaskCalled k target ns sap (Gets most key) client old (came_to (λ (e : Ending). e) (Err x)) left new
-  get_failed most key = by_fault (Gets most key) (λ e. GetFails sap most key old.far.end e left new.far.end) (λ w s. s) (λ e s. s)
+  pub get_failed : (most : ℕ) (key : List ℕ) (x : SnepFault) → Fell (Gets most key) x → told ≡ slots → (Accords client old.far.end → GetFails sap most key old.far.end x left new.far.end)
+      → TaskCalled k target ns sap (Gets most key) client slots old (came_to (λ (e : Ending). e) (Err x)) left told new
+  get_failed most key x f same s =
+      by_fault (Gets most key) (λ e. GetFails sap most key old.far.end e left new.far.end) (λ w s. s) (λ e s. s) x f (tells x) s
+    where
+      tells : (y : SnepFault) → SlotsTold sap (Gets most key) slots (came_to (λ (e : Ending). e) (Err y)) told
+      tells faults.Reject = same
+      tells faults.NotFound = same
+      tells faults.Excess = same
+      tells faults.NotImplemented = same
+      tells (faults.LinkEnded c) = tt
+      tells faults.Memory = tt
+      tells faults.BadPeer = tt
+      tells faults.SlotBusy = tt

@@ -2,9 +2,9 @@
 use Rattle.std.specs.Prelude.{◌≤◌, ◌<◌, ℕ, length, List, [], ◌∷◌, Bool, true, false}
 use Rattle.snep_core.specs.Slots.{slot_count}
 use Rattle.snep_core.specs.Talk.{EndState, Step, Task, Puts, Gets, Finds, Leaves, begins, begins_all, begins_from, sap_of_slot}
-use Rattle.link_calls.specs.AtOnce.{puts_at_once}
+use Rattle.link_calls.specs.AtOnce.{AreApart, puts_at_once}
 use Rattle.link_calls.specs.declared.request.LinkRequest.{LinkRequest}
-use Rattle.link_calls.specs.declared.request.LinkRequest.TheVariants.{Put, Get, Lookup, Close}
+use Rattle.link_calls.specs.declared.request.LinkRequest.TheVariants.{Put, Get, Lookup, Run, Close}
 use Rattle.link_calls.specs.declared.request.SlotMessage.{SlotMessage}
 
 -- A call: messages that are put at once, each from its slot, and told of in this order; a value is got, of at most so many bytes, on
@@ -33,6 +33,7 @@ abbrev pub asking_of : LinkRequest → LinkAsking
 asking_of (Put message) = Does (put_from 0 message.now)
 asking_of (Get slot most key) = Does (Getting (sap_of_slot slot) most key.now)
 asking_of (Lookup name) = Does (Finding name.now)
+asking_of (Run messages) = Does (Putting messages.now)
 asking_of Close = Closes
 
 -- no message and no key is longer than 65,536 bytes, and no name than 64
@@ -42,11 +43,12 @@ IsShort (Gets most key) = length key ≤ 65536
 IsShort (Finds name) = length name ≤ 64
 IsShort Leaves = Unit {0}
 
--- So it is of a request; and where it names a slot, that is one of eight.
+-- So it is of a request; and where it names slots, each is one of eight, and no two are the same.
 abbrev pub MayAsk : LinkRequest → Type 0
 MayAsk (Put message) = IsShort (Puts message.now)
 MayAsk (Get slot most key) = (slot < slot_count) × IsShort (Gets most key.now)
 MayAsk (Lookup name) = IsShort (Finds name.now)
+MayAsk (Run messages) = AreApart messages.now
 MayAsk Close = Unit {0}
 
 abbrev pub is_closing : LinkAsking → Bool

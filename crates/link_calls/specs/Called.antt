@@ -1,6 +1,6 @@
 -- A client's call on an open link, whatever it asks: what it came to, and what it did at a peer that serves as this project's server does
 -- (NFC Forum LLCP 1.3 and SNEP 1.0).
-use Rattle.std.specs.Prelude.{◌≡◌, ℕ, List, Result, Ok, Err}
+use Rattle.std.specs.Prelude.{◌≡◌, ℕ, List, [], ◌∷◌, Result, Ok, Err}
 use Rattle.nfc_base.specs.Choosing.{Choosing}
 use Rattle.nfc_base.specs.Far.{Untouched}
 use Rattle.air_core.specs.Turn.{Air}
@@ -59,6 +59,13 @@ Served sap Leaves old (Ok Done) client new = IsClosed old client new
 Served sap Leaves old (Ok ending) client new = ⊥
 Served sap Leaves old (Err fault) client new = AsideFails old fault new
 
+-- What the slots of a client tell behind a call that came to its end: a message that was put stands on the first one, as it was answered, and
+-- no other call changes any.
+abbrev pub SlotsTold : ℕ → Task → List Slot → Result Ending SnepFault → List Slot → Type 0
+SlotsTold sap (Puts m) slots (Ok ending) told = told ≡ noted (one_on sap (Over ending)) (all_staged (record { slot = 0; message = m } ∷ []) slots)
+SlotsTold sap task slots (Ok ending) told = told ≡ slots
+SlotsTold sap task slots (Err fault) told = Unit {0}
+
 module _ {L : Type 0} (k : Ghosts L) (target : L → TargetState) (numbers : List ℕ) where
   -- A call came to its end, or it failed.
   abbrev pub Goes : ℕ → Task → EndState → OpenAir L → Result Ending SnepFault → EndState → OpenAir L → Type 0
@@ -67,8 +74,10 @@ module _ {L : Type 0} (k : Ghosts L) (target : L → TargetState) (numbers : Lis
   Goes sap task client old (Err fault) left new =
       CallFails k target numbers (begins_from client sap task) old.air old.initiator old.far new.air new.initiator new.far left fault
 
-  pub record TaskCalled (sap : ℕ) (task : Task) (client : EndState) (old : OpenAir L) (result : Result Ending SnepFault) (left : EndState) (new : OpenAir L) : Type 0 where
+  pub record TaskCalled (sap : ℕ) (task : Task) (client : EndState) (slots : List Slot) (old : OpenAir L) (result : Result Ending SnepFault)
+      (left : EndState) (told : List Slot) (new : OpenAir L) : Type 0 where
     pub goes : Goes sap task client old result left new
+    pub tells : SlotsTold sap task slots result told
     pub serves : Accords client old.far.end → Served sap task old.far.end result left new.far.end
 
   -- Messages were put at once, from these slots of the client, and all were answered: each slot tells how.
@@ -84,6 +93,11 @@ module _ {L : Type 0} (k : Ghosts L) (target : L → TargetState) (numbers : Lis
     pub goes : CallFails k target numbers (begins_all client (puts_at_once ws)) old.air old.initiator old.far new.air new.initiator new.far left fault
     pub serves : Accords client old.far.end → ServedAtOnce ws old.far.end (Err fault) left new.far.end
 
+  abbrev pub RunCalled : List SlotMessage → EndState → List Slot → OpenAir L → Result Ending SnepFault → EndState → List Slot → OpenAir L → Type 0
+  RunCalled ws client slots old (Ok Done) left told new = AllCalled ws client slots old left told new
+  RunCalled ws client slots old (Ok ending) left told new = ⊥
+  RunCalled ws client slots old (Err fault) left told new = AllFailed ws client old fault left new
+
   -- A closing came to its end, or it failed.
   abbrev pub GoesDown : EndState → OpenAir L → Result Ending SnepFault → EndState → OpenAir L → Type 0
   GoesDown client old (Ok Done) left new =
@@ -97,9 +111,10 @@ module _ {L : Type 0} (k : Ghosts L) (target : L → TargetState) (numbers : Lis
     pub goes : GoesDown client old result left new
     pub serves : Accords client old.far.end → ((l : L) → k.machine.handed l rls_frame ≡ Untouched) → Served client_sap Leaves old.far.end result left new.far.end
 
-  -- This was asked on an open link by a client's end: what it came to, how it leaves the end, and the link.
-  abbrev pub Called : LinkRequest → EndState → OpenAir L → Result Ending SnepFault → EndState → OpenAir L → Type 0
+  -- This was asked on an open link by a client, whose slots told this before: what it came to, how it leaves the client's end and its slots, and the link.
+  abbrev pub Called : LinkRequest → EndState → List Slot → OpenAir L → Result Ending SnepFault → EndState → List Slot → OpenAir L → Type 0
   Called (requests.Put message) = TaskCalled client_sap (Puts message.now)
   Called (requests.Get slot most key) = TaskCalled (sap_of_slot slot) (Gets most key.now)
   Called (requests.Lookup name) = TaskCalled client_sap (Finds name.now)
-  Called requests.Close = ClosingCalled
+  Called (requests.Run messages) = RunCalled messages.now
+  Called requests.Close = λ client slots old result left told new. ClosingCalled client old result left new

@@ -14,6 +14,7 @@ ghost use Rattle.link_calls.specs.AtOnce.{IsAtRest};
 ghost use Rattle.link_calls.specs.Called.{Called, came_to};
 ghost use Rattle.link_calls.specs.Calls.{CallFails, IsMade, IsOpen, RequestFails};
 
+use crate::at_once::run_on;
 use crate::closing::close_and_release;
 use crate::request::LinkRequest;
 use air_core::Field;
@@ -132,7 +133,7 @@ fn refused_or_failed(fault: SnepFault) -> Result<Ending, SnepFault>
 }
 
 /// Asks for what a request says, where no message waits on the client's slots. Behind a closing the link is over; a refusal is
-/// an ending, and no fault.
+/// an ending, and no fault. Of messages that are put at once each slot tells how its own ended.
 pub fn call_on<L: PeerListener>(
     field: &mut Field<L>,
     initiator: &mut Initiator,
@@ -145,9 +146,9 @@ pub fn call_on<L: PeerListener>(
     requires going { client.old.spent ≡ false }
     requires rest { IsAtRest client.old.slots }
     requires may { MayAsk request.now }
-    ensures called { Called L.Listener L.target counts request.now client.old.llc
+    ensures called { Called L.Listener L.target counts request.now client.old.llc client.old.slots
         (record { air = field.old; initiator = initiator.old; far = far.old }) result
-        client.new.llc (record { air = field.new; initiator = initiator.new; far = far.new }) }
+        client.new.llc client.new.slots (record { air = field.new; initiator = initiator.new; far = far.new }) }
     ensures going { OnOk result (client.new.spent ≡ false) }
     ensures rest { OnOk result (IsAtRest client.new.slots) }
 {
@@ -165,6 +166,12 @@ pub fn call_on<L: PeerListener>(
         LinkRequest::Lookup(name) => {
             match lookup_on(field, initiator, client, far, counts, name) {
                 Ok(sap) => Ok(Ending::Sap(sap)),
+                Err(fault) => Err(fault),
+            }
+        }
+        LinkRequest::Run(messages) => {
+            match run_on(field, initiator, client, far, counts, messages) {
+                Ok(()) => Ok(Ending::Done),
                 Err(fault) => Err(fault),
             }
         }

@@ -21,6 +21,8 @@ pub enum LinkRequest<'a> {
     Get { slot: u8, most: u32, key: &'a [u8] },
     /// A service is looked up by its name.
     Lookup(&'a str),
+    /// Messages are put at once, each from its slot.
+    Run(&'a [SlotMessage]),
     /// The link is closed.
     Close,
 }
@@ -31,7 +33,8 @@ impl LinkRequest<'_> {
         ensures { result ≡ is_closing (asking_of self.now) }
     {
         match self {
-            LinkRequest::Put(_) | LinkRequest::Get { .. } | LinkRequest::Lookup(_) => false,
+            LinkRequest::Put(_) | LinkRequest::Get { .. } => false,
+            LinkRequest::Lookup(_) | LinkRequest::Run(_) => false,
             LinkRequest::Close => true,
         }
     }

@@ -13,7 +13,7 @@ pub unreachable-requires : goal.unreachable-requires
 unreachable-requires c =
     let peers : Peers = record { numbers = c.machines.inside.numbers.items; gone = map (rests peer_ends) c.machines.inside.gone.items; links = c.machines.inside.links.items } in
     let old : Machines = under c.machines.inside.ends.items peers c.machines.inside.link c.machines.inside.field in
-    let l : OpenLink = record { peer = c.peer.inside.peer; initiator = c.peer.inside.initiator; client = c.peer.inside.client.llc } in
+    let l : OpenLink = record { peer = c.peer.inside.peer; initiator = c.peer.inside.initiator; client = c.peer.inside.client.llc; slots = c.peer.inside.client.slots } in
     let is : c.args.machines.now ≡ old = search rules in
     let linked : c.machines.inside.link ≡ Some l = search rules in
     found old (subst IsSettled is c.requires) l linked
@@ -23,7 +23,7 @@ pub unreachable-requires-in_default-take : goal.unreachable-requires-in_default-
 unreachable-requires-in_default-take c =
     let peers : Peers = record { numbers = c.machines.inside.numbers.items; gone = map (rests peer_ends) c.machines.inside.gone.items; links = c.machines.inside.links.items } in
     let old : Machines = under c.machines.inside.ends.items peers c.machines.inside.link c.machines.inside.field in
-    let l : OpenLink = record { peer = c.peer.inside.peer; initiator = c.peer.inside.initiator; client = c.peer.inside.client.llc } in
+    let l : OpenLink = record { peer = c.peer.inside.peer; initiator = c.peer.inside.initiator; client = c.peer.inside.client.llc; slots = c.peer.inside.client.slots } in
     let is : c.args.machines.now ≡ old = search rules in
     let linked : c.machines.inside.link ≡ Some l = search rules in
     let at : (os : List (Option FarEnd)) → end_numbered l.peer old.peers.numbers os ≡ get_or os c.in-Some.place None =

@@ -3,7 +3,7 @@ use Rattle.snep_core.specs.Slots.{slot_count}
 use Rattle.bench_world.specs.declared.entry.SlotDone.{SlotDone}
 use Rattle.bench_world.specs.LinkTaken.{is_success, marked_done}
 use Rattle.bench_world.proofs.SlotsTold.{map_next, rest_next}
-use Rattle.bench_world.proofs.at_once.mark_done.Goals as goal
+use Rattle.bench_world.proofs.told.mark_done.Goals as goal
 
 pub loop-one-preserved : goal.loop-one-preserved
 loop-one-preserved c =

@@ -6,7 +6,7 @@ use Rattle.bench_world.specs.declared.entry.SlotDone.{SlotDone}
 use Rattle.bench_world.specs.LinkTaken.{marked_done, not_yet}
 use Rattle.std.proofs.lemmas.List.{length-map}
 use Rattle.bench_world.proofs.SlotsTold.{done_within, several_by_slot, written_all}
-use Rattle.bench_world.proofs.at_once.told_of.Goals as goal
+use Rattle.bench_world.proofs.told.told_of.Goals as goal
 
 pub mark_done-requires : goal.mark_done-requires
 mark_done-requires c =
