@@ -75,6 +75,7 @@ module _ (how : How) (message : List ℕ) (t : Tag) (turns : List Turn) (used : 
     next = s.next;
     rest = s.rest;
     split = s.split;
+    by = s.by;
     r = r;
     answered = answered;
     odd = odd;

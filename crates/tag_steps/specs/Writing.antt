@@ -65,7 +65,7 @@ pub record AreSentToWrite (how : How) (message : List ℕ) (t : Tag) (turns : Li
       → AreAcknowledgedBy how v.step v.state front → commands_of (take n turns) ≡ v.answered ++ front
       → u.command ≡ next
 
--- The tag's last answer neither acknowledges its write nor refuses it.
+-- The writes before were acknowledged, and the tag's last answer neither acknowledges its write nor refuses it.
 pub record IsOddWrite (how : How) (message : List ℕ) (a b : LinkView) : Type 0 where
   pub v : LinkView
   pub w : Work
@@ -74,6 +74,7 @@ pub record IsOddWrite (how : How) (message : List ℕ) (a b : LinkView) : Type 0
   pub next : Signal
   pub rest : List Signal
   pub split : all_commands w ≡ front ++ next ∷ rest
+  pub by : AreAcknowledgedBy how v.step v.state front
   pub r : Signal
   pub answered : IsAnsweredBy v b front next r
   pub odd : IsOddAnswer how r
