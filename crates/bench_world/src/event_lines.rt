@@ -42,12 +42,7 @@ fn push_event<const N: usize>(text: &mut ArrayVec<u8, N>, event: &Event)
 }
 
 /// A transmission, behind the sign that says what it is.
-fn push_sent<const N: usize>(
-    text: &mut ArrayVec<u8, N>,
-    sign: &[u8; 2],
-    frame: &Frame,
-    fate: Fate,
-)
+fn push_sent<const N: usize>(text: &mut ArrayVec<u8, N>, sign: &[u8; 2], frame: &Frame, fate: Fate)
     requires { length text.old.items + 607 ≤ N }
     ensures value { text.new.items ≡ text.old.items ++ (sign.now ++ sent_text frame.now fate) }
     ensures size { length text.new.items ≤ length text.old.items + 607 }
