@@ -81,6 +81,7 @@ typedef struct {
                         * zev_dep_general, the LR code */
     uint8_t writable;  /* of a message that was read, and of a survey: 1 where writing is free */
     uint8_t bits;      /* of a tag's answer: how many low bits of its last byte are sent, 0 for all */
+    uint8_t anew;      /* of zev_peer_reply: 1 where a new log may begin */
 } zev_told;
 
 /* Goes on with the reading of a tag of this kind (2, 4 or 5; `id` has the eight bytes of a Type 5 tag's identifier, high byte first). ZEV_SEND: send
@@ -177,7 +178,9 @@ typedef struct {
  * begins with no bytes at each link, and each payload that NFC-DEP hands up is added before the reply is asked for. Where zev_general_read has a fault
  * of the general bytes no link begins, and each reply is empty.
  *
- * Tells the reply to the last payload, to be sent: ZEV_DONE: it stands in `out`, 2,178 bytes at most. */
+ * Tells the reply to the last payload, to be sent: ZEV_DONE: it stands in `out`, 2,178 bytes at most. `anew` is 1 where no connection is open and nothing
+ * waits to be sent: once the reply is sent, a new log without bytes gives the same replies to what comes from here on, on the same link; only where several
+ * connections wait at once do their turns begin at the lowest SAP. The end of a new log has accepted nothing yet, so fetch the messages first. */
 int32_t zev_peer_reply(const zev_peer *peer, const uint8_t *offers, size_t offers_length, const uint8_t *general, size_t general_length,
                        const uint8_t *log, size_t log_length, uint8_t *out, size_t out_length, zev_told *told);
 
@@ -254,7 +257,7 @@ const char *zev_fault_text(int32_t fault);
 
 /* The version of the library that is linked; of this header, ZEV_VERSION_TEXT. */
 const char *zev_version(void);
-#define ZEV_VERSION_TEXT "0.2.0"
+#define ZEV_VERSION_TEXT "0.3.0"
 
 /* A log, in memory of yours. */
 typedef struct {

@@ -35,6 +35,7 @@ class Told(ctypes.Structure):
         ("code", ctypes.c_uint16),
         ("writable", ctypes.c_uint8),
         ("bits", ctypes.c_uint8),
+        ("anew", ctypes.c_uint8),
     ]
 
 
@@ -325,7 +326,7 @@ class FarEnd:
     that it gives for get."""
 
     def __init__(self, general: bytes, miu: int = 2175, window: int = 15, limit: int = 65536, offers: tuple[tuple[bytes, bytes], ...] = ()):
-        self.sizes, self.general, self.log = made(Sizes, limit=limit, miu=miu, window=window), general, b""
+        self.sizes, self.general, self.log, self.anew = made(Sizes, limit=limit, miu=miu, window=window), general, b"", False
         self.offers = b"".join(counted(part, MOST_OFFER) for offer in offers for part in offer)
 
     def words(self) -> tuple:
@@ -335,10 +336,18 @@ class FarEnd:
         """Takes a payload and gives the reply. Where there is a fault it counts as not taken."""
         before, self.log = self.log, self.log + counted(payload, MOST_PAYLOAD)
         try:
-            return filled("zev_peer_reply", *self.words())[0]
+            reply, told = filled("zev_peer_reply", *self.words())
         except Fault:
             self.log = before
             raise
+        self.anew = told.anew == 1
+        return reply
+
+    def begin_anew(self) -> bool:
+        """Begins a new log where the last reply told that it may: the replies stay the same, and what was accepted so far is told no more."""
+        if self.anew:
+            self.log = b""
+        return self.anew
 
     def count(self) -> int:
         """How many messages it accepted on this link."""

@@ -8,7 +8,7 @@ static const uint8_t memory[64] = {0, 0, 0, 0, 0, 0, 0, 0, 0, 0, 0, 0, 0xE1, 0x1
 int main(void)
 {
     uint8_t message[64];
-    zev_told told = {0, 0, 0, 0, 0};
+    zev_told told = {0, 0, 0, 0, 0, 0};
     int32_t said = zev_t2_message(memory, sizeof memory, message, sizeof message, &told);
     if (said != ZEV_DONE) {
         printf("%s\n", zev_fault_text(said));

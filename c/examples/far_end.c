@@ -40,7 +40,7 @@ int main(void)
 {
     static uint8_t kept[1 << 16], table[64], out[65536];
     zev_log log = {kept, 0, sizeof kept}, offers = {table, 0, sizeof table};
-    zev_told told = {0, 0, 0, 0, 0};
+    zev_told told = {0, 0, 0, 0, 0, 0};
     size_t length = 0, shown = 0;
     int32_t said = zev_general_write(&ours, out, sizeof out, &told);
     show("general bytes", out, told.length);
@@ -55,6 +55,9 @@ int main(void)
         if (said == ZEV_DONE) {
             said = zev_peer_reply(&peer, offers.bytes, offers.length, theirs, sizeof theirs, log.bytes, log.length, out, sizeof out, &told);
             show("reply", out, told.length);
+            if (told.anew) { /* no connection is open: a new log gives the same replies from here on */
+                log.length = shown = 0;
+            }
         }
     }
     if (said != ZEV_DONE) {

@@ -18,7 +18,7 @@ static size_t general_length;
 /* The target's side of a frame: its answer's length, 0 for none. A payload goes to the far end, and its reply back. */
 static size_t answer(size_t length)
 {
-    zev_told told = {0, 0, 0, 0, 0};
+    zev_told told = {0, 0, 0, 0, 0, 0};
     zev_entry_add(&target, ZEV_FRAME, frame, length);
     int32_t said = zev_dep_target_next(target_id, 3, general, general_length, target.bytes, target.length, payload, sizeof payload, &told);
     if (said == ZEV_DONE) {
@@ -39,7 +39,7 @@ static int32_t swap(uint8_t lr, const uint8_t *bytes, size_t length)
 {
     zev_entry_add(&initiator, ZEV_COMMAND, bytes, length);
     for (;;) {
-        zev_told told = {0, 0, 0, 0, 0};
+        zev_told told = {0, 0, 0, 0, 0, 0};
         int32_t said = zev_dep_initiator_next(lr, initiator.bytes, initiator.length, payload, sizeof payload, &told);
         if (said != ZEV_SEND) {
             return said == ZEV_DONE ? (int32_t)told.length : said;
@@ -53,7 +53,7 @@ static int32_t swap(uint8_t lr, const uint8_t *bytes, size_t length)
 int main(void)
 {
     static const uint8_t message[] = {0xD1, 0x01, 0x0C, 'U', 0x04, 'e', 'x', 'a', 'm', 'p', 'l', 'e', '.', 'o', 'r', 'g'};
-    zev_told told = {0, 0, 0, 0, 0};
+    zev_told told = {0, 0, 0, 0, 0, 0};
     int32_t said = zev_general_write(&ours, general, sizeof general, &told);
     general_length = told.length;
     said = said ? said : zev_dep_request(initiator_id, general, general_length, frame, sizeof frame, &told);

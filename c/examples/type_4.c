@@ -16,7 +16,7 @@ static zev_log turns = {room[0], 0, ROOM}, reader = {room[1], 0, ROOM}, card = {
 /* The card's side of a frame: its answer's length, 0 for none. */
 static size_t answer(size_t length)
 {
-    zev_told told = {0, 0, 0, 0, 0};
+    zev_told told = {0, 0, 0, 0, 0, 0};
     uint8_t command[512], reply[512];
     zev_entry_add(&card, ZEV_FRAME, frame, length);
     int32_t said = zev_iso_card_next(CODE, card.bytes, card.length, command, sizeof command, &told);
@@ -37,7 +37,7 @@ static int32_t exchange(const uint8_t *command, size_t length, uint8_t *to)
 {
     zev_entry_add(&reader, ZEV_COMMAND, command, length);
     for (;;) {
-        zev_told told = {0, 0, 0, 0, 0};
+        zev_told told = {0, 0, 0, 0, 0, 0};
         int32_t said = zev_iso_reader_next(CODE, reader.bytes, reader.length, to, 512, &told);
         if (said != ZEV_SEND) {
             return said == ZEV_DONE ? (int32_t)told.length : said;
@@ -52,7 +52,7 @@ int main(void)
 {
     static const uint8_t no_id[8] = {0}, rats[2] = {0xE0, 0x20};
     uint8_t heard[512];
-    zev_told told = {0, 0, 0, 0, 0};
+    zev_told told = {0, 0, 0, 0, 0, 0};
     memcpy(frame, rats, sizeof rats);
     int32_t said = ZEV_SEND;
     if (answer(sizeof rats) == 0) {

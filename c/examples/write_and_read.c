@@ -61,7 +61,7 @@ static int32_t run(enum job job, uint8_t *out, size_t room, zev_told *told)
 int main(void)
 {
     uint8_t out[288];
-    zev_told told = {0, 0, 0, 0, 0};
+    zev_told told = {0, 0, 0, 0, 0, 0};
     int32_t said = run(SURVEY, out, sizeof out, &told);
     if (said == ZEV_DONE) {
         printf("it holds %zu bytes and takes %u\n", told.length, (unsigned)told.capacity);

@@ -47,7 +47,7 @@ static int32_t target(uint8_t code, size_t length, size_t command_length, size_t
 /* One frame of the initiator's: what came of it is added to its log. */
 static bool turn(uint8_t code, size_t length, size_t command_length, size_t reply_length, int noise)
 {
-    zev_told told = {0, 0, 0, 0, 0};
+    zev_told told = {0, 0, 0, 0, 0, 0};
     turns++;
     if (happens(noise)) {
         return zev_entry_add(&near_log, ZEV_NOTHING, frame, 0);
@@ -73,7 +73,7 @@ static int32_t exchange(uint8_t code, int noise)
         return GONE;
     }
     for (;;) {
-        zev_told told = {0, 0, 0, 0, 0};
+        zev_told told = {0, 0, 0, 0, 0, 0};
         int32_t said = zev_dep_initiator_next(code, near_log.bytes, near_log.length, frame, sizeof frame, &told);
         if (said == ZEV_DONE && (handed != 1 || told.length != reply_length || memcmp(frame, reply, reply_length) != 0)) {
             return GONE;
@@ -112,7 +112,7 @@ static bool rows(void)
 {
     static const uint8_t dsl[4] = {0xF0, 0x03, 0xD4, 0x08}, rls[4] = {0xF0, 0x03, 0xD4, 0x0A}, odd[1] = {0x00};
     static uint8_t long_general[64], told_bytes[64];
-    zev_told told = {0, 0, 0, 0, 0};
+    zev_told told = {0, 0, 0, 0, 0, 0};
     zev_log log = {near_bytes, 0, sizeof near_bytes};
     bool right = zev_dep_target_next(id, 2, general, sizeof general, log.bytes, 0, frame, sizeof frame, &told) == ZEV_SILENT
         && zev_dep_target_next(id, 4, general, sizeof general, log.bytes, 0, frame, sizeof frame, &told) == ZEV_BAD_ARGUMENT
@@ -155,7 +155,7 @@ static long random_logs(void)
         for (size_t k = 0; k < length; k++) {
             near_bytes[k] = (uint8_t)(rand() % 5);
         }
-        zev_told told = {0, 0, 0, 0, 0};
+        zev_told told = {0, 0, 0, 0, 0, 0};
         memset(frame, 0xC3, sizeof frame);
         int32_t said = i % 2 ? zev_dep_initiator_next((uint8_t)(rand() % 4), near_bytes, length, frame, room, &told)
                              : zev_dep_target_next(id, (uint8_t)(rand() % 4), general, sizeof general, near_bytes, length, frame, room, &told);

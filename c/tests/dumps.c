@@ -59,7 +59,7 @@ static int32_t find(uint32_t kind, uint32_t block_size, size_t length, zev_told 
 
 static bool holds(const row *of)
 {
-    zev_told told = {0, 0, 0, 0, 0}, found = {0, 0, 0, 0, 0};
+    zev_told told = {0, 0, 0, 0, 0, 0}, found = {0, 0, 0, 0, 0, 0};
     memset(memory, 0, sizeof memory);
     put_hex(of->hex, memory + (of->kind == 2 ? 12 : 0));
     bool right = message(of->kind, of->block_size, of->length, sizeof out, &told) == of->message_says
@@ -112,7 +112,7 @@ static bool one(void)
         memory[i] = kinds[(size_t)rand() % sizeof kinds];
     }
     put_hex(kind == 2 ? "E1101000" : "E1401000", memory + at);
-    zev_told told = {0, 0, 0, 0, 0}, found = {0, 0, 0, 0, 0};
+    zev_told told = {0, 0, 0, 0, 0, 0}, found = {0, 0, 0, 0, 0, 0};
     int32_t said = message(kind, 4, length, sizeof out, &told), finds = find(kind, 4, length, &found);
     return is_answer(said) && is_answer(finds) && finds != ZEV_SHORT
         && (said != ZEV_DONE || (finds == ZEV_DONE && told.length == found.length && found.length <= found.capacity + 2));

@@ -46,7 +46,7 @@ static int32_t card(uint8_t code, size_t length, size_t command_length, size_t r
 /* One frame of the reader's: what came of it is added to its log. */
 static bool turn(uint8_t code, size_t length, size_t command_length, size_t reply_length, int noise)
 {
-    zev_told told = {0, 0, 0, 0, 0};
+    zev_told told = {0, 0, 0, 0, 0, 0};
     turns++;
     if (happens(noise)) {
         return zev_entry_add(&near_log, ZEV_NOTHING, frame, 0);
@@ -72,7 +72,7 @@ static int32_t exchange(uint8_t code, int noise)
         return GONE;
     }
     for (;;) {
-        zev_told told = {0, 0, 0, 0, 0};
+        zev_told told = {0, 0, 0, 0, 0, 0};
         int32_t said = zev_iso_reader_next(code, near_log.bytes, near_log.length, frame, sizeof frame, &told);
         if (said == ZEV_DONE && (handed != 1 || told.length != reply_length || memcmp(frame, reply, reply_length) != 0)) {
             return GONE;
@@ -110,7 +110,7 @@ static bool links(void)
 static bool rows(void)
 {
     static const uint8_t rats[2] = {0xE0, 0x80}, deselect[1] = {0xC2}, odd[1] = {0x00};
-    zev_told told = {0, 0, 0, 0, 0};
+    zev_told told = {0, 0, 0, 0, 0, 0};
     zev_log log = {near_bytes, 0, sizeof near_bytes};
     bool right = zev_iso_card_next(8, log.bytes, 0, frame, sizeof frame, &told) == ZEV_SILENT
         && zev_iso_card_next(9, log.bytes, 0, frame, sizeof frame, &told) == ZEV_BAD_ARGUMENT
@@ -144,7 +144,7 @@ static long random_logs(void)
         for (size_t k = 0; k < length; k++) {
             near_bytes[k] = (uint8_t)(rand() % 5);
         }
-        zev_told told = {0, 0, 0, 0, 0};
+        zev_told told = {0, 0, 0, 0, 0, 0};
         memset(frame, 0xC3, sizeof frame);
         int32_t said = i % 2 ? zev_iso_reader_next((uint8_t)rand(), near_bytes, length, frame, room, &told)
                              : zev_iso_card_next((uint8_t)(rand() % 9), near_bytes, length, frame, room, &told);

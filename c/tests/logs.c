@@ -15,7 +15,7 @@ static bool one(uint32_t kind, size_t length, size_t room)
 {
     static const uint8_t id[8] = {0xE0, 4, 1, 2, 3, 4, 5, 6};
     static const uint8_t message[3] = {0xD0, 0, 0};
-    zev_told told = {0, 0, 0, 0, 0};
+    zev_told told = {0, 0, 0, 0, 0, 0};
     memset(out, 0xC3, sizeof out);
     int32_t said;
     switch (rand() % 3) {
@@ -59,7 +59,7 @@ int main(void)
         wrong += !one((uint32_t)(rand() % 7), length, 1 + (size_t)(rand() % 300));
     }
     size_t length = reading();
-    zev_told told = {0, 0, 0, 0, 0};
+    zev_told told = {0, 0, 0, 0, 0, 0};
     static const uint8_t id[8];
     bool right = zev_read_next(2, id, log_bytes, length, out, 3, &told) == ZEV_DONE && told.length == 3 && told.writable == 1
         && memcmp(out, "\xD0\x00\x00", 3) == 0 && zev_read_next(2, id, log_bytes, length, out, 2, &told) == ZEV_SHORT && told.length == 3;

@@ -14,7 +14,7 @@ static zev_peer peer = {65536, 2175, 15};
 static void begin(uint16_t near_miu, uint16_t far_miu, uint8_t window)
 {
     zev_general said[2] = {{near_miu, 0x13, 0x13}, {far_miu, 0x13, 0x13}};
-    zev_told told = {0, 0, 0, 0, 0};
+    zev_told told = {0, 0, 0, 0, 0, 0};
     for (int i = 0; i < 2; i++) {
         zev_general_write(&said[i], general[i], sizeof general[i], &told);
         general_length[i] = told.length;
@@ -57,7 +57,7 @@ static size_t accepted(zev_told *told)
 static bool link_of(uint16_t near_miu, uint16_t far_miu, uint8_t window, size_t length)
 {
     static const char name[] = "urn:nfc:sn:snep", none[] = "urn:nfc:sn:none";
-    zev_told told = {0, 0, 0, 0, 0};
+    zev_told told = {0, 0, 0, 0, 0, 0};
     begin(near_miu, far_miu, window);
     bool right = next(0, &told) == ZEV_SILENT;
     for (size_t put = 1; put <= 2; put++) {
@@ -96,7 +96,7 @@ static bool links(long *count)
             }
         }
     }
-    zev_told told = {0, 0, 0, 0, 0};
+    zev_told told = {0, 0, 0, 0, 0, 0};
     begin(2175, 2175, 15);
     zev_entry_add(&calls, ZEV_PUT, message, 65535);
     right = right && run(&told) == ZEV_DONE && accepted(&told) == 1
@@ -115,7 +115,7 @@ static bool rows(void)
 {
     static const zev_near others[] = {{127, 1}, {2176, 1}, {128, 0}, {128, 16}};
     static const uint8_t bad_name[1] = {0xFF};
-    zev_told told = {0, 0, 0, 0, 0};
+    zev_told told = {0, 0, 0, 0, 0, 0};
     bool right = true;
     begin(128, 128, 1);
     for (size_t i = 0; i < sizeof others / sizeof others[0]; i++) {
@@ -183,7 +183,7 @@ static long random_logs(void)
             }
         }
         size_t room = (size_t)(rand() % 40);
-        zev_told told = {0, 0, 0, 0, 0};
+        zev_told told = {0, 0, 0, 0, 0, 0};
         memset(out, 0xC3, 64);
         int32_t said = next(room, &told);
         wrong += !is_answer(said) || out[room] != 0xC3 || (said < 0 && out[0] != 0xC3);

@@ -1,5 +1,5 @@
-/* The far end of a link: payloads whose replies were worked out by hand; logs of random bytes, and logs with a byte changed; each length of `out`;
- * and what isn't taken. */
+/* The far end of a link: payloads whose replies were worked out by hand; where a new log may begin; logs of random bytes, and logs with a byte changed; each
+ * length of `out`; and what isn't taken. */
 #include <stdio.h>
 #include <stdlib.h>
 
@@ -56,7 +56,7 @@ static zev_log before(size_t row)
 static bool known(void)
 {
     bool right = true;
-    zev_told told = {0, 0, 0, 0, 0};
+    zev_told told = {0, 0, 0, 0, 0, 0};
     for (size_t row = 1; row <= ROWS; row++) {
         uint8_t wanted[64];
         size_t length = bytes_of(link_rows[row - 1][1], wanted);
@@ -80,6 +80,49 @@ static bool known(void)
     return right && reply(&log, 0, &told) == ZEV_DONE && told.length == 0;
 }
 
+/* A link with three puts, one behind DISC and one behind FRMR; a lookup; a put in two parts: each payload, and whether a new log may begin behind it. */
+static const struct {
+    const char *payload;
+    bool anew;
+} idle_rows[] = {
+    {"0000", true}, {"1120", false}, {"0000", false}, {"132000100200000003D00000", false}, {"1360" "01", false}, {"0000", false}, {"1160", true}, {"0000", true},
+    {"1120", false}, {"132000100200000003D10000", false}, {"1220" "00000000", true}, {"0641" "0810" "07" "75726E3A6E66633A736E3A736E6570", true},
+    {"1120", false}, {"132000" "100200000006D20000", false}, {"132011" "000000", false}, {"1160", true}, {"0000", true},
+};
+enum { IDLE_ROWS = sizeof idle_rows / sizeof idle_rows[0] };
+
+/* How many messages a log's end accepted, SIZE_MAX where it tells none. */
+static size_t count_of(const zev_log *log)
+{
+    zev_told told = {0, 0, 0, 0, 0, 0};
+    int32_t said = zev_peer_count(&peer, offers, offers_length, general, general_length, log->bytes, log->length, &told);
+    return said == ZEV_DONE ? told.length : SIZE_MAX;
+}
+
+/* The whole log, and one that begins anew wherever it may, give the same replies; the messages of both are the same, one behind the other. */
+static bool idle(void)
+{
+    static uint8_t whole_kept[4096], anew_kept[4096], wanted[4096];
+    zev_log whole = {whole_kept, 0, sizeof whole_kept}, anew = {anew_kept, 0, sizeof anew_kept};
+    size_t forgotten = 0, begun = 0;
+    bool right = true;
+    for (size_t i = 0; i < IDLE_ROWS; i++) {
+        zev_told first = {0, 0, 0, 0, 0, 7}, second = {0, 0, 0, 0, 0, 7};
+        add(&whole, idle_rows[i].payload);
+        add(&anew, idle_rows[i].payload);
+        right = right && reply(&whole, sizeof out, &first) == ZEV_DONE && first.anew == idle_rows[i].anew;
+        memcpy(wanted, out, first.length);
+        right = right && reply(&anew, sizeof out, &second) == ZEV_DONE && second.anew == idle_rows[i].anew && second.length == first.length
+            && memcmp(out, wanted, first.length) == 0 && count_of(&whole) == forgotten + count_of(&anew);
+        if (second.anew) {
+            forgotten += count_of(&anew);
+            anew.length = 0;
+            begun++;
+        }
+    }
+    return right && forgotten == 3 && begun == 7;
+}
+
 static bool is_log(const uint8_t *bytes, size_t length)
 {
     while (length >= 2) {
@@ -96,7 +139,7 @@ static bool is_log(const uint8_t *bytes, size_t length)
 /* One log, and one length of `out`. */
 static bool one(const zev_log *log, size_t room)
 {
-    zev_told told = {0, 0, 0, 0, 0};
+    zev_told told = {0, 0, 0, 0, 0, 0};
     memset(out, 0xC3, sizeof out);
     int32_t said = reply(log, room, &told);
     bool inside = true;
@@ -134,7 +177,7 @@ static bool refusals(void)
     static const zev_peer others[] = {{1023, 128, 1}, {65537, 128, 1}, {1024, 127, 1}, {1024, 2176, 1}, {1024, 128, 0}, {1024, 128, 16}};
     static const zev_peer edges[] = {{65536, 128, 15}, {1024, 2175, 1}};
     bool right = true;
-    zev_told told = {0, 0, 0, 0, 0};
+    zev_told told = {0, 0, 0, 0, 0, 0};
     zev_log log = before(1);
     for (size_t i = 0; i < sizeof others / sizeof others[0]; i++) {
         right = right && zev_peer_reply(&others[i], offers, 0, general, general_length, log.bytes, log.length, out, sizeof out, &told) == ZEV_BAD_ARGUMENT;
@@ -167,7 +210,7 @@ static bool generals(void)
         {{0x46, 0x66}, 2, ZEV_NO_MAGIC}, {{0x46, 0x66, 0x6D}, 3, ZEV_NO_VERSION}, {{0x46, 0x66, 0x6D, 1, 1, 0x23}, 6, ZEV_OTHER_MAJOR},
         {{0x46, 0x66, 0x6D, 1, 2, 0x13}, 6, ZEV_MALFORMED}, {{0x46, 0x66, 0x6D, 1, 1, 0x10}, 6, ZEV_DONE},
     };
-    zev_told told = {0, 0, 0, 0, 0};
+    zev_told told = {0, 0, 0, 0, 0, 0};
     zev_general read = {1, 2, 3}, low = {127, 0, 0x13}, high = {2176, 0, 0x13}, other = {128, 0, 0x23};
     bool right = zev_general_write(&written, general, 13, &told) == ZEV_SHORT && told.length == 14
         && zev_general_write(&written, general, sizeof general, &told) == ZEV_DONE && told.length == 14 && memcmp(general, wanted, 14) == 0
@@ -187,7 +230,7 @@ int main(void)
     bool right = generals() && zev_offer_add(&table, (const uint8_t *)"k1", 2, (const uint8_t *)"\xEE", 1)
         && zev_offer_add(&table, (const uint8_t *)"k1", 2, (const uint8_t *)"\xA1\xA2", 2) && !zev_offer_add(&table, out, 60, out, 0);
     offers_length = table.length;
-    bool replies = known(), refuses = refusals();
+    bool replies = known() && idle(), refuses = refusals();
     long wrong = random_logs();
     printf("general bytes are %s, replies are %s, what isn't taken is %s, wrong %ld\n", right ? "right" : "not right", replies ? "right" : "not right",
            refuses ? "refused" : "not refused", wrong);

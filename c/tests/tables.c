@@ -29,7 +29,7 @@ static long beside(void)
                 command[i] = (uint8_t)rand();
             }
             answer wanted = {{0}, 0, 0};
-            zev_told told = {0, 0, 0, 0, 0};
+            zev_told told = {0, 0, 0, 0, 0, 0};
             type5(&plain, command, length, &wanted);
             int32_t said = zev_t5_tag(id, 4, memory, plain.size, locks, plain.size / 4, &state, command, length, out, sizeof out, &told);
             if (command[1] == 0x23 && wanted.bytes[0] == 1) { /* the plain one looks at the first block alone */
@@ -50,7 +50,7 @@ static int32_t five(zev_t5_state *state, const char *command, size_t length, siz
 /* An inventory of one slot and of sixteen, STAY QUIET, a locked block, no room, and what isn't taken. */
 static bool rows_of_5(void)
 {
-    zev_told told = {0, 0, 0, 0, 0};
+    zev_told told = {0, 0, 0, 0, 0, 0};
     zev_t5_state state = {0, 0, 0, 0};
     memset(memory, 0x5A, 64);
     memset(locks, 0, sizeof locks);
@@ -95,7 +95,7 @@ static bool ends(const zev_told *told, uint8_t high, uint8_t low)
 /* Selecting, reading, writing; a file that isn't open; no room; and what isn't taken. */
 static bool rows_of_4(void)
 {
-    zev_told told = {0, 0, 0, 0, 0};
+    zev_told told = {0, 0, 0, 0, 0, 0};
     memset(file, 0, sizeof file);
     bool right = four("\x00\xA4\x00\x0C\x02\xE1\x03", 7, 2, &told) == ZEV_DONE && ends(&told, 0x6A, 0x82) && state.selected == 0
         && four("\x00\xA4\x04\x00\x07\xD2\x76\x00\x00\x85\x01\x01\x00", 13, 1, &told) == ZEV_SHORT && state.selected == 0
@@ -122,7 +122,7 @@ static int32_t drive(bool writes, const uint8_t *message, size_t length, int cut
     for (int command = 0;; command++) {
         int32_t said = writes ? zev_write_next(4, id, message, length, log.bytes, log.length, out, sizeof out, told)
                               : zev_read_next(4, id, log.bytes, log.length, out, sizeof out, told);
-        zev_told answered = {0, 0, 0, 0, 0};
+        zev_told answered = {0, 0, 0, 0, 0, 0};
         if (said != ZEV_SEND || (command == cut && !obeys)) {
             return said;
         }
@@ -146,7 +146,7 @@ static bool torn(long count[4])
         for (size_t new_length = 1; new_length <= 150; new_length += 49) {
             int32_t wrote = ZEV_SEND;
             for (int step = 0; wrote != ZEV_DONE; step++) {
-                zev_told told = {0, 0, 0, 0, 0};
+                zev_told told = {0, 0, 0, 0, 0, 0};
                 memset(file, 0, sizeof file);
                 file[1] = (uint8_t)old_length;
                 memcpy(file + 2, old_message, old_length);

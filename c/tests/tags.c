@@ -31,7 +31,7 @@ static bool one(void)
     uint8_t command[8];
     size_t length = command_of(command);
     answer wanted;
-    zev_told told = {0, 0, 0, 0, 0};
+    zev_told told = {0, 0, 0, 0, 0, 0};
     bool is_locked = length == 6 && command[1] < plain.size / 4 && locks[command[1]] != 0;
     int32_t said = zev_t2_tag(memory, plain.size, locks, plain.size / 4, command, length, 0, out, sizeof out, &told);
     if (!heeds(command, length)) {
@@ -52,7 +52,7 @@ static bool dumps(void)
 {
     static const uint8_t whole[40] = {[12] = 0xE1, 0x10, 0x06, 0x00, 0x02, 3, 0x10, 0x02, 0x44, 0x03, 3, 0xD0, 1, 2, 0xFE};
     uint8_t bytes[64];
-    zev_told told = {0, 0, 0, 0, 0};
+    zev_told told = {0, 0, 0, 0, 0, 0};
     memset(bytes, 0, sizeof bytes);
     memcpy(bytes, whole, sizeof whole);
     bool right = zev_t2_message(bytes, 64, out, 32, &told) == ZEV_DONE && told.length == 3 && told.writable == 1 && memcmp(out, "\xD0\1\2", 3) == 0;
@@ -79,7 +79,7 @@ int main(void)
             wrong += !one();
         }
     }
-    zev_told told = {0, 0, 0, 0, 0};
+    zev_told told = {0, 0, 0, 0, 0, 0};
     memset(locks, 0, sizeof locks);
     bool right = zev_t2_tag(memory, 64, locks, 16, read, 2, 0, out, 15, &told) == ZEV_SHORT && told.length == 16
         && zev_t2_tag(memory, 64, locks, 15, read, 2, 0, out, 16, &told) == ZEV_BAD_ARGUMENT

@@ -6,7 +6,7 @@ import importlib.util
 import random
 import unittest
 from pathlib import Path
-from typing import Iterator, NamedTuple
+from typing import Callable, Iterator, NamedTuple
 
 from tests.links import Link, Peer, bytes_of, links_of, report_of
 from tests.test_stored import scripts
@@ -122,6 +122,54 @@ class Stored(unittest.TestCase):
                     accepted += len(told)
                 seen, replies = seen + 1, replies + len(link.replies)
         self.assertGreater(min(seen, accepted), 100, (seen, replies, accepted))
+
+
+class Anew(unittest.TestCase):
+    """A log that begins anew wherever it may gives the replies of a whole one, and all messages."""
+
+    def both(self, payloads: list[bytes], make: Callable[[], FarEnd]) -> int:
+        """How often it began anew behind the last message."""
+        whole, end = make(), make()
+        received: list[Received] = []
+        messages: list[Received] = []
+        begun = 0
+        for payload in payloads:
+            self.assertEqual(end.answer(payload), whole.answer(payload))
+            messages = [end.received(index) for index in range(end.count())]
+            if end.begin_anew():
+                received += messages
+                messages = []
+                begun += bool(received)
+        self.assertEqual(received + messages, [whole.received(index) for index in range(whole.count())])
+        return begun
+
+    def test_payloads_at_random(self):
+        """Of one client at a time: of several the turns begin at the lowest SAP in a new log."""
+        tables, chance, begun = plain(), random.Random(12), 0
+        for link in range(400):
+            payloads: list[bytes] = []
+            for usual in (tables.usual(chance) for _ in range(3)):
+                saps = {payload[1] & 63 for payload in usual if payload[0] == 0x11}
+                if len(saps) == 1:
+                    payloads += [*usual, tables.header(tables.SAP, tables.DISC, *saps), b"\0\0"]
+            with self.subTest(link, payloads=[payload.hex() for payload in payloads]):
+                begun += self.both(payloads, lambda: FarEnd(LEAST, tables.MIU, 1, tables.LIMIT))
+        self.assertGreater(begun, 100)
+
+    def test_a_link_that_idles_stays_short(self):
+        end = FarEnd(LEAST)
+        for _ in range(1000):
+            self.assertEqual(end.answer(b"\0\0"), b"\0\0")
+            self.assertTrue(end.begin_anew())
+        self.assertEqual(end.log, b"")
+
+    def test_an_open_connection_keeps_its_log(self):
+        end = FarEnd(LEAST)
+        end.answer(b"\x11\x20")
+        self.assertFalse(end.begin_anew())
+        self.assertNotEqual(end.log, b"")
+        self.assertEqual(end.answer(b"\x11\x60"), b"\x81\xc4\0")
+        self.assertTrue(end.begin_anew())
 
 
 class Faults(unittest.TestCase):

@@ -186,34 +186,14 @@ class Peers(unittest.TestCase):
             ran.stdin.close()
             self.assertEqual((ran.wait(60), [line.split(": ")[1] for line in shown if line.startswith("from 32: ")]), (0, [one.hex().upper() for one in messages]))
 
-    def test_a_client_of_the_library(self):
-        """`zev peer` at one end of a pipe, the near end of the library at the other: a put of 1,000 bytes, another, a get, a name looked up."""
-        words = [sys.executable, LIVE / "zev", "peer", "--offer", "6B31=A1A2"]
-        with subprocess.Popen(words, stdin=subprocess.PIPE, stdout=subprocess.PIPE, text=True) as ran:
-            shown: list[str] = []
-
-            def heard() -> bytes:
-                for line in ran.stdout:
-                    if line.startswith("> "):
-                        return bytes.fromhex(line[2:].strip().replace("-", ""))
-                    shown.append(line.strip())
-                raise EOFError
-
-            def swap(payload: bytes) -> bytes:
-                ran.stdin.write(f"< {payload.hex().upper()}\n")
-                ran.stdin.flush()
-                return heard()
-
-            client = NearEnd(heard())
-            ran.stdin.write(lines(write_general(LinkParams(2175))))
-            messages = bytes(range(250)) * 4, b"\xd1\x01\x01T\x00"
-            for message in messages:
-                carry(client.put(message), swap)
-            self.assertEqual(carry(client.get(b"k1"), swap), b"\xa1\xa2")
-            self.assertEqual(carry(client.lookup("urn:nfc:sn:snep"), swap), 4)
-            carry(client.close(), swap)
-            ran.stdin.close()
-            self.assertEqual((ran.wait(60), [line.split(": ")[1] for line in shown if line.startswith("from 32: ")]), (0, [one.hex().upper() for one in messages]))
+    def test_a_connection_that_ends_between_two_puts(self):
+        """The log begins anew there, and each message is shown once."""
+        once = f"> 8184020207FF05010F\nfrom 32: {self.PUT[9:].hex().upper()}\nhttp://www.example\n> 830401108100000000\n> 81C400\n> 0000\n"
+        payloads = [self.CONNECT, self.PUT, bytes.fromhex("1160"), b"\0\0"]
+        status, out, told = zev("peer", text=lines(self.SAID, *payloads * 3))
+        self.assertEqual((status, out, told), (0, self.OURS + once * 3 + self.OURS, ""))
+        joined = b"\0\x80" + b"".join(len(pdu).to_bytes(2, "big") + pdu for pdu in payloads[:2])
+        self.assertEqual(zev("peer", text=lines(self.SAID, *[joined, payloads[2]] * 3))[1].count("from 32: "), 3)
 
     def test_what_is_no_payload(self):
         """The link is over, and the next line may begin another."""

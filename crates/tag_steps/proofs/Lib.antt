@@ -3,3 +3,4 @@ pub mod Replays
 pub mod Nexts
 pub mod Losing
 pub mod Odd
+pub mod OddWrites

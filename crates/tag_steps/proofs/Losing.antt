@@ -18,7 +18,7 @@ use Rattle.tag_writer.specs.WriteTold.{IsWriteToldBy}
 lost_none : (b : LinkView) (P : Type 0) → b.over ≡ Some ask.FieldLost → b.over ≡ None → P
 lost_none b P lost none = absurd (let both : None ≡ Some ask.FieldLost = sym none ∙ lost in cc)
 
-heard_none : (how : How) (a b : LinkView) (ps : List (List _)) (ended : Bool) → IsHeard how a b ps ended → b.over ≡ None
+pub heard_none : (how : How) (a b : LinkView) (ps : List (List _)) (ended : Bool) → IsHeard how a b ps ended → b.over ≡ None
 heard_none how a b ps false h = h.1
 heard_none how a b ps true h = h.1.over
 

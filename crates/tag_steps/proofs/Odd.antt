@@ -13,10 +13,10 @@ use Rattle.tag_steps.specs.Reading.{AreSent, IsOddBehind}
 none_some : (o : Option AskFault) → o ≡ None → o ≡ Some ask.Protocol → ⊥
 none_some o n s = absurd (cc)
 
-one_some : (o : Option Signal) (x y : Signal) → o ≡ Some x → o ≡ Some y → x ≡ y
+pub one_some : (o : Option Signal) (x y : Signal) → o ≡ Some x → o ≡ Some y → x ≡ y
 one_some o x y a b = cc
 
-asked_last : (over : Option AskFault) (P : Type 0) → over ≡ Some ask.Protocol → (over ≡ None) ⊎ P → P
+pub asked_last : (over : Option AskFault) (P : Type 0) → over ≡ Some ask.Protocol → (over ≡ None) ⊎ P → P
 asked_last over P is (inl n) = absurd (none_some over n is)
 asked_last over P is (inr p) = p
 

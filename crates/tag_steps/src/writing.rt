@@ -3,7 +3,7 @@
 ghost use Rattle.std.specs.Prelude.{◌≡◌};
 ghost use Rattle.tag_reader.specs.Heard.{IsOf};
 ghost use Rattle.tag_steps.specs.Replay.{Agrees, first_link};
-ghost use Rattle.tag_steps.specs.Writing.{TellsWrite};
+ghost use Rattle.tag_steps.specs.Writing.{AreSentToWrite, IsOddToWriter, TellsWrite};
 
 use crate::replay::Replay;
 use crate::turn::{RealTag, Turn};
@@ -34,6 +34,9 @@ pub fn next_write<G: RealTag>(
     requires of { IsOf how (first_link (G.real tag.now)) }
     // what it tells is what a writing over these turns tells, and a tag of that kind keeps the law of a write
     ensures told { TellsWrite how message.now (G.real tag.now) turns.now result }
+    // where the turns' commands are those that were to be sent, an odd answer of the tag alone is told as one
+    ensures odd { AreSentToWrite how message.now (G.real tag.now) turns.now → result ≡ NextWrite.Fault WriteFault.Protocol
+        → IsOddToWriter how message.now (G.real tag.now) turns.now }
 {
     let mut link = Replay {
         tag,

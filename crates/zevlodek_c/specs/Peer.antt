@@ -1,7 +1,7 @@
 -- The far end of a link of LLCP with a SNEP server, as C asks for it: by its sizes, what it offers for get, the other
 -- end's general bytes, and the payloads that came (NFC Forum LLCP 1.3 and SNEP 1.0; how C keeps them is this project's
 -- own).
-use Rattle.std.specs.Prelude.{◌≡◌, ◌<◌, ◌≤◌, ◌⊎◌, ℕ, List, [], ◌∷◌, ◌++◌, length, get_or, nat_lt, if◌then◌else◌}
+use Rattle.std.specs.Prelude.{◌≡◌, ◌<◌, ◌≤◌, ◌⊎◌, ℕ, List, [], ◌∷◌, ◌++◌, length, get_or, nat_lt, if◌then◌else◌, Bool, true, false, ◌&&◌}
 use Rattle.llcp_pdu.specs.General.{IsMiu}
 use Rattle.llcp_conn.specs.Conn.{IsWindow}
 use Rattle.llcp_link.specs.Kept.{most_payload}
@@ -15,7 +15,7 @@ use Rattle.zevlodek_c.specs.declared.peer.Peer.{Peer}
 use Rattle.zevlodek_c.specs.declared.showing.Told.{Told}
 use Rattle.zevlodek_c.specs.Codes.{done, bad_log, bad_argument, no_memory}
 use Rattle.zevlodek_c.specs.Log.{counted}
-use Rattle.zevlodek_c.specs.Showing.{Seen, shows, answers}
+use Rattle.zevlodek_c.specs.Showing.{Seen, shows, answers, of_bool}
 use Rattle.zevlodek_c.specs.Spelled.{Spelled}
 
 -- a payload that begins a log: it stands behind its length, and is no longer than NFC-DEP carries
@@ -103,9 +103,17 @@ pub record PeerTells (shown : Answered → List ℕ → Told → Seen) (p : Peer
   pub no_log : IsPeerAsked p offers → (IsPayloadLog log → ⊥) → seen ≡ answers bad_log out told
   pub refused : (IsPeerAsked p offers → ⊥) → seen ≡ answers bad_argument out told
 
--- the reply to the last payload
+abbrev pub is_empty : {A : Type 0} → List A → Bool
+is_empty [] = true
+is_empty (x ∷ xs) = false
+
+-- no connection is open, and nothing waits to be given: a new log may take the place of this end's
+abbrev pub is_idle : LlcState ServerState → Bool
+is_idle l = is_empty l.served && is_empty l.queue
+
+-- the reply to the last payload, and whether a new log may begin behind it
 abbrev pub reply_shown : Answered → List ℕ → Told → Seen
-reply_shown a out told = shows done a.reply out told
+reply_shown a out told = shows done a.reply out (record told { anew = of_bool (is_idle a.end) })
 
 -- how many messages were accepted
 abbrev pub count_shown : Answered → List ℕ → Told → Seen

@@ -4,8 +4,9 @@ ghost use Rattle.std.specs.Prelude.{◌≡◌, ◌↔◌, IsTrue, List, ℕ, IfE
 ghost use Rattle.snep_core.specs.Session.{Offer};
 ghost use Rattle.zevlodek_c.specs.Peer.{AreOffers, IsPayloadLog, IsPeer, IsPeerAsked, PeerTells};
 ghost use Rattle.zevlodek_c.specs.Peer.{SpellsOffers, SpellsPayloads, answered_all, begun_end, table_with, unasked};
-ghost use Rattle.zevlodek_c.specs.Peer.{count_shown, message_shown, reply_shown, source_shown};
+ghost use Rattle.zevlodek_c.specs.Peer.{count_shown, is_idle, message_shown, reply_shown, source_shown};
 ghost use Rattle.zevlodek_c.specs.Replaying.{IsRefusal, IsReplay, fault_code};
+ghost use Rattle.zevlodek_c.specs.Showing.{of_bool};
 
 use crate::codes::{BAD_ARGUMENT, BAD_LOG, DONE, NO_MEMORY};
 use crate::payloads::{are_offers, is_payload_log, offer_of, payload_of};
@@ -163,6 +164,13 @@ fn replay(
     answer_all(alloc, end, log).map_err(|_| PeerFault::Memory)
 }
 
+/// Whether a new log may take the place of this end's, as a number.
+fn anew(end: &Llc<Server>) -> u8
+    ensures { result ≡ of_bool (is_idle end.now) }
+{
+    end.is_idle() as u8
+}
+
 /// Tells the reply to the last payload of a log: the answer of a far end that got them all, from a new link on.
 #[unsafe(no_mangle)]
 pub extern "C" fn zev_peer_reply(
@@ -179,7 +187,10 @@ pub extern "C" fn zev_peer_reply(
 {
     match replay(alloc, peer, offers, general, log) {
         Err(fault) => fault.code(),
-        Ok(replayed) => show(DONE, replayed.reply.as_slice(), out, told),
+        Ok(replayed) => {
+            told.anew = anew(&replayed.end);
+            show(DONE, replayed.reply.as_slice(), out, told)
+        }
     }
 }
 

@@ -18,6 +18,10 @@ pub struct Told {
     pub writable: u8,
     /// Of a tag's answer, how many low bits of its last byte are sent: 0 for all.
     pub bits: u8,
+    /// Of a far end, whether a new log may begin: 0 or 1. A new log, without payloads, then gives the same replies from
+    /// here on; only where several connections wait at once do their turns begin at the lowest SAP. But its end has
+    /// accepted nothing yet: fetch the messages first.
+    pub anew: u8,
 }
 
 /// Puts bytes at the front of `out`, where they have room, and tells how many they are.
