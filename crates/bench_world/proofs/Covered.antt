@@ -154,7 +154,7 @@ module _ (w : WholeWorld) (q : List Fate) (p : Peers) (ys : List Story) (g : Giv
       unsent o stand all (Remove id) es t front (nothing_sent (begun (from o) g.joins (Remove id)) es front.turns front.each)
       (less_by (is_with o (placed_under (bytes_of id) w.field.listeners p.numbers)))
     where
-      abbrev ds : List Device
+      ds : List Device
       ds = w.field.listeners
 
       stretch : Stretch

@@ -23,6 +23,14 @@ upper-append (b ∷ xs) ys = ap (λ x. slice_index upper_digits (b / 16) ∷ sli
 pub upper_split : (n : ℕ) (bytes : List ℕ) → encode_upper bytes ≡ encode_upper (take n bytes) ++ encode_upper (drop n bytes)
 upper_split n bytes = ap encode_upper (sym (take-append-drop n bytes)) ∙ upper-append (take n bytes) (drop n bytes)
 
+-- a front of what is left is put behind a piece
+pub digits_put : (n : ℕ) (left front rest piece piece' whole : List ℕ) → front ≡ take n left → rest ≡ drop n left
+    → piece' ≡ piece ++ encode_upper front → piece ++ encode_upper left ≡ whole → piece' ++ encode_upper rest ≡ whole
+digits_put n left front rest piece piece' whole first last put is =
+    let joined : encode_upper front ++ encode_upper rest ≡ encode_upper left =
+    ap (λ x. encode_upper x ++ encode_upper rest) first ∙ ap (λ x. encode_upper (take n left) ++ encode_upper x) last ∙ sym (upper_split n left) in
+    ap (λ x. x ++ encode_upper rest) put ∙ append_assoc piece (encode_upper front) (encode_upper rest) ∙ ap (λ x. piece ++ x) joined ∙ is
+
 pub empty_is : {T : Type 0} (xs : List T) → length xs ≡ 0 → xs ≡ []
 empty_is [] none = refl
 empty_is (x ∷ xs) none = absurd (omega arith)

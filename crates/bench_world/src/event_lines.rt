@@ -1,4 +1,4 @@
-//! The report's line of an event.
+//! The report's line of an event, in a piece of its own or behind a text.
 
 ghost use Rattle.std.specs.Prelude.{◌≡◌, ◌+◌, ◌≤◌, ◌++◌, length};
 ghost use Rattle.bench_script.specs.Canonical.{frame_text};
@@ -13,17 +13,25 @@ pub fn event_line(line: u32, event: &Event) -> ArrayVec<u8, 640>
     ensures { result.items ≡ line_text line (event_text event.now) }
 {
     let mut text = ArrayVec::new();
-    push_number(&mut text, line as u64);
-    push_text(&mut text, b" ");
-    push_event(&mut text, event);
-    push_text(&mut text, b"\n");
+    push_event_line(&mut text, line, event);
     text
 }
 
-fn push_event(text: &mut ArrayVec<u8, 640>, event: &Event)
-    requires { length text.old.items ≤ 21 }
+/// Puts the line of an event behind a text that has room for the longest.
+pub fn push_event_line<const N: usize>(text: &mut ArrayVec<u8, N>, line: u32, event: &Event)
+    requires { length text.old.items + 640 ≤ N }
+    ensures { text.new.items ≡ text.old.items ++ line_text line (event_text event.now) }
+{
+    push_number(text, line as u64);
+    push_text(text, b" ");
+    push_event(text, event);
+    push_text(text, b"\n");
+}
+
+fn push_event<const N: usize>(text: &mut ArrayVec<u8, N>, event: &Event)
+    requires { length text.old.items + 607 ≤ N }
     ensures value { text.new.items ≡ text.old.items ++ event_text event.now }
-    ensures size { length text.new.items ≤ 638 }
+    ensures size { length text.new.items ≤ length text.old.items + 607 }
 {
     match event {
         Event::Reset => push_text(text, b"! reset"),
@@ -34,10 +42,10 @@ fn push_event(text: &mut ArrayVec<u8, 640>, event: &Event)
 }
 
 /// A transmission, behind the sign that says what it is.
-fn push_sent(text: &mut ArrayVec<u8, 640>, sign: &[u8; 2], frame: &Frame, fate: Fate)
-    requires { length text.old.items ≤ 21 }
+fn push_sent<const N: usize>(text: &mut ArrayVec<u8, N>, sign: &[u8; 2], frame: &Frame, fate: Fate)
+    requires { length text.old.items + 607 ≤ N }
     ensures value { text.new.items ≡ text.old.items ++ (sign.now ++ sent_text frame.now fate) }
-    ensures size { length text.new.items ≤ 638 }
+    ensures size { length text.new.items ≤ length text.old.items + 607 }
 {
     push_text(text, sign);
     push_frame(text, frame);
@@ -46,8 +54,8 @@ fn push_sent(text: &mut ArrayVec<u8, 640>, sign: &[u8; 2], frame: &Frame, fate: 
 }
 
 /// Puts a frame behind a piece that has room for the longest.
-pub fn push_frame(text: &mut ArrayVec<u8, 640>, frame: &Frame)
-    requires { length text.old.items ≤ 23 }
+pub fn push_frame<const N: usize>(text: &mut ArrayVec<u8, N>, frame: &Frame)
+    requires { length text.old.items + 598 ≤ N }
     ensures value { text.new.items ≡ text.old.items ++ frame_text frame.now }
     ensures size { length text.new.items ≤ length text.old.items + 598 }
 {

@@ -1,4 +1,4 @@
-//! Pieces of a report's text, each in room of its own, so that they take no memory.
+//! Pieces of a report's text, in room that their callers have, so that they take no memory.
 
 ghost use Rattle.std.specs.Prelude.{◌≡◌, ◌+◌, ◌*◌, ◌≤◌, ◌++◌, length};
 ghost use Rattle.std.specs.Fmt.{decimal};
@@ -19,8 +19,8 @@ const PAIRS: &[u8; 512] = b"000102030405060708090A0B0C0D0E0F10111213141516171819
     E0E1E2E3E4E5E6E7E8E9EAEBECEDEEEFF0F1F2F3F4F5F6F7F8F9FAFBFCFDFEFF";
 
 /// Puts a text behind a piece that has room for it.
-pub(crate) fn push_text(piece: &mut ArrayVec<u8, 640>, text: &[u8])
-    requires { length piece.old.items + length text.now ≤ 640 }
+pub(crate) fn push_text<const N: usize>(piece: &mut ArrayVec<u8, N>, text: &[u8])
+    requires { length piece.old.items + length text.now ≤ N }
     ensures value { piece.new.items ≡ piece.old.items ++ text.now }
     ensures size { length piece.new.items ≡ length piece.old.items + length text.now }
 {
@@ -28,35 +28,53 @@ pub(crate) fn push_text(piece: &mut ArrayVec<u8, 640>, text: &[u8])
 }
 
 /// Puts a number in decimal behind a piece that has room for the most digits of one.
-pub(crate) fn push_number(piece: &mut ArrayVec<u8, 640>, number: u64)
-    requires { length piece.old.items + 20 ≤ 640 }
+pub(crate) fn push_number<const N: usize>(piece: &mut ArrayVec<u8, N>, number: u64)
+    requires { length piece.old.items + 20 ≤ N }
     ensures value { piece.new.items ≡ piece.old.items ++ decimal number }
     ensures size { length piece.new.items ≤ length piece.old.items + 20 }
 {
-    push_decimal(piece, number);
+    let mut digits = ArrayVec::new();
+    push_decimal(&mut digits, number);
+    push_text(piece, &digits);
 }
 
-/// Puts a number in decimal behind a piece that has room for its digits.
+/// Puts a number in decimal behind others that leave room for its digits.
 #[tactic(auto, using(std::proofs::lemmas::Fmt::decimal_digit))]
-fn push_decimal(piece: &mut ArrayVec<u8, 640>, number: u64)
-    requires { length piece.old.items + length (decimal number) ≤ 640 }
-    ensures { piece.new.items ≡ piece.old.items ++ decimal number }
+fn push_decimal(digits: &mut ArrayVec<u8, 20>, number: u64)
+    requires { length digits.old.items + length (decimal number) ≤ 20 }
+    ensures { digits.new.items ≡ digits.old.items ++ decimal number }
 {
     if number < 10 {
-        piece.push(b'0' + number as u8);
+        digits.push(b'0' + number as u8);
     } else {
-        push_decimal(piece, number / 10);
-        piece.push(b'0' + (number % 10) as u8);
+        push_decimal(digits, number / 10);
+        digits.push(b'0' + (number % 10) as u8);
     }
 }
 
 /// Puts the digits of some bytes, two a byte, behind a piece that has room for them: most of a report is digits.
-pub(crate) fn push_digits(piece: &mut ArrayVec<u8, 640>, bytes: &[u8])
-    requires { length piece.old.items + 2 * length bytes.now ≤ 640 }
+pub(crate) fn push_digits<const N: usize>(piece: &mut ArrayVec<u8, N>, bytes: &[u8])
+    requires { length piece.old.items + 2 * length bytes.now ≤ N }
     ensures value { piece.new.items ≡ piece.old.items ++ encode_upper bytes.now }
     ensures size { length piece.new.items ≡ length piece.old.items + 2 * length bytes.now }
 {
-    let mut digits = [0; 640];
+    let mut left = bytes;
+    'fronts: while left.len() > 32 {
+        let (front, rest) = left.split_at(32);
+        push_few(piece, front);
+        left = rest;
+    }
+    push_few(piece, left);
+}
+
+/// Puts the digits of so few bytes that they are written in a small room first, which costs less than room for many.
+fn push_few<const N: usize>(piece: &mut ArrayVec<u8, N>, bytes: &[u8])
+    requires few { length bytes.now ≤ 32 }
+    requires room { length piece.old.items + 2 * length bytes.now ≤ N }
+    ensures value { piece.new.items ≡ piece.old.items ++ encode_upper bytes.now }
+    ensures size { length piece.new.items ≡ length piece.old.items + 2 * length bytes.now }
+{
+    let mut digits = [0; 64];
     let room = &mut digits[..2 * bytes.len()];
     write_digits(room, bytes, PAIRS);
     push_text(piece, room);
@@ -76,8 +94,8 @@ fn write_digits(digits: &mut [u8], bytes: &[u8], pairs: &[u8; 512])
 }
 
 /// Puts some bytes behind a piece that has room for their digits, or for the sign that there are none.
-pub(crate) fn push_hex(piece: &mut ArrayVec<u8, 640>, bytes: &[u8])
-    requires { length piece.old.items + 2 * length bytes.now + 1 ≤ 640 }
+pub(crate) fn push_hex<const N: usize>(piece: &mut ArrayVec<u8, N>, bytes: &[u8])
+    requires { length piece.old.items + 2 * length bytes.now + 1 ≤ N }
     ensures value { piece.new.items ≡ piece.old.items ++ hex_text bytes.now }
     ensures size { length piece.new.items ≤ length piece.old.items + 2 * length bytes.now + 1 }
 {

@@ -37,7 +37,7 @@ mod threes;
 pub use bench::{Bench, ObeyFault, Run};
 pub use bench_devices::{Device, SeenKind};
 pub use entry::{Answer, Entry, Loss, RawHeard, Received, Seen, SlotDone};
-pub use event_lines::event_line;
+pub use event_lines::{event_line, push_event_line};
 pub use inbox::{LinkRange, inbox_of};
 pub use law::{
     finds_complete, lines_decide, lines_tell_events, links_accept, links_complete, quiet_air,

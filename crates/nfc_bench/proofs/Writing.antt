@@ -36,6 +36,26 @@ piece_cut text held piece rest t t1 t2 w front =
     subst G (sym (w.parts ∙ split_so w.given held piece rest))
     (GainsFront-more t t2 (w.given ++ (held ++ piece)) rest (GainsFront-after t t1 t2 w.given (held ++ piece) w.taken front))
 
+-- what is left is gathered, and some of it written: the rest stands behind what is held then
+pub room_written : (text held rest held' : List ℕ) (t t1 t2 : Option (List ℕ)) → IsWritten text (held ++ rest) t t1 → IsWritten held held' t1 t2 → IsWritten text (held' ++ rest) t t2
+room_written text held rest held' t t1 t2 w p = record {
+  given = w.given ++ p.given;
+  parts = w.parts ∙ ap (λ x. w.given ++ (x ++ rest)) p.parts ∙ ap (λ x. w.given ++ x) (append_assoc p.given held' rest)
+      ∙ sym (append_assoc w.given p.given (held' ++ rest));
+  taken = write_on t t1 t2 w.given p.given w.taken p.taken;
+}
+
+-- a front of what is held
+pub held_cut : (text held rest : List ℕ) (t t1 t2 : Option (List ℕ)) → IsWritten text (held ++ rest) t t1 → GainsFront t1 t2 held → GainsFront t t2 text
+held_cut text held rest t t1 t2 w front =
+    let G : List ℕ → Type 0 = λ x. GainsFront t t2 x in
+    subst G (sym w.parts) (GainsFront-after t t1 t2 w.given (held ++ rest) w.taken (GainsFront-more t1 t2 held rest front))
+
+-- the first of what is left is held
+pub line_held : (text held line rest held' : List ℕ) (t t1 : Option (List ℕ)) → IsWritten text (held ++ (line ++ rest)) t t1 → held' ≡ held ++ line → IsWritten text (held' ++ rest) t t1
+line_held text held line rest held' t t1 w is =
+    subst (λ x. IsWritten text x t t1) (sym (ap (λ x. x ++ rest) is ∙ append_assoc held line rest)) w
+
 -- One text behind another.
 pub both_written : (first then held held' : List ℕ) (t t1 t2 : Option (List ℕ)) → IsWritten first held t t1 → IsWritten (held ++ then) held' t1 t2 → IsWritten (first ++ then) held' t t2
 both_written first then held held' t t1 t2 w p = record {

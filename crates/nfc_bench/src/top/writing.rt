@@ -1,4 +1,4 @@
-//! Writing the text of an entry. Its lines are gathered, so that the sink is called once for many of them.
+//! Writing the text of an entry. Its lines are made where they are gathered, so that the sink is called once for many of them.
 
 ghost use Rattle.std.specs.Prelude.{◌≡◌, ◌≤◌, ◌++◌, [], OnOk, OnErr};
 ghost use Rattle.nfc_io.specs.Counts.{HasRisen};
@@ -6,9 +6,9 @@ ghost use Rattle.nfc_io.specs.Moves.{with_end, GainsFront};
 ghost use Rattle.bench_world.specs.Report.{events_text, line_text, answer_text, entry_text};
 ghost use Rattle.nfc_bench.specs.Gathering.{IsWritten};
 
-use super::gathering::gather;
+use super::gathering::{gather, make_room};
 use arrayvec::ArrayVec;
-use bench_world::{Entry, answer_pieces, event_line};
+use bench_world::{Entry, answer_pieces, push_event_line};
 use nfc_base::Event;
 use nfc_io::{Failed, Sink, write_all};
 
@@ -63,7 +63,8 @@ fn gather_events<K: Sink>(
     ensures count { K.faults sink.old ≤ K.faults sink.new }
 {
     'events: for event in events {
-        gather(sink, held, &event_line(line, event))?;
+        make_room(sink, held)?;
+        push_event_line(held, line, event);
     }
     Ok(())
 }

@@ -15,11 +15,11 @@ push_decimal-requires t c =
 pub push-requires-else-number-lt10 : goal.push-requires-else-number-lt10
 push-requires-else-number-lt10 t c =
     let longer : length (decimal c.args.number) ≡ length (decimal (c.args.number / 10)) + 1 = one_longer c.args.number c.if-number-lt10.false (omega arith) in
-    let size : length c.push_decimal.new.piece.items ≡ length c.args.piece.now.items + length (decimal (c.args.number / 10)) = ap length c.push_decimal.ensures ∙ length-append c.args.piece.now.items (decimal (c.args.number / 10)) in
+    let size : length c.push_decimal.new.digits.items ≡ length c.args.digits.now.items + length (decimal (c.args.number / 10)) = ap length c.push_decimal.ensures ∙ length-append c.args.digits.now.items (decimal (c.args.number / 10)) in
     (omega arith, omega (arith, c.requires))
 
 pub returns-else-number-lt10 : goal.returns-else-number-lt10
 returns-else-number-lt10 t c =
     let last : List ℕ = (48 + c.args.number % 10) ∷ [] in
-    c.push-else-number-lt10.ensures.items ∙ ap (λ x. x ++ last) c.push_decimal.ensures ∙ append_assoc c.args.piece.now.items (decimal (c.args.number / 10)) last
-    ∙ ap (λ x. c.args.piece.now.items ++ x) (sym (decimal_step c.args.number c.if-number-lt10.false (omega arith)))
+    c.push-else-number-lt10.ensures.items ∙ ap (λ x. x ++ last) c.push_decimal.ensures ∙ append_assoc c.args.digits.now.items (decimal (c.args.number / 10)) last
+    ∙ ap (λ x. c.args.digits.now.items ++ x) (sym (decimal_step c.args.number c.if-number-lt10.false (omega arith)))

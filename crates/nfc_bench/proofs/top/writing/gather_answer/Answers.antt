@@ -1,4 +1,4 @@
-use Rattle.std.proofs.Common.{◌≡◌, ℕ, List, ◌++◌, Option, ◌∙◌, subst}
+use Rattle.std.proofs.Common.{ℕ, List, ◌++◌, Option, ◌∙◌, subst}
 use Rattle.nfc_io.specs.Moves.{GainsFront}
 use Rattle.bench_world.specs.Report.{line_text, answer_text}
 use Rattle.nfc_bench.specs.Gathering.{IsWritten}

@@ -1,4 +1,4 @@
-use Rattle.std.proofs.Common.{◌≡◌, ℕ, List, ◌++◌, Bool, Option, sym, subst}
+use Rattle.std.proofs.Common.{ℕ, List, ◌++◌, Bool, Option, sym, subst}
 use Rattle.nfc_io.specs.Moves.{GainsFront}
 use Rattle.bench_world.specs.Report.{events_text, line_text, answer_text, entry_text}
 use Rattle.nfc_bench.specs.Gathering.{IsWritten}
