@@ -1,0 +1,65 @@
+-- How many PDUs stand in each payload of a link, read off the events of a command: payloads are cut as at the ends (NFCIP-1, ISO/IEC
+-- 18092), PDUs stand in them as LLCP joins them (NFC Forum LLCP 1.3); that their numbers are read off is this project's own.
+use Rattle.std.specs.Prelude.{ℕ, ◌==◌, ◌&&◌, nat_le, Bool, false, if◌then◌else◌, List, [], ◌∷◌, ◌++◌, length, map, Option, Some, None, Result, Ok, Err}
+use Rattle.nfc_base.specs.Signal.{Signal}
+use Rattle.nfc_base.specs.declared.event.Event.{Event}
+use Rattle.nfc_base.specs.declared.event.Event.TheVariants.{Reset, Request, Answer, Clash}
+use Rattle.dep_link.specs.Sizes.{limit}
+use Rattle.dep_link.specs.Exchange.{frames_of}
+use Rattle.dep_link.specs.Payloads.{Cut, begins, cut_by}
+use Rattle.dep_link.specs.Replies.{cut_up}
+use Rattle.llcp_pdu.specs.declared.header.RawHeader.{RawHeader}
+use Rattle.llcp_pdu.specs.declared.pdu.Pdu.{Pdu}
+use Rattle.llcp_pdu.specs.declared.pdu.Pdu.TheVariants.{Agf, One}
+use Rattle.llcp_pdu.specs.Pdus.{pdu}
+use Rattle.llcp_pdu.specs.Raw.{raw}
+use Rattle.llcp_pdu.specs.Views.{told_by}
+use Rattle.llcp_pdu.specs.Wire.{agf_type}
+
+-- The frames that an initiator sent, and those that a target sent, whatever became of them. Of a clash there are the first bits
+-- of several answers, which nobody sent.
+abbrev pub requests_of : List Event → List Signal
+requests_of [] = []
+requests_of (Reset ∷ es) = requests_of es
+requests_of (Request f x ∷ es) = f ∷ requests_of es
+requests_of (Answer g x ∷ es) = requests_of es
+requests_of (Clash g x ∷ es) = requests_of es
+
+abbrev pub answers_of : List Event → List Signal
+answers_of [] = []
+answers_of (Reset ∷ es) = answers_of es
+answers_of (Request f x ∷ es) = answers_of es
+answers_of (Answer g x ∷ es) = g ∷ answers_of es
+answers_of (Clash g x ∷ es) = answers_of es
+
+-- How many PDUs stand in a payload, by what it is read as: those of an AGF, else one. What is no PDU counts as one.
+abbrev pub count_of : {E : Type 0} → Result Pdu E → ℕ
+count_of (Ok (Agf ps)) = length ps
+count_of (Ok (One p)) = 1
+count_of (Err r) = 1
+
+-- the number of a whole payload; of one that is longer than a payload may be it is one
+abbrev pub number : List ℕ → ℕ
+number b = if nat_le (length b) limit then count_of (told_by (pdu b)) else 1
+
+-- the header of an AGF, which goes from SAP 0 to SAP 0
+abbrev pub heads_agf : Option RawHeader → Bool
+heads_agf None = false
+heads_agf (Some h) = (h.dsap == 0) && (h.ptype == agf_type) && (h.ssap == 0)
+
+-- The number of a payload that was cut off, where some of it came: as many as fit, which is 0, where it begins with the header of
+-- an AGF, else one.
+abbrev pub cut_off : List ℕ → List ℕ
+cut_off [] = []
+cut_off (x ∷ xs) = (if heads_agf (raw (x ∷ xs)) then 0 else 1) ∷ []
+
+-- of each payload in turn
+abbrev pub numbers : Cut → List ℕ
+numbers c = map number c.payloads ++ cut_off c.chain
+
+-- The numbers of the payloads that the initiator's frames carried, and of those that a target's did, counted from this PNI.
+abbrev pub own_shown : ℕ → List Event → List ℕ
+own_shown first es = numbers (cut_by (begins first) (frames_of (requests_of es)))
+
+abbrev pub far_shown : ℕ → List Event → List ℕ
+far_shown first es = numbers (cut_up (begins first) (frames_of (answers_of es)))
