@@ -10,3 +10,6 @@ mod shown;
 mod side;
 
 pub use shown::{Shown, numbers_shown};
+
+#[cfg(test)]
+mod tests;
