@@ -12,14 +12,12 @@ use Rattle.dep_link.specs.Frames.{after, spelled}
 use Rattle.dep_link.specs.Payloads.{Cut, begins, cut_by, joined, taken}
 use Rattle.dep_link.specs.Replies.{cut_up, taken_up}
 use Rattle.dep_link.specs.Sizes.{limit}
-use Rattle.llcp_pdu.specs.Pdus.{pdu}
-use Rattle.llcp_pdu.specs.Views.{told_by}
-use Rattle.link_numbers.specs.Shown.{count_of, cut_off, number, numbers}
+use Rattle.link_numbers.specs.Shown.{cut_off, number, numbers, parts_of}
 use Rattle.link_numbers.specs.Walking.{Sent, ended, nothing, passed, room, sent_all, sent_if, sent_one, took, took_next}
 
 -- a payload that is longer than one may be
 long : (b : List ℕ) → limit < length b → number b ≡ 1
-long b h = ap (λ (t : Bool). if t then count_of (told_by (pdu b)) else 1) (lt-leb (length b) limit h)
+long b h = ap (λ (t : Bool). if t then parts_of b else 1) (lt-leb (length b) limit h)
 
 long_kept : (b : List ℕ) → limit < length b → limit < length (take room b)
 long_kept b h = let e : length (take room b) ≡ min room (length b) = length-take room b in omega arith

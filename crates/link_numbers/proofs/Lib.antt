@@ -1,2 +1,2 @@
-pub mod FewParts
+pub mod Counting
 pub mod Kept

@@ -1,6 +1,6 @@
 -- How many PDUs stand in each payload of a link, read off the events of a command: payloads are cut as at the ends (NFCIP-1, ISO/IEC
 -- 18092), PDUs stand in them as LLCP joins them (NFC Forum LLCP 1.3); that their numbers are read off is this project's own.
-use Rattle.std.specs.Prelude.{ℕ, ◌==◌, ◌&&◌, nat_le, Bool, false, if◌then◌else◌, List, [], ◌∷◌, ◌++◌, length, map, Option, Some, None, Result, Ok, Err}
+use Rattle.std.specs.Prelude.{◌≡◌, ℕ, zero, suc, ◌+◌, ◌*◌, ◌≤◌, ◌==◌, ◌&&◌, nat_le, Bool, false, if◌then◌else◌, List, [], ◌∷◌, ◌++◌, length, drop, map, Option, Some, None}
 use Rattle.nfc_base.specs.Signal.{Signal}
 use Rattle.nfc_base.specs.declared.event.Event.{Event}
 use Rattle.nfc_base.specs.declared.event.Event.TheVariants.{Reset, Request, Answer, Clash}
@@ -11,10 +11,10 @@ use Rattle.dep_link.specs.Replies.{cut_up}
 use Rattle.llcp_pdu.specs.declared.header.RawHeader.{RawHeader}
 use Rattle.llcp_pdu.specs.declared.pdu.Pdu.{Pdu}
 use Rattle.llcp_pdu.specs.declared.pdu.Pdu.TheVariants.{Agf, One}
-use Rattle.llcp_pdu.specs.Pdus.{pdu}
 use Rattle.llcp_pdu.specs.Raw.{raw}
-use Rattle.llcp_pdu.specs.Views.{told_by}
+use Rattle.llcp_pdu.specs.Spelling.{LlcpSpelling}
 use Rattle.llcp_pdu.specs.Wire.{agf_type}
+use Rattle.llcp_pdu.specs.Writing.{pdu_bytes}
 
 -- The frames that an initiator sent, and those that a target sent, whatever became of them. Of a clash there are the first bits
 -- of several answers, which nobody sent.
@@ -32,20 +32,27 @@ answers_of (Request f x ∷ es) = answers_of es
 answers_of (Answer g x ∷ es) = g ∷ answers_of es
 answers_of (Clash g x ∷ es) = answers_of es
 
--- How many PDUs stand in a payload, by what it is read as: those of an AGF, else one. What is no PDU counts as one.
-abbrev pub count_of : {E : Type 0} → Result Pdu E → ℕ
-count_of (Ok (Agf ps)) = length ps
-count_of (Ok (One p)) = 1
-count_of (Err r) = 1
-
--- the number of a whole payload; of one that is longer than a payload may be it is one
-abbrev pub number : List ℕ → ℕ
-number b = if nat_le (length b) limit then count_of (told_by (pdu b)) else 1
-
 -- the header of an AGF, which goes from SAP 0 to SAP 0
 abbrev pub heads_agf : Option RawHeader → Bool
 heads_agf None = false
 heads_agf (Some h) = (h.dsap == 0) && (h.ptype == agf_type) && (h.ssap == 0)
+
+-- How many PDUs stand behind the header of an AGF, each behind two bytes with its length, high byte first: in what follows the first
+-- so many bytes. Only lengths are looked at, and of a PDU that is cut short its length counts.
+abbrev pub parts_behind : List ℕ → ℕ → ℕ
+parts_behind [] zero = 0
+parts_behind [] (suc m) = 0
+parts_behind (h ∷ []) zero = 0
+parts_behind (h ∷ l ∷ rest) zero = 1 + parts_behind rest (256 * h + l)
+parts_behind (x ∷ rest) (suc m) = parts_behind rest m
+
+-- how many PDUs stand in a payload: those of an AGF, else one
+abbrev pub parts_of : List ℕ → ℕ
+parts_of b = if heads_agf (raw b) then parts_behind (drop 2 b) 0 else 1
+
+-- the number of a whole payload; of one that is longer than a payload may be it is one
+abbrev pub number : List ℕ → ℕ
+number b = if nat_le (length b) limit then parts_of b else 1
 
 -- The number of a payload that was cut off, where some of it came: as many as fit, which is 0, where it begins with the header of
 -- an AGF, else one.
@@ -63,3 +70,16 @@ own_shown first es = numbers (cut_by (begins first) (frames_of (requests_of es))
 
 abbrev pub far_shown : ℕ → List Event → List ℕ
 far_shown first es = numbers (cut_up (begins first) (frames_of (answers_of es)))
+
+-- the PDUs in a PDU
+abbrev pub pdus_in : Pdu → ℕ
+pdus_in (Agf ps) = length ps
+pdus_in (One p) = 1
+
+-- The number of a payload that is no longer than one may be is that of its PDUs: of bytes that spell a PDU, and of those that are
+-- written of one.
+abbrev pub CountsSpelled : Type 0
+CountsSpelled = (b : List ℕ) (p : Pdu) → length b ≤ limit → LlcpSpelling p b → number b ≡ pdus_in p
+
+abbrev pub CountsWritten : Type 0
+CountsWritten = (p : Pdu) → length (pdu_bytes p) ≤ limit → number (pdu_bytes p) ≡ pdus_in p

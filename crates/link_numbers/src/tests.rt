@@ -109,11 +109,11 @@ fn numbers_are_those_of_the_frames(rt: HostRuntime) -> Result<(), Fail> {
             first: 0,
             frames: &[
                 &[
-                    0xF0, 0x0B, 0xD4, 0x06, 0x00, 0x00, 0x80, 0, 4, 0x13, 0x60, 5,
+                    0xF0, 0x0F, 0xD4, 0x06, 0x00, 0x00, 0x80, 0, 3, 0x13, 0x60, 5, 0, 4, 0x13, 0x60,
                 ],
                 &[0xF0, 0x04, 0xD5, 0x07, 0x00],
             ],
-            own: &[1],
+            own: &[2],
             far: &[1],
         },
         Row {

@@ -1,6 +1,12 @@
-use Rattle.std.proofs.Common.{◌≡◌, ◌+◌, length}
-use Rattle.llcp_pdu.specs.Views.{parts_in}
+use Rattle.std.proofs.Common.{◌≡◌, ◌+◌, ◌≤◌, length}
+use Rattle.link_numbers.specs.Shown.{parts_behind}
 use Rattle.link_numbers.proofs.number.count_parts.Given as goal
 
 abbrev pub invariant-parts : goal.invariant-parts
-invariant-parts l = l.count + length (parts_in l._part-iterator) ≡ length (parts_in l.inner)
+invariant-parts l = record {
+  counted : l.count + parts_behind l.rest 0 ≡ parts_behind l.inner 0;
+  few : l.count + length l.rest ≤ length l.inner;
+}
+
+abbrev pub decreases-parts : goal.decreases-parts
+decreases-parts l = length l.rest
