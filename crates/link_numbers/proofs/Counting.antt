@@ -1,16 +1,15 @@
 -- The lengths in an AGF count its PDUs.
 use Rattle.std.proofs.Common.{◌≡◌, ℕ, zero, suc, ◌+◌, ◌*◌, ◌/◌, ◌%◌, ◌<◌, ◌≤◌, ◌==◌, Bool, true, false, if◌then◌else◌, List, [], ◌∷◌, ◌++◌, length, drop, arith, refl, sym, ap, ◌∙◌}
 use Rattle.std.specs.Prelude.{◌&&◌, slice_index}
-use Rattle.std.proofs.lemmas.Bool.{le-leb, ne_eqb}
+use Rattle.std.proofs.lemmas.Bool.{ne_eqb}
 use Rattle.std.proofs.Math.Seq.{drop-append_seam}
-use Rattle.dep_link.specs.Sizes.{limit}
 use Rattle.llcp_pdu.specs.declared.part.Part.{Part}
 use Rattle.llcp_pdu.specs.declared.part.Part.TheVariants.{Symm, Ui, Connect, Disc, Cc, Dm, Frmr, Snl, Info, Rr, Rnr}
 use Rattle.llcp_pdu.specs.declared.pdu.Pdu.TheVariants.{Agf, One}
 use Rattle.llcp_pdu.specs.Raw.{raw}
 use Rattle.llcp_pdu.specs.Spelling.{Headed, PartSpelling, PartsSpelling, report_bytes}
-use Rattle.llcp_pdu.specs.Writing.{params_bytes, part_bytes, parts_bytes, pdu_bytes}
-use Rattle.link_numbers.specs.Shown.{CountsSpelled, CountsWritten, heads_agf, number, parts_behind, parts_of}
+use Rattle.llcp_pdu.specs.Writing.{params_bytes, part_bytes, parts_bytes}
+use Rattle.link_numbers.specs.Shown.{CountsSpelled, CountsWritten, heads_agf, parts_behind, parts_of}
 
 -- behind the first so many bytes
 from_there : (xs : List ℕ) (m : ℕ) → parts_behind xs m ≡ parts_behind (drop m xs) 0
@@ -97,17 +96,13 @@ one_spelled (Info d s ns nr info) b h = headed_so d 12 s b _ (omega arith) (omeg
 one_spelled (Rr d s nr) b h = headed_so d 13 s b _ (omega arith) (omega arith) h
 one_spelled (Rnr d s nr) b h = headed_so d 14 s b _ (omega arith) (omega arith) h
 
--- the number by the header
-number_is : (b : List ℕ) → length b ≤ limit → number b ≡ parts_of b
-number_is b fits = ap (λ (t : Bool). if t then parts_of b else 1) (le-leb (length b) limit fits)
-
 one_part : (b : List ℕ) → heads_agf (raw b) ≡ false → parts_of b ≡ 1
 one_part b e = ap (λ (t : Bool). if t then parts_behind (drop 2 b) 0 else 1) e
 
 pub counts_spelled : CountsSpelled
-counts_spelled b (One p) fits h = number_is b fits ∙ one_part b (one_spelled p b h)
-counts_spelled b (Agf ps) fits (rest, small, low, is, h) = number_is b fits ∙ ap parts_of is ∙ spelled_count ps rest h
+counts_spelled b (One p) h = one_part b (one_spelled p b h)
+counts_spelled b (Agf ps) (rest, small, low, is, h) = ap parts_of is ∙ spelled_count ps rest h
 
 pub counts_written : CountsWritten
-counts_written (One p) fits = number_is (part_bytes p) fits ∙ one_part (part_bytes p) (one_written p)
-counts_written (Agf ps) fits = number_is (pdu_bytes (Agf ps)) fits ∙ written_count ps
+counts_written (One p) = one_part (part_bytes p) (one_written p)
+counts_written (Agf ps) = written_count ps

@@ -1,6 +1,6 @@
 -- How many PDUs stand in each payload of a link, read off the events of a command: payloads are cut as at the ends (NFCIP-1, ISO/IEC
 -- 18092), PDUs stand in them as LLCP joins them (NFC Forum LLCP 1.3); that their numbers are read off is this project's own.
-use Rattle.std.specs.Prelude.{◌≡◌, ℕ, zero, suc, ◌+◌, ◌*◌, ◌≤◌, ◌==◌, ◌&&◌, nat_le, Bool, false, if◌then◌else◌, List, [], ◌∷◌, ◌++◌, length, drop, map, Option, Some, None}
+use Rattle.std.specs.Prelude.{◌≡◌, ℕ, zero, suc, ◌+◌, ◌*◌, ◌==◌, ◌&&◌, nat_le, Bool, false, if◌then◌else◌, List, [], ◌∷◌, ◌++◌, length, drop, map, Option, Some, None}
 use Rattle.nfc_base.specs.Signal.{Signal}
 use Rattle.nfc_base.specs.declared.event.Event.{Event}
 use Rattle.nfc_base.specs.declared.event.Event.TheVariants.{Reset, Request, Answer, Clash}
@@ -76,10 +76,9 @@ abbrev pub pdus_in : Pdu → ℕ
 pdus_in (Agf ps) = length ps
 pdus_in (One p) = 1
 
--- The number of a payload that is no longer than one may be is that of its PDUs: of bytes that spell a PDU, and of those that are
--- written of one.
+-- So many PDUs stand in bytes that spell a PDU, and in those that are written of one, whatever stands in its fields.
 abbrev pub CountsSpelled : Type 0
-CountsSpelled = (b : List ℕ) (p : Pdu) → length b ≤ limit → LlcpSpelling p b → number b ≡ pdus_in p
+CountsSpelled = (b : List ℕ) (p : Pdu) → LlcpSpelling p b → parts_of b ≡ pdus_in p
 
 abbrev pub CountsWritten : Type 0
-CountsWritten = (p : Pdu) → length (pdu_bytes p) ≤ limit → number (pdu_bytes p) ≡ pdus_in p
+CountsWritten = (p : Pdu) → parts_of (pdu_bytes p) ≡ pdus_in p
