@@ -9,7 +9,7 @@ use Rattle.llcp_pdu.specs.declared.pdu.Pdu.TheVariants.{Agf, One}
 use Rattle.llcp_pdu.specs.Raw.{raw}
 use Rattle.llcp_pdu.specs.Spelling.{Headed, PartSpelling, PartsSpelling, report_bytes}
 use Rattle.llcp_pdu.specs.Writing.{params_bytes, part_bytes, parts_bytes}
-use Rattle.link_numbers.specs.Shown.{CountsSpelled, CountsWritten, heads_agf, parts_behind, parts_of}
+use Rattle.link_numbers.specs.Shown.{NoneHeadsAgf, CountsSpelled, CountsWritten, heads_agf, parts_behind, parts_of}
 
 -- behind the first so many bytes
 from_there : (xs : List ℕ) (m : ℕ) → parts_behind xs m ≡ parts_behind (drop m xs) 0
@@ -67,7 +67,7 @@ other_type d t s rest h k =
     let type : 4 * (x % 4) + y / 64 ≡ 2 → ⊥ = λ e. omega (arith, e, low, high) in
     type_two (x / 4 == 0) (4 * (x % 4) + y / 64) (y % 64 == 0) type
 
-one_written : (p : Part) → heads_agf (raw (part_bytes p)) ≡ false
+pub one_written : NoneHeadsAgf
 one_written Symm = refl
 one_written (Ui d s info) = other_type d 3 s info (omega arith) (omega arith)
 one_written (Connect d s ps) = other_type d 4 s (params_bytes ps) (omega arith) (omega arith)

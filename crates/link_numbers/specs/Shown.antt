@@ -9,12 +9,13 @@ use Rattle.dep_link.specs.Exchange.{frames_of}
 use Rattle.dep_link.specs.Payloads.{Cut, begins, cut_by}
 use Rattle.dep_link.specs.Replies.{cut_up}
 use Rattle.llcp_pdu.specs.declared.header.RawHeader.{RawHeader}
+use Rattle.llcp_pdu.specs.declared.part.Part.{Part}
 use Rattle.llcp_pdu.specs.declared.pdu.Pdu.{Pdu}
 use Rattle.llcp_pdu.specs.declared.pdu.Pdu.TheVariants.{Agf, One}
 use Rattle.llcp_pdu.specs.Raw.{raw}
 use Rattle.llcp_pdu.specs.Spelling.{LlcpSpelling}
 use Rattle.llcp_pdu.specs.Wire.{agf_type}
-use Rattle.llcp_pdu.specs.Writing.{pdu_bytes}
+use Rattle.llcp_pdu.specs.Writing.{part_bytes, pdu_bytes}
 
 -- The frames that an initiator sent, and those that a target sent, whatever became of them. Of a clash there are the first bits
 -- of several answers, which nobody sent.
@@ -82,3 +83,7 @@ CountsSpelled = (b : List ℕ) (p : Pdu) → LlcpSpelling p b → parts_of b ≡
 
 abbrev pub CountsWritten : Type 0
 CountsWritten = (p : Pdu) → parts_of (pdu_bytes p) ≡ pdus_in p
+
+-- No PDU that goes alone begins as an AGF.
+abbrev pub NoneHeadsAgf : Type 0
+NoneHeadsAgf = (p : Part) → heads_agf (raw (part_bytes p)) ≡ false
