@@ -3,7 +3,7 @@
 ghost use Rattle.std.specs.Prelude.{◌≡◌, ◌≤◌, drop, length};
 ghost use Rattle.dep_link.specs.Sizes.{limit};
 ghost use Rattle.llcp_pdu.specs.Raw.{raw};
-ghost use Rattle.link_numbers.specs.Shown.{heads_agf, number, parts_behind};
+ghost use Rattle.link_numbers.specs.Shown.{counted, heads_agf, number, number_begun};
 
 use llcp_pdu::raw_header;
 
@@ -13,35 +13,49 @@ pub(crate) const LONGEST: usize = 2178;
 /// The type of an AGF.
 const AGF: u8 = 2;
 
+/// The bytes of a header.
+const HEADER: usize = 2;
+
 /// The bytes of the length of a PDU in an AGF.
 const LENGTH: usize = 2;
 
-/// The number of a whole payload: of an AGF its PDUs, else one.
+/// The number of a whole payload: of an AGF its PDUs, else one; where it isn't what a payload may be, as of one that was cut off.
 pub(crate) fn number_of(payload: &[u8]) -> u32
     ensures { result ≡ number payload.now }
 {
-    let [_, _, inner @ ..] = payload else {
-        return 1;
-    };
     if payload.len() > LONGEST || !begins_agf(payload) {
-        return 1;
+        return number_begun(payload);
     }
-    count_parts(inner)
+    match count_parts(behind(payload, HEADER)) {
+        1 => 0,
+        count => count,
+    }
 }
 
-/// How many PDUs stand behind the header of an AGF.
+/// The number of a payload that was cut off: 0 where it begins as an AGF, else one.
+pub(crate) fn number_begun(payload: &[u8]) -> u32
+    ensures { result ≡ number_begun payload.now }
+{
+    if begins_agf(payload) { 0 } else { 1 }
+}
+
+/// How many PDUs stand behind the header of an AGF, none where the last is cut short.
 fn count_parts(inner: &[u8]) -> u32
     requires { length inner.now ≤ limit }
-    ensures { result ≡ parts_behind inner.now 0 }
+    ensures { result ≡ counted 0 inner.now 0 }
 {
     let mut count = 0;
     let mut rest = inner;
     'parts: while rest.len() >= LENGTH {
         let size = 256 * rest[0] as usize + rest[1] as usize;
-        rest = behind(rest, LENGTH + size);
+        let tail = behind(rest, LENGTH);
+        if tail.len() < size {
+            return 0;
+        }
+        rest = behind(tail, size);
         count += 1;
     }
-    count
+    if rest.is_empty() { count } else { 0 }
 }
 
 /// What follows the first so many bytes.
@@ -56,7 +70,7 @@ fn behind(bytes: &[u8], count: usize) -> &[u8]
 }
 
 /// Whether some bytes begin with the header of an AGF.
-pub(crate) fn begins_agf(bytes: &[u8]) -> bool
+fn begins_agf(bytes: &[u8]) -> bool
     ensures { result ≡ heads_agf (raw bytes.now) }
 {
     match raw_header(bytes) {

@@ -1,7 +1,7 @@
 //! The numbers of both ends of a link.
 
 ghost use Rattle.std.specs.Prelude.{◌≡◌, IfOk};
-ghost use Rattle.link_numbers.specs.Shown.{CountsSpelled, CountsWritten, NoneHeadsAgf, far_shown, own_shown};
+ghost use Rattle.link_numbers.specs.Shown.{CountsBehind, CountsSpelled, CountsWritten, NoneHeadsAgf, far_shown, own_shown};
 
 use crate::side::Side;
 use nfc_base::Event;
@@ -16,15 +16,16 @@ pub struct Shown {
 }
 
 /// The numbers that the events of a command show, of a link whose next payload has this PNI. Of a whole payload it's how many PDUs
-/// its AGF has, by their lengths alone, else one; of one that was cut off it is 0 where that begins as an AGF, else one. It goes
-/// over the events once, and takes memory for the numbers alone.
-#[tactic(auto, using(crate::proofs::Counting::counts_spelled, crate::proofs::Counting::counts_written, crate::proofs::Counting::one_written))]
+/// its AGF has, by their lengths alone, else one. Of one that was cut off it is 0 where that begins as an AGF, else one; and so it
+/// is where an AGF isn't one of several PDUs. It goes over the events once, and takes memory for the numbers alone.
+#[tactic(auto, using(crate::proofs::Counting::counts_spelled, crate::proofs::Counting::counts_written, crate::proofs::Counting::one_written, crate::proofs::Counting::counts_behind))]
 pub fn numbers_shown(alloc: Global, first: u8, events: &[Event]) -> Result<Shown, AllocError>
     ensures own { IfOk result (λ s. s.own.items ≡ own_shown first events.now) }
     ensures far { IfOk result (λ s. s.far.items ≡ far_shown first events.now) }
     ensures spelled { CountsSpelled }
     ensures written { CountsWritten }
     ensures alone { NoneHeadsAgf }
+    ensures behind { CountsBehind }
 {
     let mut own = Side::new(alloc, first);
     let mut far = Side::new(alloc, first);

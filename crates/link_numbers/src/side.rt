@@ -4,7 +4,7 @@ ghost use Rattle.std.specs.Prelude.{◌≡◌, ◌++◌, take, IfOk, OnOk};
 ghost use Rattle.dep_link.specs.Frames.{after, spelled};
 ghost use Rattle.link_numbers.specs.Walking.{ended, nothing, passed, room, sent_if, took};
 
-use crate::number::{LONGEST, begins_agf, number_of};
+use crate::number::{LONGEST, number_begun, number_of};
 use arrayvec::ArrayVec;
 use dep_pdu::DepFrame;
 use nfc_base::{Frame, Tech};
@@ -57,7 +57,7 @@ impl Side {
                     pni,
                     content,
                 },
-            ) if from == up => self.take(more, pni, &content),
+            ) if from == up && !content.is_empty() => self.take(more, pni, &content),
             Some(DepFrame::Ack { up: from, pni }) if from == up => {
                 self.pass(pni);
                 Ok(())
@@ -101,8 +101,7 @@ impl Side {
             mut told,
         } = self;
         if !begun.is_empty() {
-            let number = if begins_agf(&begun) { 0 } else { 1 };
-            told.push(number)?;
+            told.push(number_begun(&begun))?;
         }
         Ok(told)
     }

@@ -105,7 +105,7 @@ fn numbers_are_those_of_the_frames(rt: HostRuntime) -> Result<(), Fail> {
             far: &[],
         },
         Row {
-            says: "an AGF whose last PDU is cut short, and an empty payload",
+            says: "an AGF whose last PDU is cut short, and a frame without content",
             first: 0,
             frames: &[
                 &[
@@ -113,8 +113,8 @@ fn numbers_are_those_of_the_frames(rt: HostRuntime) -> Result<(), Fail> {
                 ],
                 &[0xF0, 0x04, 0xD5, 0x07, 0x00],
             ],
-            own: &[2],
-            far: &[1],
+            own: &[0],
+            far: &[],
         },
         Row {
             says: "both ends, the target's last payload cut off",

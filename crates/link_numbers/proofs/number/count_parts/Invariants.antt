@@ -1,10 +1,10 @@
 use Rattle.std.proofs.Common.{◌≡◌, ◌+◌, ◌≤◌, length}
-use Rattle.link_numbers.specs.Shown.{parts_behind}
+use Rattle.link_numbers.specs.Shown.{counted}
 use Rattle.link_numbers.proofs.number.count_parts.Given as goal
 
 abbrev pub invariant-parts : goal.invariant-parts
 invariant-parts l = record {
-  counted : l.count + parts_behind l.rest 0 ≡ parts_behind l.inner 0;
+  counted : counted l.count l.rest 0 ≡ counted 0 l.inner 0;
   few : l.count + length l.rest ≤ length l.inner;
 }
 
