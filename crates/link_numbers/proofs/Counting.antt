@@ -161,3 +161,6 @@ counts_behind ps x xs two = by (nat_le (length b) limit)
     by : (t : Bool) → ((if t then parts_of b else 0) ≡ 0) ⊎ (length ps < (if t then parts_of b else 0))
     by true = more (behind_parts 0 ps x xs)
     by false = inl refl
+
+-- what a count says of payloads
+pub ruleset laws = (counts_spelled, counts_written, one_written, counts_behind)

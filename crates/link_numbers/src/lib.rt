@@ -1,8 +1,8 @@
 //! How many PDUs each payload of a link had, read off the events of a command.
 //!
-//! `number` counts the PDUs of one payload, `side` walks over what one end of the link sent, and `shown` goes over events with
-//! both sides. Nothing is checked here: what comes of the numbers is for the caller to compare. Memory is taken for the numbers
-//! alone.
+//! `number` counts the PDUs of one payload, `side` walks over what one end of the link sent, and `shown` goes over
+//! events with both ends. Nothing is checked here: what comes of the numbers is for the caller to compare. Memory is
+//! taken for the numbers alone.
 #![tactic(auto)]
 
 mod number;

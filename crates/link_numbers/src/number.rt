@@ -19,7 +19,8 @@ const HEADER: usize = 2;
 /// The bytes of the length of a PDU in an AGF.
 const LENGTH: usize = 2;
 
-/// The number of a whole payload: of an AGF its PDUs, else one; where it isn't what a payload may be, as of one that was cut off.
+/// The number of a whole payload: of an AGF its PDUs, else one. Where it isn't what a payload may be it is as of one
+/// that was cut off.
 pub(crate) fn number_of(payload: &[u8]) -> u32
     ensures { result ≡ number payload.now }
 {

@@ -45,7 +45,8 @@ impl Side {
         }
     }
 
-    /// A frame that it sent; `up` where it is the target. One that is sent again has the PNI before, and isn't counted twice.
+    /// A frame that it sent; `up` where it is the target. One that is sent again has the PNI before, and isn't
+    /// counted twice.
     pub(crate) fn send(&mut self, up: bool, frame: &Frame) -> Result<(), AllocError>
         ensures { OnOk result (self.new ≡ sent_if up self.old (spelled frame.now)) }
     {

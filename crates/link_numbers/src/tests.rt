@@ -5,7 +5,8 @@ use nfc_base::{Event, Fate, Frame, FrameFault, Tech};
 use std::alloc::Global;
 use std::test::Fail;
 
-/// Events: frames of NFC-DEP, each after the other, those with D5h from the target. What is shown of them, counted from a PNI.
+/// Frames of NFC-DEP, one after the other, those with D5h from the target, and what is shown of them, counted from a
+/// PNI.
 #[derive(Clone, Copy)]
 struct Row {
     says: &'static str,
