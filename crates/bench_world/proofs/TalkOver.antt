@@ -146,7 +146,7 @@ module _ (old mid : Machines) (settled : IsSettled old) (q : ℕ) (l : OpenLink)
           (talking.made_so old.air old.ends old.peers l (so old mid settled q l far.end t) c call asks may_then joins b j after client jobs answer (of_own (Made jobs) made) told says))
 
       abbrev Fails : SnepFault → Choosing FarEnd → Air Device → Type 0
-      Fails x f a = CallFails ghosts device_end joins.own (call_begins l.client call) a l.initiator f b j after client slots x
+      Fails x f a = CallFails ghosts device_end joins.own (call_begins l.client call) a l.initiator f b j after client x
 
       lost : (why : EndCause) (answer : Answer) (new : Machines) → new ≡ Down → Fails (faults.LinkEnded why) far mid.air → Left call Own after.end → told_loss why ≡ Some answer → ObeyedBy joins old new c answer
       lost why answer new down goes left told =

@@ -5,8 +5,8 @@ use Rattle.bench_world.specs.Legal.{MayPuts}
 use Rattle.bench_world.proofs.Talked.{puts_apart}
 use Rattle.bench_world.proofs.at_once.puts.Goals as goal
 
-pub put_at_once-requires-clause-apart : goal.put_at_once-requires-clause-apart
-put_at_once-requires-clause-apart c =
+pub talk-requires-clause-may : goal.talk-requires-clause-may
+talk-requires-clause-may c =
     let may : MayPuts c.args.all.now = search rules in
-    let is : c.deref-2.result.now ≡ slot_messages c.args.all.now = search rules in
+    let is : c.deref.result.now ≡ slot_messages c.args.all.now = search rules in
     subst AreApart (sym is) (puts_apart c.args.all.now may.own may.each)

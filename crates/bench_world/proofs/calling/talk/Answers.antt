@@ -20,9 +20,9 @@ of_each : (r : Result Answer ObeyFault) (A B : Command → Type 0) (P : Answer �
 of_each (Ok a) A B P f = f
 of_each (Err e) A B P f = tt
 
-pub returns-in_default-clause-ok : goal.returns-in_default-clause-ok
-returns-in_default-clause-ok c = λ x asks may.
-    nowhere c.args.machines.now c.take_link.new.machines c.requires.settled (c.in_default.ensures.none refl).0 (c.in_default.ensures.none refl).1 c.args.joins x (asking_of c.args.request.now) asks may
+pub returns-in_default-take_link-clause-ok : goal.returns-in_default-take_link-clause-ok
+returns-in_default-take_link-clause-ok c = λ x asks may.
+    nowhere c.args.machines.now c.take_link.new.machines c.requires.settled (c.in_default-take_link.ensures.none refl).0 (c.in_default-take_link.ensures.none refl).1 c.args.joins x (asking_of c.args.request.now) asks may
 
 pub returns-in-Err-clause-ok : goal.returns-in-Err-clause-ok
 returns-in-Err-clause-ok c =
@@ -69,7 +69,7 @@ returns-then-closes-clause-ok c = λ x asks may.
     let counts : c.in-Some.on.far.numbers ≡ joins.far = search rules in
     let left : c.put_down-then-closes.new.machines ≡ put_down (under mid.ends mid.peers mid.link c.call_on.new.field) c.in-Some.on.place c.call_on.new.far.end = search rules in
     subst (λ j. ObeyedBy j c.args.machines.now c.put_down-then-closes.new.machines x answers.Unlinked) (sym same)
-    (asked_closed c.args.machines.now mid c.requires.settled c.in-Some.on.place l c.in-Some.on.far t joins counts c.call_on.new.field c.call_on.new.initiator c.call_on.new.far c.call_on.new.client.llc c.call_on.new.client.slots x may c.put_down-then-closes.new.machines c.args.request.now c.in-Ok.ending asks (search rules) left c.in-Ok.ensures.called)
+    (asked_closed c.args.machines.now mid c.requires.settled c.in-Some.on.place l c.in-Some.on.far t joins counts c.call_on.new.field c.call_on.new.initiator c.call_on.new.far c.call_on.new.client.llc c.call_on.new.client.slots x may c.put_down-then-closes.new.machines c.args.request.now c.in-Ok-call_on.ending asks (search rules) left c.in-Ok-call_on.ensures.called)
 
 pub returns-else-closes-clause-ok : goal.returns-else-closes-clause-ok
 returns-else-closes-clause-ok c = λ x asks may.
@@ -86,4 +86,4 @@ returns-else-closes-clause-ok c = λ x asks may.
     (record { peer = l.peer; initiator = c.call_on.new.initiator; client = c.call_on.new.client.llc; slots = c.call_on.new.client.slots }) = search rules in
     subst (λ j. ObeyedBy j c.args.machines.now c.put_back.new.machines x c.answer_to-answer.result) (sym same)
     (subst (λ a. ObeyedBy joins c.args.machines.now c.put_back.new.machines x a) (sym c.answer_to-answer.ensures)
-    (asked_ended c.args.machines.now mid c.requires.settled c.in-Some.on.place l c.in-Some.on.far t joins counts c.call_on.new.field c.call_on.new.initiator c.call_on.new.far c.call_on.new.client.llc c.call_on.new.client.slots x may c.put_back.new.machines c.args.request.now c.in-Ok.ending asks (search rules) c.requires.may c.in-Some.ensures.rest left c.in-Ok.ensures.called))
+    (asked_ended c.args.machines.now mid c.requires.settled c.in-Some.on.place l c.in-Some.on.far t joins counts c.call_on.new.field c.call_on.new.initiator c.call_on.new.far c.call_on.new.client.llc c.call_on.new.client.slots x may c.put_back.new.machines c.args.request.now c.in-Ok-call_on.ending asks (search rules) c.requires.may c.in-Some.ensures.rest left c.in-Ok-call_on.ensures.called))
