@@ -5,7 +5,6 @@ use Rattle.std.proofs.lemmas.List.{length-append}
 use Rattle.nfc_base.specs.Signal.{Signal}
 use Rattle.nfc_base.specs.Trace.{noise, breaks}
 use Rattle.nfc_base.specs.declared.carrier.EndCause.TheVariants as cause
-use Rattle.nfc_base.specs.declared.event.Event.{Event}
 use Rattle.nfc_base.specs.declared.event.Heard as hearing
 use Rattle.nfc_base.specs.declared.event.Heard.TheVariants.{Whole, Collided, Damaged, Silent}
 use Rattle.air_core.specs.Conversation.{Note, Lit, Got, Lost, EachDue, AreTurns, receptions}
@@ -29,11 +28,9 @@ use Rattle.bench_world.specs.declared.entry.Answer.{Answer}
 use Rattle.bench_world.specs.declared.entry.Answer.TheVariants as answers
 use Rattle.bench_world.specs.declared.entry.Entry.{Entry}
 use Rattle.bench_world.specs.declared.entry.Loss.TheVariants as losses
-use Rattle.bench_world.specs.declared.entry.RawHeard.{RawHeard}
 use Rattle.bench_world.specs.Completing.{IsQuietOnce}
 use Rattle.bench_world.specs.CompletingRaws.{IsHeardOf, IsUndisturbedRaw, QuietRaws, RawsComplete, RawsQuietly, RawsPlaced}
-use Rattle.bench_world.specs.Journal.{asking_lines}
-use Rattle.bench_world.specs.Legal.{State, Given, LegalStep, AnswerLaw, RawLaw, begun, due, first_state}
+use Rattle.bench_world.specs.Legal.{State, Given, LegalStep, AnswerLaw, RawLaw, begun, due}
 use Rattle.bench_world.specs.Linking.{IsFieldLost}
 use Rattle.bench_world.specs.Quiet.{AllPass}
 use Rattle.bench_world.specs.Rawing.{Rawing, Activates, Dark, RawEnds, Sends, Strays, Unlinked, raw_behind, raw_first, raw_heard, raw_heard_atr, raw_linked_by, raw_noted, raw_stand, told_rawing}
@@ -41,7 +38,6 @@ use Rattle.bench_world.specs.World.{bench_air}
 use Rattle.bench_world.proofs.Complete.{told_once, no_lost, missed, given_up}
 use Rattle.bench_world.proofs.OneAnswer.{one_end}
 use Rattle.bench_world.proofs.Quiet.{few_noisy, no_breaks, no_noisy, quiet_of, first_round}
-use Rattle.bench_world.proofs.Reached.{IsReady, ready_behind, first_ready}
 
 -- Of each frame that was sent something was heard.
 abbrev AllHeard : ℕ → Rawing → Type 0

@@ -6,7 +6,6 @@ use Rattle.std.proofs.lemmas.List.{map-append}
 use Rattle.nfc_base.specs.declared.event.Event.{Event}
 use Rattle.nfc_base.specs.declared.event.Fate.{Fate}
 use Rattle.air_core.specs.Conversation.{queue_after}
-use Rattle.snep_core.specs.Server.{Received as Accepted}
 use Rattle.snep_core.specs.Talk.{client_sap, sap_of_slot}
 use Rattle.bench_script.specs.declared.command.Command.{Command}
 use Rattle.bench_script.specs.declared.command.Command.TheVariants as commands
@@ -18,11 +17,9 @@ use Rattle.bench_devices.specs.declared.device.Device.{Device}
 use Rattle.link_calls.specs.Asking.{LinkAsking, Does, Closes, Finding, Getting, put_from, Putting}
 use Rattle.bench_world.specs.declared.entry.Answer.{Answer}
 use Rattle.bench_world.specs.declared.entry.Entry.{Entry}
-use Rattle.bench_world.specs.declared.inbox.LinkRange.{LinkRange}
 use Rattle.bench_world.specs.World.{FarEnd, Stable, WholeWorld, stable}
 use Rattle.bench_world.specs.Asked.{asked_on_link, slot_messages}
-use Rattle.bench_world.specs.Calls.{with_accepted}
-use Rattle.bench_world.specs.Forging.{forged_general, opens_link}
+use Rattle.bench_world.specs.Forging.{opens_link}
 use Rattle.bench_world.specs.Inbox.{came_on_link, chosen}
 use Rattle.bench_world.specs.Legal.{State, Given, Joins, AnswerBy, AnswerLaw, EachLegal, ForgeLeaves, FrontOf, LegalStep, begun, link_alone, peers_forged, state_after, world_after}
 use Rattle.bench_world.specs.LinkLaw.{gained_aside, is_raw, peer_under}
@@ -33,10 +30,10 @@ use Rattle.bench_world.specs.Stories.{Story, Stretch, accepted_of, state_from, s
 use Rattle.bench_world.proofs.AtNumbers.{AreHeld, Held, IfHeld, at_own_place, held, held_at, held_offered, more_held, same_held, with_held}
 use Rattle.bench_world.proofs.HeldOn.{nothing_sent}
 use Rattle.bench_world.proofs.InRanges.{chosen_none}
-use Rattle.bench_world.proofs.LinkLaw.{forged_covered, left_behind, new_held, none_then, placed_view, step, talk_opened, talked_then, view_by}
+use Rattle.bench_world.proofs.LinkLaw.{forged_covered, left_behind, none_then, placed_view, step, talk_opened, talked_then, view_by}
 use Rattle.bench_world.proofs.StoriesHere.{Stand, StandBy, count_there, ended_closed, view_at, view_of}
-use Rattle.bench_world.proofs.StoriesStand.{Closed, Covered, IsCovered, Opened, View, at, covered_linked, covered_more, covered_over, view_ended}
-use Rattle.bench_world.proofs.StoriesStep.{base_held, covered_less, covered_peer, gone_view, peer_more, same_tag, tag_more}
+use Rattle.bench_world.proofs.StoriesStand.{Closed, Covered, Opened, covered_linked, covered_more, covered_over, view_ended}
+use Rattle.bench_world.proofs.StoriesStep.{base_held, covered_less, covered_peer, gone_view, same_tag}
 use Rattle.bench_world.proofs.Tales.{stories_behind}
 
 abbrev Covers : State → Type 0

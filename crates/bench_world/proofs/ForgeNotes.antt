@@ -27,7 +27,7 @@ use Rattle.bench_script.specs.declared.command.DeviceId.TheVariants.{A}
 use Rattle.bench_devices.specs.declared.device.Device.{Device}
 use Rattle.bench_devices.specs.declared.polling.SeenKind.{SeenKind}
 use Rattle.bench_devices.specs.declared.polling.SeenKind.TheVariants as seen
-use Rattle.bench_devices.specs.Device.{air, devices}
+use Rattle.bench_devices.specs.Device.{air}
 use Rattle.bench_devices.specs.Opening.{linking, then_opens}
 use Rattle.bench_devices.specs.Polling as polls
 use Rattle.bench_devices.specs.Polling.{Followed, Told, asks, followed, follows, kind_by, seen_kind, selecting}

@@ -1,9 +1,8 @@
 -- Payloads that were written by hand were sent to a peer, or they were not: it wasn't found, it was a tag, or no link was opened.
-use Rattle.std.proofs.Common.{◌≡◌, ◌↔◌, ◌⊎◌, inl, inr, ℕ, zero, suc, ◌+◌, ◌<◌, List, [], ◌∷◌, ◌++◌, map, length, Bool, true, false, if◌then◌else◌, Option, Some, None, Result, Ok, Err, refl, sym, ◌∙◌, ap, subst, arith, append_assoc}
+use Rattle.std.proofs.Common.{◌≡◌, ◌↔◌, inl, inr, ℕ, ◌<◌, List, [], ◌∷◌, ◌++◌, map, length, Bool, true, false, if◌then◌else◌, Option, Some, None, Result, Ok, Err, refl, sym, ◌∙◌, ap, subst, append_assoc}
 use Rattle.std.specs.Prelude.{get_or, slice_set, drop, IfOk}
 use Rattle.std.specs.List.{AllByRecursion}
 use Rattle.std.proofs.Math.Seq.{drop-append_seam}
-use Rattle.std.proofs.lemmas.List.{append-nil, length-map}
 use Rattle.nfc_base.specs.Choosing.{Choosing}
 use Rattle.nfc_base.specs.declared.event.Event.{Event}
 use Rattle.nfc_base.specs.declared.event.Event.TheVariants.{Request}
@@ -13,11 +12,10 @@ use Rattle.nfc_base.specs.declared.carrier.EndCause.{EndCause}
 use Rattle.nfc_base.specs.declared.carrier.EndCause.TheVariants as causes
 use Rattle.nfc_base.specs.declared.tag_link.AskFault.TheVariants as asking
 use Rattle.nfc_base.specs.LinkTurns.{bad_receptions}
-use Rattle.nfc_base.specs.Signal.{Signal}
 use Rattle.nfc_base.specs.Trace.{noise, breaks}
 use Rattle.air_core.specs.World.{World}
 use Rattle.air_core.specs.Turn.{Air, moment}
-use Rattle.air_core.specs.Conversation.{Moment, Note, Next, Over, LightUp, Asks, Going, IsDemand, receptions, replay, queue_after, first_fate, later_fates}
+use Rattle.air_core.specs.Conversation.{Moment, Note, Next, Over, Going, receptions, queue_after}
 use Rattle.air_core.specs.Turning.{due_weaker, receptions-append}
 use Rattle.air_core.specs.Waits.{Standing, Asking, Broken, Astray, stand}
 use Rattle.air_core.specs.PlainTags.{IsAlone}
@@ -29,7 +27,7 @@ use Rattle.dep_link.specs.AnyTarget.{AnswersAtr, atr_next}
 use Rattle.dep_link.specs.Asking.{HasPeer}
 use Rattle.dep_link.specs.DepLinks.{first_seen}
 use Rattle.dep_link.specs.Initiator.{InitState}
-use Rattle.far_air.specs.FarEnds.{by_link, rests}
+use Rattle.far_air.specs.FarEnds.{by_link}
 use Rattle.far_air.specs.FarWorld.{with_numbers}
 use Rattle.far_air.specs.FarLaws.{seen, seen_at, seen_with, shown}
 use Rattle.far_air.specs.FarTurns.{FarGoing}
@@ -41,12 +39,12 @@ use Rattle.peer_air.proofs.PeerEnds.{counted_step}
 use Rattle.llcp_link.specs.Counting.{AnswersCounted, RestartsCounted, StopsCounted}
 use Rattle.llcp_link.specs.State.{restarted}
 use Rattle.snep_core.specs.Payloads.{IsFront}
-use Rattle.snep_core.specs.Server.{Received, serving}
-use Rattle.link_calls.specs.Arriving.{Arrives, ArrivesCut, all_answered}
-use Rattle.link_calls.specs.Carrying.{IsCarried, IsWalked, IsWalkEnded, IsWalkShort}
+use Rattle.snep_core.specs.Server.{serving}
+use Rattle.link_calls.specs.Arriving.{Arrives, ArrivesCut}
+use Rattle.link_calls.specs.Carrying.{IsWalked, IsWalkEnded, IsWalkShort}
 use Rattle.link_calls.specs.Exchanging.{Sending, by_hand, sending}
 use Rattle.link_calls.specs.Staying.{setting_of}
-use Rattle.link_calls.specs.Walk.{Walk, BrokenBy, Comes, Strays, walk_at, walk_due, walk_due_at, walk_on, walk_stand}
+use Rattle.link_calls.specs.Walk.{Walk, BrokenBy, Comes, walk_at, walk_due, walk_due_at, walk_stand}
 use Rattle.link_calls.specs.WalkTurns.{HaltsAt, WalkTurns, WalkFront}
 use Rattle.bench_script.specs.declared.command.Command.{Command}
 use Rattle.bench_script.specs.declared.command.Command.TheVariants.{Forge}
@@ -79,8 +77,8 @@ use Rattle.bench_world.specs.Answering.{poll_answer}
 use Rattle.bench_world.specs.Arriving.{ArrivesWithin, ArrivesCutWithin}
 use Rattle.bench_world.specs.Calls.{OfEnd, told_loss, with_accepted}
 use Rattle.bench_world.specs.ForgedAt.{ForgeStops}
-use Rattle.bench_world.specs.Forging.{Forging, Activates, Exchanges, Unlinked, ForgeEnds, ForgeTells, forge_due, forge_stand, forged_general, forging, is_linked, linked_then, opens_link, peer_linked, then_forges, told_forging, told_walk}
-use Rattle.bench_world.specs.Legal.{State, Given, Joins, MayForge, CutFront, ForgeCut, ForgeCutLeaves, ForgeHaltLeaves, ForgeHalts, ForgeLaw, ForgeLeaves, ForgeSends, FrontOf, LeavesStable, peers_after, peers_forged, state_after, world_after}
+use Rattle.bench_world.specs.Forging.{Forging, Activates, Exchanges, Unlinked, ForgeEnds, ForgeTells, forge_due, forge_stand, forged_general, forging, is_linked, linked_then, opens_link, then_forges, told_forging, told_walk}
+use Rattle.bench_world.specs.Legal.{State, Given, Joins, MayForge, CutFront, ForgeCutLeaves, ForgeHalts, ForgeLaw, ForgeLeaves, FrontOf, LeavesStable, peers_after, peers_forged, world_after}
 use Rattle.bench_world.specs.Linking.{IsFieldLost}
 use Rattle.bench_world.specs.Links.{accepted_at, accepted_by, end_numbered, with_link, with_link_if, with_link_within}
 use Rattle.bench_world.specs.Obeying.{Machines, HasPlaces, ObeyedBy, linked_at, state_at, under}

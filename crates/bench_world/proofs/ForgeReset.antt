@@ -1,5 +1,5 @@
 -- Payloads that were written by hand are sent behind a reset: so it is the same, whether the open link ends in the command or before it.
-use Rattle.std.proofs.Common.{◌≡◌, ◌⊎◌, inl, inr, ℕ, List, Bool, true, false, Option, Some, None, refl, ◌∙◌, ap, subst}
+use Rattle.std.proofs.Common.{◌≡◌, inl, inr, ℕ, List, Bool, true, false, Option, Some, None, refl, ◌∙◌, ap, subst}
 use Rattle.nfc_base.specs.declared.event.Event.{Event}
 use Rattle.air_core.specs.Conversation.{queue_after}
 use Rattle.bench_script.specs.declared.command.Command.{Command}

@@ -21,29 +21,27 @@ use Rattle.bench_devices.specs.Placed.{device_with}
 use Rattle.bench_world.specs.declared.entry.Answer.{Answer}
 use Rattle.bench_world.specs.declared.entry.Answer.TheVariants as answers
 use Rattle.bench_world.specs.declared.entry.Entry.{Entry}
-use Rattle.bench_world.specs.declared.inbox.LinkRange.{LinkRange}
 use Rattle.bench_world.specs.World.{FarEnd, WholeWorld, Stable, bench_air, stable}
 use Rattle.bench_world.specs.Forging.{forged_general, opens_link}
 use Rattle.link_calls.specs.Asking.{LinkAsking, Does, Closes, Finding, Getting, put_from, Putting}
 use Rattle.bench_world.specs.Calls.{AllAdd, OfEnd, asked_behind, told_asked, with_accepted}
-use Rattle.bench_world.specs.Inbox.{inbox_at, inbox_of, came_on_link, chosen, told_of}
-use Rattle.bench_world.specs.Legal.{State, Given, Joins, Accepts, IsPeerPlaced, AnswerBy, AnswerLaw, ForgeLeaves, FrontOf, LegalStep, EachLegal, begun, changed, due, due_by, end_of, first_state, inbox_now, link_after, link_left, peers_after, peers_forged, peers_left, world_after, state_after, RawOpensPeer}
+use Rattle.bench_world.specs.Legal.{State, Given, Joins, Accepts, IsPeerPlaced, AnswerBy, AnswerLaw, ForgeLeaves, FrontOf, LegalStep, EachLegal, begun, changed, due, due_by, end_of, first_state, link_after, link_left, peers_after, peers_forged, peers_left, world_after, state_after, RawOpensPeer}
 use Rattle.bench_world.specs.Rawing.{raw_opens}
 use Rattle.nfc_base.specs.Signal.{Signal}
 use Rattle.bench_devices.specs.AnyFrame.{peer_place, peers_in}
 use Rattle.bench_world.proofs.RawGrows.{all_grow, all_long}
 use Rattle.bench_world.proofs.RawStories.{raw_stands}
-use Rattle.std.specs.Prelude.{◌≤◌, get_or, not}
+use Rattle.std.specs.Prelude.{◌≤◌}
 use Rattle.bench_world.specs.Linking.{LinkTells, link_if, own_general}
-use Rattle.bench_world.specs.LinkLaw.{gained_aside, AreCounted, KeepsLinkLaw, LinksAccept, LinkLaw, TellsInbox, by_link, numbers_by_link, opener_of, openers_in, told_by_stories, told_link, told_links, peer_under}
+use Rattle.bench_world.specs.LinkLaw.{AreCounted, KeepsLinkLaw, by_link, numbers_by_link, opener_of, openers_in, told_link, told_links}
 use Rattle.bench_world.specs.Links.{OpenLink, end_numbered, ended, ended_unless, is_with, with_link_if, with_link_within}
 use Rattle.bench_world.specs.Peers.{Peers, new_end, next_number, placed_under}
-use Rattle.bench_world.specs.Stories.{Opener, ByForge, ByLink, Story, Stretch, Beginning, BeginsAndEnds, NothingBegins, beginning, begun_by, first_of, new_story, story_if, story_within, whole_of, last_goes_on, open_goes_on, puts_in, state_from, stretch_of, stories_of, accepted_of, ByRaw}
+use Rattle.bench_world.specs.Stories.{Opener, ByForge, ByLink, Story, Stretch, Beginning, BeginsAndEnds, NothingBegins, beginning, begun_by, first_of, new_story, story_if, story_within, whole_of, last_goes_on, open_goes_on, puts_in, stretch_of, ByRaw}
 use Rattle.bench_world.proofs.Talks.{on_link, still_on}
-use Rattle.bench_world.proofs.AtNumbers.{AreHeld, Held, held, held_at, at_number, held_offered, held_under, at_own_place, more_held, same_held, with_held}
+use Rattle.bench_world.proofs.AtNumbers.{AreHeld, Held, held, held_at, held_offered, at_own_place, more_held, same_held, with_held}
 use Rattle.bench_world.proofs.FarStays.{far_stay}
 use Rattle.bench_world.proofs.HeldOn.{nothing_sent}
-use Rattle.bench_world.proofs.PayloadsKept.{steps_kept, unless_numbers}
+use Rattle.bench_world.proofs.PayloadsKept.{unless_numbers}
 use Rattle.bench_world.proofs.PeersNumbered.{HavePlaces, busy_kind, locked_kind, number_under, places_changed, places_more, places_stay}
 use Rattle.snep_core.specs.Links.{Told}
 use Rattle.link_calls.specs.declared.request.SlotMessage.{SlotMessage}
@@ -55,13 +53,11 @@ use Rattle.bench_world.proofs.PutsTold.{AreTold}
 use Rattle.bench_world.proofs.Talked.{AddsBy, adds_all, apart_of, none_behind, puts_asked, talk_begins}
 use Rattle.bench_world.proofs.StoriesHere.{PlacesOf, Stand, StandBy, ended_closed, view_at, view_of}
 use Rattle.bench_world.proofs.StoriesOnLink.{call_over, left_open, link_begins, linked_number, linked_peer, messages_of, talk_over, tolds_of}
-use Rattle.bench_world.proofs.StoriesStand.{View, at, Closed, Covered, Opened, Open, IsInStep, closed_keep, closed_told, open_keep, open_told}
+use Rattle.bench_world.proofs.StoriesStand.{View, at, Closed, Covered, Opened, IsInStep, closed_keep, open_keep}
 use Rattle.bench_world.proofs.StoriesStep.{as_many_held, as_many_offered, as_many_with, base_held, many_numbers, no_link, own_below, peer_more, peer_stands, removed_stands, same_link, same_peer, same_tag, tag_more, tag_stands}
 use Rattle.bench_world.proofs.StoriesWithin.{within_covered, within_stands}
 use Rattle.bench_world.proofs.Unlinking.{count_ended, same_numbers}
 use Rattle.bench_world.proofs.Tales.{goes_on, stories_behind, stories_from}
-use Rattle.bench_world.specs.ByPayloads.{IfPayloads, IsByPayloads}
-use Rattle.bench_world.proofs.SameStories.{same_from}
 
 abbrev pub view_by : Peers → List (Option Held) → View
 view_by p ks = record { numbers = p.numbers; placed = next_number p; links = p.links; held = ks }

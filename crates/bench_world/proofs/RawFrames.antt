@@ -1,5 +1,5 @@
 -- Frames of a script's own, one after the other: where they stand by what was heard, and what a turn leaves of devices and of the far end.
-use Rattle.std.proofs.Common.{◌≡◌, inl, inr, ℕ, zero, suc, ◌≤◌, List, [], ◌∷◌, ◌++◌, length, Bool, true, false, Option, Some, None, refl, sym, ◌∙◌, ap, subst, arith}
+use Rattle.std.proofs.Common.{◌≡◌, ℕ, zero, suc, List, [], ◌∷◌, ◌++◌, true, Option, None, refl, sym, ◌∙◌, ap, subst}
 use Rattle.nfc_base.specs.Choosing.{Choosing, first_number}
 use Rattle.nfc_base.specs.Far.{FarDid, FarUse, Untouched, Restarts, Hands}
 use Rattle.nfc_base.specs.Signal.{Signal}
@@ -9,8 +9,7 @@ use Rattle.nfc_base.specs.declared.event.Fate.TheVariants.{Pass, Damage, Lose, B
 use Rattle.nfc_base.specs.declared.event.Heard.{Heard}
 use Rattle.nfc_base.specs.declared.far.Mute.{Mute}
 use Rattle.air_core.specs.Joint.{Joint, Nothing, Single, Clashing, joint}
-use Rattle.air_core.specs.Conversation.{Note, Lit, Got, Lost, Next, Over, IsDemand, first_fate, later_fates}
-use Rattle.air_core.specs.Listening.{Step}
+use Rattle.air_core.specs.Conversation.{Note, Lit, Got, Lost, Next, IsDemand, first_fate, later_fates}
 use Rattle.air_core.specs.Quiet.{EachQuiet}
 use Rattle.air_core.specs.Speaking.{DueTurns, Speaks}
 use Rattle.air_core.specs.Turn.{Air, HearAll, TurnBy, TurnIs, after_event, brought, world}
@@ -26,7 +25,7 @@ use Rattle.bench_devices.specs.declared.device.Device.{Device}
 use Rattle.bench_devices.specs.AnyFrame.{peer_place, peers_in}
 use Rattle.bench_devices.specs.Device.{devices, device_linked}
 use Rattle.bench_devices.specs.Keeping.{AllStayDevices, StaysDevice}
-use Rattle.bench_devices.proofs.AnyFrame.{all_quiet, count_stays, one_peer, place_stays}
+use Rattle.bench_devices.proofs.AnyFrame.{all_quiet, count_stays, place_stays}
 use Rattle.bench_devices.proofs.CardReadingNotes.{Driven}
 use Rattle.bench_devices.proofs.EveryFrame.{event_stays}
 use Rattle.bench_world.specs.declared.entry.RawHeard.{RawHeard}

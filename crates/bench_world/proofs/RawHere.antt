@@ -1,5 +1,5 @@
 -- What sending frames of a script's own does where no link is open.
-use Rattle.std.proofs.Common.{◌≡◌, ◌⊎◌, inl, inr, ℕ, suc, ◌<◌, List, [], ◌∷◌, length, Bool, false, true, if◌then◌else◌, Option, Some, None, Result, Ok, Err, refl, sym, ◌∙◌, ap, subst, arith}
+use Rattle.std.proofs.Common.{◌≡◌, inl, inr, ℕ, suc, ◌<◌, List, [], ◌∷◌, length, Bool, false, true, if◌then◌else◌, Option, Some, None, Result, Ok, Err, refl, sym, ◌∙◌, ap, subst, arith}
 use Rattle.std.specs.Prelude.{get_or, option_map, slice_set, IfOk, IfErr, OnErr}
 use Rattle.nfc_base.specs.Choosing.{Choosing}
 use Rattle.nfc_base.specs.Signal.{Signal}
@@ -37,11 +37,11 @@ use Rattle.bench_world.specs.Links.{with_link}
 use Rattle.bench_world.specs.Obeying.{Machines, state_at, under, HasPlaces, IsSettled, ObeyedBy}
 use Rattle.bench_world.specs.Opened.{IsServed}
 use Rattle.bench_world.specs.Peers.{new_end}
-use Rattle.bench_world.specs.RawAt.{FramesEnd, HeardEach, RawAlone, RawBehind, RawBeside, RawSendsOver, RawSendsTo, RawStops, SendsCounted, SendsMuted, SentRaw, frames_due, told_each, told_raw}
+use Rattle.bench_world.specs.RawAt.{HeardEach, RawAlone, RawBehind, RawBeside, RawSendsOver, RawSendsTo, RawStops, SendsCounted, SendsMuted, SentRaw, frames_due, told_each, told_raw}
 use Rattle.bench_world.specs.World.{FarEnd}
 use Rattle.bench_world.proofs.RawFrames.{mute_restarts, mute_steps, speaks_any}
 use Rattle.bench_world.proofs.RawParts.{missed_raw, none_shows, peer_shows, selection_cut_raw}
-use Rattle.bench_world.proofs.RawSelected.{ended_raw, lit_mid, peer_outcome, peer_stands, place_served, range_of, room_cut_raw, same_place, tag_outcome, unopened_cut_raw}
+use Rattle.bench_world.proofs.RawSelected.{ended_raw, lit_mid, peer_outcome, peer_stands, place_served, room_cut_raw, same_place, tag_outcome, unopened_cut_raw}
 use Rattle.bench_world.proofs.Unlinking.{upon}
 
 -- Frames over a mute far end are frames over whatever end, where no peer is placed.

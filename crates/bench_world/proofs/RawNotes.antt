@@ -1,5 +1,5 @@
 -- What is known of the selection of a device and of ATR_REQ, where frames of a script's own are to be sent to it.
-use Rattle.std.proofs.Common.{◌≡◌, ℕ, suc, List, [], ◌∷◌, ◌++◌, Bool, true, false, if◌then◌else◌, Option, Some, None, Result, Ok, Err, refl, sym, ◌∙◌, ap, subst, append_assoc}
+use Rattle.std.proofs.Common.{◌≡◌, ℕ, suc, List, [], ◌∷◌, ◌++◌, Bool, true, false, if◌then◌else◌, Option, Some, None, Ok, Err, refl, sym, ◌∙◌, ap, subst, append_assoc}
 use Rattle.std.specs.Prelude.{nat_lt}
 use Rattle.nfc_base.specs.Signal.{Signal}
 use Rattle.nfc_base.specs.declared.carrier.EndCause.TheVariants as cause
@@ -31,7 +31,7 @@ use Rattle.bench_devices.proofs.CardReadingNotes.{Driven}
 use Rattle.bench_devices.proofs.Following.{Closes, asks_same, going_driven, kind_asks}
 use Rattle.bench_devices.proofs.Searching.{search_closes}
 use Rattle.bench_world.specs.Forging.{forged_general}
-use Rattle.bench_world.specs.Rawing.{Rawing, Activates, Sends, Unlinked, raw_due, raw_linked, raw_linked_then, raw_stand, rawing, then_raws}
+use Rattle.bench_world.specs.Rawing.{Rawing, Activates, Sends, Unlinked, raw_linked, raw_linked_then, raw_stand, rawing, then_raws}
 use Rattle.bench_world.proofs.ForgeNotes.{NoRest, never_lit, no_rest}
 use Rattle.bench_world.proofs.RawDue.{link_opened, opening_due}
 

@@ -1,5 +1,5 @@
 -- Frames of a script's own are sent once a device is selected and, if it is a peer, activated: they are answered as they should be, or cut off.
-use Rattle.std.proofs.Common.{◌≡◌, ◌↔◌, ◌⊎◌, inl, inr, ℕ, zero, suc, ◌+◌, ◌<◌, ◌≤◌, List, [], ◌∷◌, ◌++◌, map, length, Bool, true, false, Option, Some, None, Result, Ok, Err, refl, sym, ◌∙◌, ap, subst, arith, append_assoc}
+use Rattle.std.proofs.Common.{◌≡◌, ◌↔◌, ◌⊎◌, inl, inr, ℕ, zero, suc, ◌<◌, List, [], ◌∷◌, ◌++◌, length, Bool, true, Option, Some, None, Result, Ok, Err, refl, sym, ◌∙◌, ap, subst, append_assoc}
 use Rattle.std.specs.Prelude.{get_or, slice_set, IfOk, IfErr, OnErr}
 use Rattle.nfc_base.specs.Choosing.{Choosing}
 use Rattle.nfc_base.specs.Far.{FarDid, FarUse, Untouched, Hands}
@@ -9,16 +9,16 @@ use Rattle.nfc_base.specs.declared.event.Event.TheVariants.{Request}
 use Rattle.nfc_base.specs.declared.event.Fate.TheVariants.{Pass}
 use Rattle.nfc_base.specs.declared.event.Heard.TheVariants.{Silent}
 use Rattle.nfc_base.specs.Signal.{Signal}
-use Rattle.nfc_base.specs.Trace.{breaks, noise}
+use Rattle.nfc_base.specs.Trace.{breaks}
 use Rattle.air_core.specs.World.{hands_over, stepped_by}
 use Rattle.air_core.specs.Turn.{Air, HearSome, Stops, moment}
 use Rattle.air_core.specs.Quiet.{EachQuiet}
 use Rattle.air_core.specs.Speaking.{LeavesOff, Speaks}
-use Rattle.air_core.specs.Conversation.{Moment, Note, Got, Next, Over, Asks, Going, IsDemand, receptions, first_fate, later_fates}
+use Rattle.air_core.specs.Conversation.{Moment, Note, Got, Over, Asks, Going, receptions}
 use Rattle.air_core.specs.Turning.{receptions-append}
 use Rattle.air_core.proofs.Following.{over_is_no_request}
 use Rattle.air_core.proofs.LostField.{HasLost}
-use Rattle.far_air.specs.FarLaws.{seen, seen_at, shown, with_far}
+use Rattle.far_air.specs.FarLaws.{seen_at}
 use Rattle.far_air.specs.FarTurns.{FarGoing, QuietBut}
 use Rattle.far_air.proofs.FarTurns.{far_goes_then, speaks_far}
 use Rattle.peer_air.specs.PeerFars.{peer_ends}
@@ -34,9 +34,8 @@ use Rattle.bench_script.specs.declared.command.Command.TheVariants.{Raw}
 use Rattle.bench_script.specs.declared.command.DeviceId.{DeviceId}
 use Rattle.bench_devices.specs.declared.device.Device.{Device}
 use Rattle.bench_devices.specs.declared.polling.SeenKind.{SeenKind}
-use Rattle.bench_devices.specs.AnyFrame.{peer_place, peers_in}
+use Rattle.bench_devices.specs.AnyFrame.{peer_place}
 use Rattle.bench_devices.specs.Device.{devices, device_linked}
-use Rattle.bench_devices.specs.Keeping.{AllStayDevices}
 use Rattle.bench_devices.specs.Opening.{linking}
 use Rattle.bench_devices.specs.Phases.{IsIdle}
 use Rattle.bench_devices.specs.Polling.{Told, selecting}
@@ -51,7 +50,7 @@ use Rattle.bench_world.specs.declared.entry.Loss.TheVariants as losses
 use Rattle.bench_world.specs.declared.entry.RawHeard.{RawHeard}
 use Rattle.bench_world.specs.Calls.{with_accepted}
 use Rattle.bench_world.specs.Forging.{forged_general}
-use Rattle.bench_world.specs.Legal.{State, Given, Joins, IsPeerPlaced, MayRaw, CutFront, RawHalts, RawOpensPeer, halted_at, peers_after, peers_forged, world_after}
+use Rattle.bench_world.specs.Legal.{State, Joins, IsPeerPlaced, MayRaw, CutFront, RawHalts, RawOpensPeer, halted_at, peers_after, peers_forged}
 use Rattle.bench_world.specs.Linking.{IsFieldLost}
 use Rattle.bench_world.specs.Obeying.{Machines, HasPlaces, ObeyedBy, state_at, under}
 use Rattle.bench_world.specs.Peers.{Peers, next_number}
@@ -59,7 +58,7 @@ use Rattle.bench_world.specs.RawAt.{HeardEach, RawStops, SendsCounted, frames_du
 use Rattle.bench_world.specs.Rawing.{Rawing, Activates, Dark, Sends, Strays, Unlinked, raw_noted, are_sent, raw_behind, raw_due, raw_first, raw_linked, raw_linked_then, raw_opens, raw_stand, rawing, then_raws, told_rawing}
 use Rattle.bench_world.specs.World.{FarEnd, WholeWorld, bench_air}
 use Rattle.bench_world.proofs.CallNotes.{broken_known, known_broken}
-use Rattle.bench_world.proofs.FarStays.{StayAll, far_stay}
+use Rattle.bench_world.proofs.FarStays.{StayAll}
 use Rattle.bench_world.proofs.ForgeParts.{more_breaks, rest_breaks}
 use Rattle.bench_world.proofs.ForgeSends.{set_twice}
 use Rattle.bench_world.proofs.Fronts.{Ends, ends_table}

@@ -1,5 +1,5 @@
 -- Frames of a script's own were sent: what an entry owes, from the turns that were made; and the selection of a device.
-use Rattle.std.proofs.Common.{◌≡◌, inl, inr, ℕ, zero, suc, ◌+◌, ◌<◌, ◌≤◌, List, [], ◌∷◌, ◌++◌, map, length, Bool, true, false, Option, Some, None, Result, Ok, Err, refl, sym, ◌∙◌, ap, subst, arith}
+use Rattle.std.proofs.Common.{◌≡◌, inl, inr, ℕ, zero, suc, ◌<◌, ◌≤◌, List, [], ◌∷◌, ◌++◌, map, length, true, false, Option, Some, None, Err, refl, sym, ◌∙◌, ap, subst, arith}
 use Rattle.std.specs.Prelude.{get_or, slice_set}
 use Rattle.std.proofs.lemmas.List.{length-map}
 use Rattle.nfc_base.specs.Choosing.{Choosing}
@@ -7,12 +7,10 @@ use Rattle.nfc_base.specs.declared.event.Event.{Event}
 use Rattle.nfc_base.specs.declared.event.Fate.{Fate}
 use Rattle.nfc_base.specs.Signal.{Signal}
 use Rattle.nfc_base.specs.Trace.{breaks}
-use Rattle.air_core.specs.World.{World}
 use Rattle.air_core.specs.Turn.{Air, moment}
-use Rattle.air_core.specs.Conversation.{Moment, Note, Next, Over, Going, IsDemand, receptions, replay, queue_after}
+use Rattle.air_core.specs.Conversation.{Moment, Note, Next, Over, Going, receptions, queue_after}
 use Rattle.air_core.specs.Turning.{due_weaker}
 use Rattle.nfca_poll.specs.declared.fault.PollFault.{PollFault}
-use Rattle.nfca_poll.specs.declared.fault.PollFault.TheVariants as faults
 use Rattle.far_air.specs.FarEnds.{by_link, first_far, later_fars}
 use Rattle.far_air.specs.FarWorld.{with_numbers}
 use Rattle.far_air.specs.FarLaws.{seen, seen_at, shown, with_far}
@@ -28,21 +26,19 @@ use Rattle.bench_script.specs.declared.command.Command.{Command}
 use Rattle.bench_script.specs.declared.command.Command.TheVariants.{Raw}
 use Rattle.bench_script.specs.declared.command.DeviceId.{DeviceId}
 use Rattle.bench_devices.specs.declared.device.Device.{Device}
-use Rattle.bench_devices.specs.declared.polling.SeenKind.{SeenKind}
 use Rattle.bench_devices.specs.Answering.{HasPollCause}
 use Rattle.bench_devices.specs.AnyFrame.{peer_place, peers_in}
-use Rattle.bench_devices.specs.Device.{air, devices, device_linked, is_tag}
-use Rattle.bench_devices.specs.Keeping.{AllStayDevices, AreTame, StaysDevice, kept}
-use Rattle.bench_devices.specs.Phases.{AreTidy, Selects, SelectionCut, IsIdle}
-use Rattle.bench_devices.specs.Polling.{Told, asks, selecting}
+use Rattle.bench_devices.specs.Device.{air, devices, device_linked}
+use Rattle.bench_devices.specs.Keeping.{AllStayDevices, AreTame, kept}
+use Rattle.bench_devices.specs.Phases.{Selects, SelectionCut, IsIdle}
+use Rattle.bench_devices.specs.Polling.{asks, selecting}
 use Rattle.bench_devices.proofs.AnyFrame.{all_quiet, one_peer, tag_stays}
 use Rattle.bench_devices.proofs.EveryFrame.{sound_stay}
 use Rattle.bench_devices.proofs.PeerLinks.{devices_link}
 use Rattle.bench_world.specs.declared.entry.Answer.{Answer}
-use Rattle.bench_world.specs.declared.entry.Answer.TheVariants as answers
 use Rattle.bench_world.specs.declared.entry.Loss.TheVariants as losses
 use Rattle.bench_world.specs.Answering.{poll_answer}
-use Rattle.bench_world.specs.Legal.{State, Given, Joins, MayRaw, CutFront, FrontOf, RawLaw, RawOpensPeer, peers_after, peers_forged, state_after, world_after}
+use Rattle.bench_world.specs.Legal.{State, Given, Joins, MayRaw, CutFront, FrontOf, RawLaw, RawOpensPeer, peers_after, peers_forged, world_after}
 use Rattle.bench_world.specs.Obeying.{Machines, HasPlaces, ObeyedBy, state_at, under}
 use Rattle.bench_world.specs.Opened.{IsServed, AreServed, AreNumbered}
 use Rattle.bench_world.specs.Peers.{Peers, next_number}

@@ -1,5 +1,5 @@
 -- Frames of a script's own are sent behind a reset: so it is the same, whether the open link ends in the command or before it.
-use Rattle.std.proofs.Common.{◌≡◌, inl, inr, ℕ, List, Bool, true, false, Option, None, refl, sym, ◌∙◌, ap, subst}
+use Rattle.std.proofs.Common.{◌≡◌, inl, inr, List, Bool, true, false, Option, None, refl, sym, ◌∙◌, ap, subst}
 use Rattle.std.specs.Prelude.{get_or}
 use Rattle.nfc_base.specs.Signal.{Signal}
 use Rattle.nfc_base.specs.declared.event.Event.{Event}
@@ -10,7 +10,7 @@ use Rattle.bench_script.specs.declared.command.DeviceId.{DeviceId}
 use Rattle.bench_script.specs.DeviceIds.{bytes_of}
 use Rattle.bench_world.specs.declared.entry.Answer.{Answer}
 use Rattle.bench_world.specs.Calls.{with_accepted}
-use Rattle.bench_world.specs.Legal.{State, Joins, CutOff, MayRaw, RawHalts, peers_forged, state_after, unlinked, world_after}
+use Rattle.bench_world.specs.Legal.{State, Joins, CutOff, RawHalts, peers_forged, state_after, unlinked, world_after}
 use Rattle.bench_world.specs.Links.{with_link_if}
 use Rattle.bench_world.specs.Obeying.{Machines, IsSettled, link_ended, state_at}
 use Rattle.bench_world.specs.Peers.{Peers, placed_under}

@@ -1,5 +1,5 @@
 -- Frames of a script's own are sent to a device that was selected: to a tag, or to a peer, which is activated first.
-use Rattle.std.proofs.Common.{◌≡◌, ◌⊎◌, inl, inr, ℕ, zero, suc, ◌<◌, ◌≤◌, List, [], ◌∷◌, ◌++◌, map, length, Bool, true, false, if◌then◌else◌, Option, Some, None, Result, Ok, Err, refl, sym, ◌∙◌, ap, subst, arith, append_assoc}
+use Rattle.std.proofs.Common.{◌≡◌, ◌⊎◌, inr, ℕ, suc, ◌<◌, ◌≤◌, List, [], ◌∷◌, ◌++◌, map, length, Bool, true, false, if◌then◌else◌, Option, Some, None, Result, Ok, Err, refl, sym, ◌∙◌, ap, subst, arith, append_assoc}
 use Rattle.std.specs.Prelude.{get_or, slice_set, option_map, IfOk}
 use Rattle.std.specs.Prelude.{nat_eq}
 use Rattle.std.specs.Cmp.Lexicographic.{pointwise}
@@ -13,7 +13,7 @@ use Rattle.nfc_base.specs.Signal.{Signal}
 use Rattle.nfc_base.specs.Trace.{noise, breaks}
 use Rattle.air_core.specs.World.{World}
 use Rattle.air_core.specs.Turn.{Air, moment}
-use Rattle.air_core.specs.Conversation.{Moment, Note, Next, Over, Going, replay}
+use Rattle.air_core.specs.Conversation.{Moment, Note, Going}
 use Rattle.air_core.specs.Turning.{due_weaker}
 use Rattle.air_core.specs.Waits.{Standing, Asking, Broken, Astray, stand}
 use Rattle.arrayvec.specs.ArrayVec.{ArrayVec}
@@ -44,17 +44,14 @@ use Rattle.bench_devices.specs.Choosing.{StandsAt}
 use Rattle.bench_devices.specs.Device.{air, devices, device_id, device_linked, seen_of, is_tag}
 use Rattle.bench_devices.specs.Keeping.{Kept, kept, AreSound}
 use Rattle.bench_devices.specs.Kinds.{DeviceKind, seen_by}
-use Rattle.bench_devices.specs.Opening.{linking, Opens, Opened, OpeningEnds}
+use Rattle.bench_devices.specs.Opening.{linking, Opens}
 use Rattle.bench_devices.specs.Phases.{SelectsAt, IsIdle}
 use Rattle.bench_devices.specs.Placed.{OfPlaced, device_with}
 use Rattle.bench_devices.specs.Polling.{Told, asks, selecting}
 use Rattle.bench_devices.proofs.AnyFrame.{none_counted, peers_stay}
 use Rattle.bench_devices.proofs.LinkFar.{opens_far, selects_far}
 use Rattle.bench_devices.proofs.TagOrPeer.{peer_kind, same_tag}
-use Rattle.bench_world.specs.declared.bench.ObeyFault.{ObeyFault}
 use Rattle.bench_world.specs.declared.entry.Answer.{Answer}
-use Rattle.bench_world.specs.declared.entry.Answer.TheVariants as answers
-use Rattle.bench_world.specs.declared.entry.Loss.TheVariants as losses
 use Rattle.bench_world.specs.declared.inbox.LinkRange.{LinkRange}
 use Rattle.bench_world.specs.Calls.{told_loss}
 use Rattle.bench_world.specs.Forging.{forged_general}

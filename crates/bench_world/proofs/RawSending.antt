@@ -1,10 +1,9 @@
 -- Frames of a script's own are sent one after the other, over whatever far end.
-use Rattle.std.proofs.Common.{◌≡◌, ◌⊎◌, inl, inr, ℕ, List, [], ◌∷◌, ◌++◌, true, false, Bool, Option, Some, None, Result, Ok, Err, refl, sym, ◌∙◌, ap, subst}
+use Rattle.std.proofs.Common.{◌≡◌, inl, inr, ℕ, List, [], ◌∷◌, ◌++◌, true, false, Bool, Some, Ok, Err, refl, sym, ◌∙◌, ap}
 use Rattle.nfc_base.specs.Signal.{Signal}
 use Rattle.nfc_base.specs.declared.carrier.EndCause.TheVariants as causes
 use Rattle.nfc_base.specs.declared.event.Heard.{Heard}
 use Rattle.air_core.specs.Conversation.{Note, Got, Lost, Asks}
-use Rattle.air_core.specs.Speaking.{Speaks}
 use Rattle.air_core.specs.Turn.{Air, Transmits, TurnIs}
 use Rattle.air_core.specs.declared.fault.AirFault.TheVariants as air
 use Rattle.air_core.proofs.Speaking.{SpeaksOn, on_lost, on_start, on_turn}
@@ -12,7 +11,7 @@ use Rattle.bench_devices.specs.declared.device.Device.{Device}
 use Rattle.bench_devices.specs.Device.{devices}
 use Rattle.bench_world.specs.declared.entry.RawHeard.{RawHeard}
 use Rattle.bench_world.specs.RawAt.{SendsEach, frames_due}
-use Rattle.bench_world.specs.Rawing.{Rawing, Dark, Sends, are_sent, raw_due, raw_heard, raw_noted, raw_stand}
+use Rattle.bench_world.specs.Rawing.{Rawing, Sends, are_sent, raw_due, raw_heard, raw_noted, raw_stand}
 
 stand_more : (frames : List Signal) (s : Rawing) (ns : List Note) (n : Note) → raw_stand frames s (ns ++ n ∷ []) ≡ raw_noted frames (raw_stand frames s ns) n
 stand_more frames s [] n = refl

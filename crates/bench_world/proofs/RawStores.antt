@@ -1,5 +1,5 @@
 -- No frame that is sent as it is, nor what selects its device, is one of NFC-F, so each Type 3 tag keeps its store.
-use Rattle.std.proofs.Common.{◌≡◌, ℕ, suc, List, [], ◌∷◌, ◌++◌, map, Bool, true, false, if◌then◌else◌, Option, Some, None, Ok, Err, refl, sym, ◌∙◌, ap, subst}
+use Rattle.std.proofs.Common.{◌≡◌, ℕ, suc, List, [], ◌∷◌, map, Bool, true, false, if◌then◌else◌, Option, Some, None, Ok, Err, refl, sym, ◌∙◌, ap, subst}
 use Rattle.std.specs.Prelude.{nat_lt}
 use Rattle.std.specs.List.{AllByRecursion}
 use Rattle.nfc_base.specs.Signal.{Signal}
@@ -31,14 +31,14 @@ use Rattle.bench_devices.specs.declared.polling.SeenKind.{SeenKind}
 use Rattle.bench_devices.specs.declared.polling.SeenKind.TheVariants as seen
 use Rattle.bench_devices.specs.Device.{devices, device_linked, device_store, kind_of}
 use Rattle.bench_devices.specs.Keeping.{EachAsked, Fixed}
-use Rattle.bench_devices.specs.Kinds.{DeviceKind, T2Kind, T3Kind, T4Kind, PeerKind, T5Kind}
+use Rattle.bench_devices.specs.Kinds.{DeviceKind, T2Kind, T4Kind, PeerKind, T5Kind}
 use Rattle.bench_devices.specs.Polling as polls
 use Rattle.bench_devices.specs.Polling.{Followed, Told, asks, follows, seen_kind, selecting}
 use Rattle.bench_devices.proofs.Following.{asks_same, kind_asks}
 use Rattle.bench_devices.proofs.Searching.{IsCall, asks_calls, search_closes}
 use Rattle.bench_devices.proofs.SelectingV.{next_inventory}
 use Rattle.bench_world.specs.Forging.{forged_general}
-use Rattle.bench_world.specs.Rawing.{Rawing, Activates, Dark, Sends, Strays, Unlinked, raw_bad_again, raw_behind, raw_due, raw_first, raw_heard_atr, raw_linked_by, raw_noted, raw_sent, raw_stand, rawing, then_raws}
+use Rattle.bench_world.specs.Rawing.{Rawing, Activates, Dark, Sends, Strays, Unlinked, raw_behind, raw_due, raw_first, raw_heard_atr, raw_linked_by, raw_noted, raw_stand, rawing, then_raws}
 use Rattle.bench_world.specs.Threes.{AreWellStored, IfThree, IsWellStored}
 use Rattle.bench_world.specs.World.{FarEnd, WholeWorld, bench_air}
 use Rattle.bench_world.proofs.FarStays.{stays_any}

@@ -21,12 +21,11 @@ use Rattle.bench_world.specs.Forging.{forged_general}
 use Rattle.bench_world.specs.Legal.{State, Joins, IsPeerPlaced, peers_forged}
 use Rattle.bench_world.specs.Links.{OpenLink, ended, with_link_if}
 use Rattle.bench_world.specs.Opened.{AreNumbered, IsFirstWith}
-use Rattle.bench_world.specs.Links.{is_number}
 use Rattle.bench_world.specs.Peers.{Peers, next_number, placed_under}
 use Rattle.bench_world.specs.Rawing.{raw_opens}
-use Rattle.bench_world.specs.Stories.{Beginning, BeginsAndEnds, ByRaw, NothingBegins, Story, Stretch}
+use Rattle.bench_world.specs.Stories.{BeginsAndEnds, ByRaw, NothingBegins, Story, Stretch}
 use Rattle.bench_world.specs.Calls.{with_accepted}
-use Rattle.bench_world.specs.World.{FarEnd, WholeWorld, stable}
+use Rattle.bench_world.specs.World.{WholeWorld, stable}
 use Rattle.bench_world.proofs.AtNumbers.{AreHeld, Held, adding, held, more_held, with_held}
 use Rattle.bench_world.proofs.PeersNumbered.{HaveNumbers, HavePlaces, number_under}
 use Rattle.bench_world.proofs.RawGrows.{GrowsAt, adding_at, at_both}

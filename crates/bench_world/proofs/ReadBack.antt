@@ -18,7 +18,7 @@ use Rattle.nfc_base.specs.declared.event.Fate.{Fate}
 use Rattle.nfc_base.specs.declared.event.Fate.TheVariants.{Pass, Damage, Lose, Break}
 use Rattle.bench_script.specs.Script.{tail_text}
 use Rattle.bench_script.specs.Canonical.{hex_text, frame_text}
-use Rattle.bench_script.proofs.Frames.{first, Begins, cut, tail_begins, tail_tells}
+use Rattle.bench_script.proofs.Frames.{first, cut, tail_begins, tail_tells}
 use Rattle.bench_world.specs.declared.entry.Answer.{Answer as Said}
 use Rattle.bench_world.specs.declared.entry.Answer.TheVariants.{Done, Store, Found, Crowd, T3None, T3One, T3Crowd, Message, NotNdef, Version, NoRead, Sectors, BadSize, NoMessageTlv, BadTlv, Unfinished, Disturbed, FieldLost, NotFound, SixBad, Written, Refused, ReadOnly, TooLong, ShortMlc, WrongKind, Inbox, Linked, Success, Reject, Value, NoValue, Excess, NotImplemented, Sap, LinkEnded, Replies, Heard, Puts, Unlinked, NoLink}
 use Rattle.bench_world.specs.Report.{fate_text, sent_text, event_text, answer_text, line_text}

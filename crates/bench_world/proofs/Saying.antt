@@ -1,8 +1,6 @@
 -- What a call on the open link says of the peer, by what its client says of it.
-use Rattle.std.proofs.Common.{◌≡◌, ◌⊎◌, ◌≤◌, ◌==◌, ◌||◌, ℕ, Bool, true, false, List, [], ◌∷◌, ◌++◌, length, map, if◌then◌else◌, Option, Some, None, Ok, Err, refl, sym, ◌∙◌, ap, subst, append-nil, inl, inr}
+use Rattle.std.proofs.Common.{◌≡◌, ◌⊎◌, ◌≤◌, ◌==◌, ℕ, true, false, List, [], ◌∷◌, ◌++◌, length, map, if◌then◌else◌, Option, Some, None, Ok, Err, refl, sym, ◌∙◌, ap, subst, append-nil, inl, inr}
 use Rattle.std.proofs.lemmas.List.{append_cancel_left}
-use Rattle.nfc_base.specs.declared.carrier.EndCause.{EndCause}
-use Rattle.nfc_base.specs.declared.carrier.EndCause.TheVariants as cause
 use Rattle.snep_core.specs.declared.fault.SnepFault.{SnepFault}
 use Rattle.snep_core.specs.declared.fault.SnepFault.TheVariants as faults
 use Rattle.snep_core.specs.declared.job.Ending.{Ending}
@@ -15,7 +13,7 @@ use Rattle.snep_core.specs.Accord.{Accords, AddsAtMost, AddsFrom, from_sap}
 use Rattle.snep_core.specs.Payloads.{accepted_from}
 use Rattle.snep_core.specs.Server.{Received, ServerState}
 use Rattle.snep_core.specs.declared.job.OnSap.{OnSap}
-use Rattle.snep_core.specs.Talk.{EndState, Task, Puts, Gets, Finds, client_sap, one_on, sap_of_slot}
+use Rattle.snep_core.specs.Talk.{EndState, Puts, Gets, Finds, client_sap, one_on, sap_of_slot}
 use Rattle.link_calls.specs.Asking.{Call, Finding, Getting, Putting, put_from}
 use Rattle.link_calls.specs.AtOnce.{AllPut, EachOf, PutSo, ServedAtOnce, is_from, told_on}
 use Rattle.link_calls.specs.Called.{Served}

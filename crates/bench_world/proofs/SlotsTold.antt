@@ -1,5 +1,5 @@
 -- What slots tell of messages that were put at once is what their jobs do.
-use Rattle.std.proofs.Common.{◌≡◌, ◌<◌, ◌+◌, ◌++◌, ℕ, Bool, true, false, List, [], ◌∷◌, append_assoc, drop, map, length, get_or, set, take, if◌then◌else◌, Option, Some, None, refl, sym, ◌∙◌, ap, subst, arith}
+use Rattle.std.proofs.Common.{◌≡◌, ◌<◌, ◌+◌, ◌++◌, ℕ, true, false, List, [], ◌∷◌, append_assoc, drop, map, length, get_or, set, take, if◌then◌else◌, Some, refl, sym, ◌∙◌, ap, subst, arith}
 use Rattle.std.specs.List.{All}
 use Rattle.std.proofs.Math.Seq.{take-append_seam}
 use Rattle.std.proofs.lemmas.List.{drop-set-lt, drop_more, take_more_set}
@@ -7,15 +7,13 @@ use Rattle.std.proofs.lemmas.List.Elements.{All-cons, All-nil, All-tail}
 use Rattle.snep_core.specs.declared.slot.Outcome.{Outcome}
 use Rattle.snep_core.specs.declared.slot.Outcome.TheVariants as outcomes
 use Rattle.snep_core.specs.declared.slot.Slot.{Slot}
-use Rattle.snep_core.specs.declared.slot.Slot.TheVariants.{Staged}
-use Rattle.snep_core.specs.Slots.{answered_as, has_staged, is_staged_at, job_from, marked, noted, outcome_of, slot_at, slot_count, told_by}
+use Rattle.snep_core.specs.Slots.{answered_as, has_staged, is_staged_at, job_from, marked, noted, outcome_of, slot_at, slot_count}
 use Rattle.snep_core.specs.declared.job.OnSap.{OnSap}
 use Rattle.snep_core.specs.Talk.{client_sap, sap_of_slot}
 use Rattle.snep_core.proofs.SlotPuts.{noted_there, slot_there}
 use Rattle.link_calls.specs.AtOnce.{AreApart, EachOf, IsAtRest, all_staged, told_on}
 use Rattle.link_calls.specs.declared.request.SlotMessage.{SlotMessage}
 use Rattle.link_calls.proofs.AtOnce.{each_waits, none_at}
-use Rattle.bench_world.specs.declared.entry.Answer.{Answer}
 use Rattle.bench_world.specs.declared.entry.Answer.TheVariants as answers
 use Rattle.bench_world.specs.declared.entry.SlotDone.{SlotDone}
 use Rattle.bench_world.specs.Calls.{all_done, done_before, told_at_once, told_one, told_several}

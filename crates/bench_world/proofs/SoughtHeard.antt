@@ -1,7 +1,6 @@
 -- A command that finds a Type 3 tag and asks it something: where all passes, each note behind the search is a whole answer.
-use Rattle.std.proofs.Common.{◌≡◌, ◌⊎◌, inl, inr, ℕ, List, [], length, Bool, true, Option, Some, None, Ok, refl, ◌∙◌, ap, subst}
+use Rattle.std.proofs.Common.{◌≡◌, ◌⊎◌, inl, inr, ℕ, List, [], length, true, Option, Some, None, refl, ◌∙◌, ap, subst}
 use Rattle.std.specs.List.{AllByRecursion}
-use Rattle.nfc_base.specs.Signal.{Signal}
 use Rattle.air_core.specs.Conversation.{AreTurns, EachDue, FatesFrom, Moment}
 use Rattle.t3t_tag.specs.Store.{IsT3Store}
 use Rattle.bench_script.specs.declared.command.Command.{Command}

@@ -1,5 +1,5 @@
 -- The stories of the links of a state, and what a stretch adds to them where it changes none, and where it puts messages.
-use Rattle.std.proofs.Common.{◌≡◌, ◌⊎◌, ℕ, ◌<◌, ◌≤◌, false, List, [], ◌∷◌, ◌++◌, map, length, drop, Option, Some, None, refl, sym, ◌∙◌, ap, subst}
+use Rattle.std.proofs.Common.{◌≡◌, ℕ, false, List, [], ◌++◌, map, length, drop, Option, Some, None, refl, sym, ◌∙◌, ap, subst}
 use Rattle.std.proofs.lemmas.List.{append-nil}
 use Rattle.std.proofs.Math.Seq.{drop-length, drop-append_seam}
 use Rattle.nfc_base.specs.declared.event.Event.{Event}
@@ -8,9 +8,6 @@ use Rattle.snep_core.specs.Payloads.{accepted_from}
 use Rattle.snep_core.specs.Server.{Received as Accepted}
 use Rattle.link_calls.specs.AtOnce.{AreApart, is_from}
 use Rattle.link_calls.specs.declared.request.SlotMessage.{SlotMessage}
-use Rattle.bench_world.specs.declared.entry.Answer.{Answer}
-use Rattle.bench_world.specs.declared.entry.Answer.TheVariants as answers
-use Rattle.bench_world.specs.declared.entry.Loss.{Loss}
 use Rattle.bench_world.specs.World.{FarEnd}
 use Rattle.bench_world.specs.Arrivals.{Arrival}
 use Rattle.bench_world.specs.Calls.{AllAdd, EachAdds, OfEnd}
@@ -22,7 +19,7 @@ use Rattle.bench_world.specs.Stories.{Opener, ByLink, ByForge, LinkPut, Story, S
 use Rattle.bench_world.proofs.AtNumbers.{Held, held, held_at}
 use Rattle.bench_world.proofs.PeersNumbered.{HavePlaces}
 use Rattle.bench_world.proofs.PutsTold.{AreTold, InStep, all_accept, all_in_step, with_all}
-use Rattle.bench_world.proofs.StoriesStand.{View, at, Closed, Opened, Open, IsInStep, in_step_keeps, closed_here, view_ended, came, went_on, open_came}
+use Rattle.bench_world.proofs.StoriesStand.{View, at, Closed, Opened, Open, IsInStep, closed_here, view_ended, came, went_on, open_came}
 use Rattle.bench_world.proofs.Tales.{accepted_of, accepted_in, gained_by, goes_on}
 
 abbrev pub view_at : Peers → List (Option FarEnd) → View

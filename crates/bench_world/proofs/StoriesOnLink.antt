@@ -32,7 +32,7 @@ use Rattle.bench_world.specs.World.{FarEnd, WholeWorld}
 use Rattle.bench_world.specs.Answering.{poll_answer}
 use Rattle.bench_world.specs.declared.entry.SlotDone.{SlotDone}
 use Rattle.bench_world.specs.Calls.{AllAdd, EachAdds, OfEnd, all_done, asked_behind, link_behind, slots_behind, stands_on, told_asked, told_at_once, told_call, told_done, told_each, told_jobs, told_one, told_several}
-use Rattle.bench_world.specs.Legal.{State, Joins, end_of}
+use Rattle.bench_world.specs.Legal.{State, end_of}
 use Rattle.bench_world.specs.Linking.{LinkTells, LinkEnds, TellsLoss, link_if}
 use Rattle.bench_world.specs.Links.{OpenLink, ended_unless, begun_if, end_numbered, accepted_at}
 use Rattle.bench_world.specs.Peers.{Peers, next_number, placed_under}

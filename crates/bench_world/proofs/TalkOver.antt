@@ -1,5 +1,5 @@
 -- What becomes of what is asked on the open link, by what its call on the field says.
-use Rattle.std.proofs.Common.{◌≡◌, ℕ, List, [], Bool, true, false, Result, Ok, Err, IfOk, IsErr, Option, Some, None, refl, sym, ◌∙◌, ap, subst, inl, inr}
+use Rattle.std.proofs.Common.{◌≡◌, ℕ, List, [], true, false, Result, Ok, Err, IfOk, IsErr, Option, Some, None, refl, sym, ◌∙◌, ap, subst, inl, inr}
 use Rattle.nfc_base.specs.Choosing.{Choosing}
 use Rattle.nfc_base.specs.declared.carrier.EndCause.{EndCause}
 use Rattle.nfc_base.specs.declared.carrier.EndCause.TheVariants as cause
@@ -15,7 +15,7 @@ use Rattle.snep_core.specs.declared.job.Job.TheVariants.{Over as Ended}
 use Rattle.snep_core.specs.Accord.{Accords}
 use Rattle.snep_core.specs.declared.slot.Slot.{Slot}
 use Rattle.snep_core.specs.declared.job.OnSap.{OnSap}
-use Rattle.snep_core.specs.Talk.{EndState, Ends, Task, Puts, Gets, Finds, all_closed, client_sap, closes, one_on, sap_of_slot}
+use Rattle.snep_core.specs.Talk.{EndState, Ends, Task, Puts, Gets, Finds, all_closed, client_sap, one_on, sap_of_slot}
 use Rattle.link_calls.specs.Asking.{LinkAsking, Call, Does, Closes, Finding, Getting, MayAsk, Putting, asking_of, call_begins, is_closing, put_from}
 use Rattle.link_calls.specs.AtOnce.{AreApart, IsAtRest, ServedAtOnce}
 use Rattle.link_calls.specs.Called.{AllCalled, AllFailed, Called, ClosingCalled, OpenAir, Served, TaskCalled}

@@ -5,9 +5,8 @@ use Rattle.std.specs.List.{All}
 use Rattle.std.proofs.lemmas.Bool.Decides.{nat_tests}
 use Rattle.std.proofs.lemmas.List.Elements.{All-head, All-tail}
 use Rattle.nfc_base.specs.declared.event.Event.{Event}
-use Rattle.snep_core.specs.Links.{Told}
 use Rattle.snep_core.specs.Server.{Received}
-use Rattle.link_calls.specs.Asking.{LinkAsking, Call, Does, Closes, Finding, Getting, Putting, put_from}
+use Rattle.link_calls.specs.Asking.{LinkAsking, Does, Closes, Finding, Getting, Putting, put_from}
 use Rattle.snep_core.specs.Slots.{slot_count}
 use Rattle.snep_core.specs.Talk.{sap_of_slot}
 use Rattle.link_calls.specs.AtOnce.{AreApart, is_from}
@@ -22,7 +21,6 @@ use Rattle.bench_world.specs.World.{FarEnd}
 use Rattle.bench_world.specs.Asked.{IsOnLink, asked_on_link, slot_messages}
 use Rattle.bench_world.specs.Calls.{AllAdd, PeerAdds, PeerMayAdd, asked_behind}
 use Rattle.bench_world.specs.Legal.{State, Accepts, IsSlotPut, last_slot}
-use Rattle.bench_world.specs.Links.{OpenLink}
 use Rattle.bench_world.specs.Stories.{NothingBegins, beginning, puts_in, puts_of, puts_told}
 use Rattle.bench_world.proofs.StoriesOnLink.{messages_of, tolds_of}
 use Rattle.bench_world.proofs.Talks.{off}

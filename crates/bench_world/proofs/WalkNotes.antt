@@ -1,10 +1,10 @@
 -- What is known while payloads are carried over a link, whoever gives them: the link ends by the loss of the field exactly where a Break was used;
 -- and it asks frames of whole bytes alone.
-use Rattle.std.proofs.Common.{◌≡◌, ℕ, ◌<◌, List, [], ◌∷◌, ◌++◌, refl, sym, subst}
+use Rattle.std.proofs.Common.{◌≡◌, ◌<◌, List, [], ◌∷◌, ◌++◌, refl, sym, subst}
 use Rattle.nfc_base.specs.declared.carrier.EndCause.TheVariants as cause
 use Rattle.nfc_base.specs.declared.event.Heard.{Heard}
 use Rattle.nfc_base.specs.Trace.{breaks}
-use Rattle.air_core.specs.Conversation.{AirModel, Note, Lit, Got, Lost, LightUp, IsDemand, Moment, Going}
+use Rattle.air_core.specs.Conversation.{AirModel, Note, Lit, Got, Lost, IsDemand, Moment, Going}
 use Rattle.air_core.proofs.LostField.{HasLost}
 use Rattle.dep_link.specs.declared.initiator.InitStep.{InitStep}
 use Rattle.dep_link.specs.declared.initiator.InitStep.TheVariants as steps

@@ -384,7 +384,13 @@ fn run_command(
         }
         Command::Raw { id, frames } => raw(alloc, machines, joins, id, frames.as_slice()),
         Command::Put { message } => put(alloc, machines, joins, message),
-        Command::Get { acceptable, key } => get(alloc, machines, joins, *acceptable, key.as_slice()),
+        Command::Get { acceptable, key } => get(
+            alloc,
+            machines,
+            joins,
+            *acceptable,
+            key.as_slice(),
+        ),
         Command::Lookup { name } => lookup(alloc, machines, joins, name.as_slice()),
         Command::OnPut { slot, message } => on_put(alloc, machines, joins, *slot, message),
         Command::OnGet {

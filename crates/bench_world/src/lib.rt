@@ -31,8 +31,8 @@ mod peers;
 mod pieces;
 mod raws;
 mod report;
-mod told;
 mod threes;
+mod told;
 
 pub use bench::{Bench, ObeyFault, Run};
 pub use bench_devices::{Device, SeenKind};

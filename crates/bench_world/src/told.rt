@@ -93,12 +93,18 @@ fn none_done(alloc: Global, messages: &[SlotMessage]) -> Result<Vec<SlotDone>, A
 }
 
 /// Room to tell of each of several messages that are put at once, before anything is sent.
-pub(crate) fn room_for(alloc: Global, request: &LinkRequest<'_>) -> Result<Vec<SlotDone>, AllocError>
+pub(crate) fn room_for(
+    alloc: Global,
+    request: &LinkRequest<'_>,
+) -> Result<Vec<SlotDone>, AllocError>
     ensures { IfOk result (λ v. HasRoom request.now v.items) }
 {
     match *request {
         LinkRequest::Run(messages) => none_done(alloc, messages),
-        LinkRequest::Put(_) | LinkRequest::Get { .. } | LinkRequest::Lookup(_) | LinkRequest::Close => Ok(Vec::new(alloc)),
+        LinkRequest::Put(_)
+        | LinkRequest::Get { .. }
+        | LinkRequest::Lookup(_)
+        | LinkRequest::Close => Ok(Vec::new(alloc)),
     }
 }
 
@@ -115,6 +121,9 @@ pub(crate) fn answer_to(
 {
     match *request {
         LinkRequest::Run(messages) => told_of(client, messages, done),
-        LinkRequest::Put(_) | LinkRequest::Get { .. } | LinkRequest::Lookup(_) | LinkRequest::Close => answer_of(ending),
+        LinkRequest::Put(_)
+        | LinkRequest::Get { .. }
+        | LinkRequest::Lookup(_)
+        | LinkRequest::Close => answer_of(ending),
     }
 }

@@ -1,10 +1,8 @@
 -- Messages that are put at once, each from a slot.
-use Rattle.std.proofs.Common.{◌≡◌, ◌<◌, ◌≤◌, ◌≢◌, ◌⊎◌, ◌==◌, ◌||◌, ◌+◌, ◌-◌, ◌++◌, ℕ, zero, suc, nat_lt, Bool, true, false, List, [], ◌∷◌, length, replicate, set, get_or, if◌then◌else◌, Option, Some, None, Result, Ok, Err, OnOk, refl, sym, ◌∙◌, ap, subst, append-nil, arith, inl, inr}
-use Rattle.std.proofs.lemmas.Bool.{eqb-true, ne_eqb, le-ltb, lt-ltb, ltb-false, ltb-true}
+use Rattle.std.proofs.Common.{◌≡◌, ◌<◌, ◌≤◌, ◌≢◌, ◌⊎◌, ◌==◌, ◌||◌, ◌+◌, ◌-◌, ℕ, zero, suc, nat_lt, Bool, true, false, List, [], ◌∷◌, length, replicate, set, if◌then◌else◌, Some, None, Result, Ok, Err, OnOk, refl, sym, ◌∙◌, ap, subst, append-nil, arith, inl, inr}
+use Rattle.std.proofs.lemmas.Bool.{ne_eqb, ltb-false, ltb-true}
 use Rattle.std.proofs.lemmas.Bool.Decides.{nat_tests}
 use Rattle.std.proofs.lemmas.List.{get_or-set_other, get_or-set_same, length-set}
-use Rattle.nfc_base.specs.declared.carrier.EndCause.{EndCause}
-use Rattle.nfc_base.specs.declared.carrier.EndCause.TheVariants as cause
 use Rattle.snep_core.specs.declared.fault.SnepFault.{SnepFault}
 use Rattle.snep_core.specs.declared.fault.SnepFault.TheVariants as faults
 use Rattle.snep_core.specs.declared.job.Ending.{Ending}
@@ -14,8 +12,7 @@ use Rattle.snep_core.specs.declared.job.Job.TheVariants.{Over}
 use Rattle.snep_core.specs.declared.job.Refusal.TheVariants as refusals
 use Rattle.snep_core.specs.declared.slot.Outcome.{Outcome}
 use Rattle.snep_core.specs.declared.slot.Outcome.TheVariants as outcomes
-use Rattle.snep_core.specs.Accord.{AddsFrom, IsClientSap, IsRun, PeerState, RunAdds, RunFails, SlotTells, TellsOf}
-use Rattle.snep_core.specs.Calling.{slots_left}
+use Rattle.snep_core.specs.Accord.{AddsFrom, IsRun, PeerState, RunAdds, RunFails, SlotTells, TellsOf}
 use Rattle.snep_core.specs.Payloads.{accepted_from}
 use Rattle.snep_core.specs.Server.{Received}
 use Rattle.snep_core.specs.declared.slot.Slot.{Slot}
@@ -23,8 +20,8 @@ use Rattle.snep_core.specs.declared.slot.Slot.TheVariants.{NoMessage, Rejected, 
 use Rattle.snep_core.specs.Slots.{NoneStaged, all_puts, answered_as, fresh_slots, has_staged, is_staged_at, job_from, marked, noted, noted_from, put_with, puts_from, slot_at, slot_count, staged_on, told_by, put_alone}
 use Rattle.snep_core.specs.declared.job.OnSap.{OnSap}
 use Rattle.snep_core.specs.Talk.{EndState, Puts, TaskOn, client_sap, one_on, sap_of_slot}
-use Rattle.snep_core.proofs.SlotPuts.{noted_length, noted_there, slot_of, slot_there}
-use Rattle.link_calls.specs.AtOnce.{AllAnswered, AllPut, AreApart, EachOf, IsAtRest, PutSo, ServedAtOnce, all_staged, is_from, puts_at_once, told_on}
+use Rattle.snep_core.proofs.SlotPuts.{noted_length, noted_there, slot_there}
+use Rattle.link_calls.specs.AtOnce.{AllPut, AreApart, EachOf, IsAtRest, PutSo, ServedAtOnce, all_staged, is_from, puts_at_once, told_on}
 use Rattle.link_calls.specs.Called.{SlotsTold, came_to}
 use Rattle.link_calls.specs.declared.request.SlotMessage.{SlotMessage}
 

@@ -1,5 +1,5 @@
 -- What messages that are put at once over the open link of a field come to.
-use Rattle.std.proofs.Common.{◌≡◌, ℕ, List, Result, Ok, Err, OnOk, IfErr, Option, None, refl, sym, subst}
+use Rattle.std.proofs.Common.{◌≡◌, ℕ, List, Result, Ok, Err, OnOk, IfErr, None, refl, sym, subst}
 use Rattle.nfc_base.specs.Choosing.{Choosing}
 use Rattle.air_core.specs.Turn.{Air}
 use Rattle.air_core.specs.declared.listener.Listener.{Ghosts}

@@ -1,5 +1,5 @@
 -- What is said of a call of which want of memory left nothing done.
-use Rattle.std.proofs.Common.{◌≡◌, ℕ, List, [], length, refl, ap, subst, sym, inl, inr}
+use Rattle.std.proofs.Common.{◌≡◌, ℕ, List, [], refl, subst, sym, inl}
 use Rattle.std.proofs.Math.Seq.{drop-length}
 use Rattle.nfc_base.specs.Choosing.{Choosing}
 use Rattle.nfc_base.specs.declared.event.Event.{Event}

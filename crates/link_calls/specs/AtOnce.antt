@@ -1,6 +1,6 @@
 -- Messages that are put at once on an open link, each from the slot that it names: what is put, and what a peer that serves as this
 -- project's server does accepts of it (NFC Forum SNEP 1.0; that a client has slots is this project's own).
-use Rattle.std.specs.Prelude.{◌≡◌, ◌<◌, ◌≤◌, ◌==◌, ◌||◌, ℕ, Bool, true, false, List, [], ◌∷◌, ◌++◌, length, Result, Ok, Err}
+use Rattle.std.specs.Prelude.{◌≡◌, ◌<◌, ◌≤◌, ◌==◌, ◌||◌, ℕ, Bool, false, List, [], ◌∷◌, ◌++◌, length, Result, Ok, Err}
 use Rattle.snep_core.specs.declared.fault.SnepFault.{SnepFault}
 use Rattle.snep_core.specs.declared.fault.SnepFault.TheVariants.{LinkEnded, Memory}
 use Rattle.snep_core.specs.declared.slot.Outcome.{Outcome}

@@ -1,4 +1,4 @@
-use Rattle.std.proofs.Common.{rules, ◌≡◌, sym, ◌∙◌, subst}
+use Rattle.std.proofs.Common.{rules, ◌≡◌, sym, subst}
 use Rattle.link_calls.specs.AtOnce.{AreApart}
 use Rattle.bench_world.specs.Asked.{slot_messages}
 use Rattle.bench_world.specs.Legal.{MayPuts}

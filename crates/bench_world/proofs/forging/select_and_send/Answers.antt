@@ -9,7 +9,7 @@ use Rattle.bench_devices.specs.Device.{is_tag}
 use Rattle.bench_world.specs.declared.entry.Answer.TheVariants as answers
 use Rattle.bench_world.specs.Answering.{poll_answer}
 use Rattle.bench_world.specs.ForgedAt.{ForgeStops}
-use Rattle.bench_world.specs.Legal.{Joins, MayForge}
+use Rattle.bench_world.specs.Legal.{Joins}
 use Rattle.bench_world.specs.Obeying.{Machines, IsSettled, ObeyedBy, state_at}
 use Rattle.bench_world.specs.contracts.machines.Machines.{the_view}
 use Rattle.bench_world.proofs.Legality.{missed_part}

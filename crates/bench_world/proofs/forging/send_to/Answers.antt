@@ -1,9 +1,6 @@
-use Rattle.std.proofs.Common.{rules, ◌≡◌, ◌<◌, ◌++◌, [], ◌∷◌, ℕ, List, length, get_or, if◌then◌else◌, Some, None, refl, sym, ◌∙◌, ap, subst, map}
-use Rattle.std.specs.Prelude.{is_ok, slice_set}
+use Rattle.std.proofs.Common.{rules, ◌≡◌, ◌<◌, ◌++◌, [], ◌∷◌, ℕ, length, get_or, if◌then◌else◌, Some, None, sym, ◌∙◌, ap, subst}
+use Rattle.std.specs.Prelude.{slice_set}
 use Rattle.std.proofs.lemmas.List.{length-map}
-use Rattle.nfc_base.specs.Choosing.{Choosing}
-use Rattle.far_air.specs.FarEnds.{rests}
-use Rattle.peer_air.specs.PeerFars.{peer_ends}
 use Rattle.snep_core.specs.Server.{Received as Accepted, ServerState, messages_of}
 use Rattle.bench_world.specs.declared.inbox.LinkRange.{LinkRange}
 use Rattle.bench_world.specs.ForgedAt.{SendsAll, SendsTo, left_by}

@@ -1,12 +1,10 @@
-use Rattle.std.proofs.Common.{◌≡◌, ◌<◌, ℕ, List, [], true, false, Some, None, Err, sym, ◌∙◌, ap, subst}
+use Rattle.std.proofs.Common.{◌≡◌, ℕ, List, [], true, false, Some, None, Err, sym, ◌∙◌, ap, subst}
 use Rattle.std.specs.Prelude.{IfOk, OnErr}
 use Rattle.air_core.specs.Turn.{moment}
 use Rattle.bench_script.specs.declared.command.Command.TheVariants.{Raw}
-use Rattle.bench_script.specs.declared.command.DeviceId.TheVariants.{A}
 use Rattle.bench_devices.specs.declared.polling.Selection.{Selection}
 use Rattle.bench_devices.specs.Phases.{Selects, SelectsAt, SelectsTo, SelectionCut}
 use Rattle.bench_devices.specs.Device.{is_tag}
-use Rattle.bench_world.specs.declared.entry.Answer.TheVariants as answers
 use Rattle.bench_world.specs.Answering.{poll_answer}
 use Rattle.bench_world.specs.RawAt.{RawStops}
 use Rattle.bench_world.specs.Legal.{Joins, MayRaw}

@@ -1,6 +1,5 @@
-use Rattle.std.proofs.Common.{rules, ◌≡◌, ◌<◌, ℕ, List, length, get_or, Some, None, refl, sym, ◌∙◌, ap, subst}
+use Rattle.std.proofs.Common.{rules, ◌≡◌, ◌<◌, ℕ, length, get_or, Some, None, sym, ◌∙◌, ap, subst}
 use Rattle.std.specs.Prelude.{slice_set}
-use Rattle.nfc_base.specs.Choosing.{Choosing}
 use Rattle.bench_world.specs.LinkedAt.{moved_at}
 use Rattle.bench_world.specs.Obeying.{Machines}
 use Rattle.bench_world.specs.RawAt.{RawBeside, SendsCounted}

@@ -1,9 +1,8 @@
-use Rattle.std.proofs.Common.{rules, ◌≡◌, ◌<◌, ◌++◌, ◌+◌, ℕ, List, [], ◌∷◌, drop, get_or, length, Some, Ok, Err, refl, sym, ◌∙◌, ap, subst, arith}
+use Rattle.std.proofs.Common.{rules, ◌≡◌, ◌<◌, ◌++◌, ◌+◌, ℕ, List, [], ◌∷◌, drop, get_or, length, Err, sym, ◌∙◌, ap, subst, arith}
 use Rattle.std.proofs.lemmas.List.{drop_all, drop_more}
 use Rattle.nfc_base.specs.Signal.{Signal}
-use Rattle.air_core.specs.Turn.{Transmits, TurnIs}
+use Rattle.air_core.specs.Turn.{Transmits}
 use Rattle.bench_devices.specs.Device.{devices}
-use Rattle.bench_world.specs.declared.entry.RawHeard.{RawHeard}
 use Rattle.bench_world.specs.Rawing.{raw_heard}
 use Rattle.bench_world.proofs.RawSending.{Sending, sending_begins, sending_lost, sending_over, sending_rests, sending_then, sending_wanting}
 use Rattle.bench_world.proofs.raws.send_each.Goals as goal

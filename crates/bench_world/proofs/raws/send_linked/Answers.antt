@@ -1,4 +1,4 @@
-use Rattle.std.proofs.Common.{◌≡◌, List, ℕ, Ok, Err, refl, sym, ◌∙◌, ap, subst}
+use Rattle.std.proofs.Common.{◌≡◌, List, ℕ, ◌∙◌, ap, subst}
 use Rattle.dep_link.specs.Activating.{by_cause}
 use Rattle.llcp_link.specs.Counting.{AnswersCounted, RestartsCounted}
 use Rattle.llcp_pdu.specs.General.{general_bytes}

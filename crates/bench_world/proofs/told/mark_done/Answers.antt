@@ -1,4 +1,4 @@
-use Rattle.std.proofs.Common.{rules, ◌≡◌, ◌<◌, ℕ, List, length, get_or, false, refl, sym, ◌∙◌, ap, arith}
+use Rattle.std.proofs.Common.{◌≡◌, ◌<◌, ℕ, List, length, get_or, false, ◌∙◌, ap, arith}
 use Rattle.snep_core.specs.Slots.{slot_count}
 use Rattle.bench_world.specs.declared.entry.SlotDone.{SlotDone}
 use Rattle.bench_world.specs.LinkTaken.{is_success, marked_done}

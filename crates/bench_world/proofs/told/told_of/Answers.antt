@@ -1,9 +1,9 @@
-use Rattle.std.proofs.Common.{rules, ◌≡◌, ◌<◌, List, map, length, sym, ◌∙◌, ap, subst}
+use Rattle.std.proofs.Common.{rules, ◌≡◌, ◌<◌, map, length, sym, ◌∙◌, ap, subst}
 use Rattle.std.specs.List.{All}
 use Rattle.snep_core.specs.Slots.{slot_count}
 use Rattle.bench_world.specs.declared.entry.Answer.TheVariants as answers
 use Rattle.bench_world.specs.declared.entry.SlotDone.{SlotDone}
-use Rattle.bench_world.specs.LinkTaken.{marked_done, not_yet}
+use Rattle.bench_world.specs.LinkTaken.{marked_done}
 use Rattle.std.proofs.lemmas.List.{length-map}
 use Rattle.bench_world.proofs.SlotsTold.{done_within, several_by_slot, written_all}
 use Rattle.bench_world.proofs.told.told_of.Goals as goal
