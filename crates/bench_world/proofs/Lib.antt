@@ -100,7 +100,7 @@ pub mod PayloadsWithin
 pub mod SameStories
 pub mod LinkLaw
 mod Covered
-mod LinksAccepted
+pub mod LinksAccepted
 pub mod Unfinished
 pub mod CutArrivals
 pub mod CutLinks

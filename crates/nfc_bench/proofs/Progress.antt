@@ -19,7 +19,7 @@ use Rattle.bench_world.specs.Legal.{State, Joins, Given, CutOff, no_joins}
 use Rattle.bench_world.specs.Unfinished.{Unfinished}
 use Rattle.bench_world.specs.Obeying.{Benched, Spoils, begun_anew, new_bench}
 use Rattle.bench_world.specs.Report.{report_text}
-use Rattle.bench_world.proofs.LinkLaw.{link_law}
+use Rattle.bench_world.proofs.LinksAccepted.{link_law}
 use Rattle.bench_world.proofs.OneJournal.{one_legal}
 use Rattle.bench_script.specs.Limits.{most_lines, longest_line, AreWithinLimits}
 use Rattle.nfc_bench.specs.Run.{AreObeyed, IsCutAt, IsRunOf, ReadsInTime, StopsAt}
