@@ -1,2 +1,4 @@
 pub mod Counting
 pub mod Kept
+pub mod Payload
+pub mod Pieces
