@@ -32,7 +32,8 @@ use Rattle.bench_world.specs.declared.entry.Loss.TheVariants as losses
 use Rattle.bench_world.specs.World.{FarEnd, stable}
 use Rattle.bench_world.specs.Calls.{OfEnd, told_loss, told_step, with_accepted}
 use Rattle.bench_world.specs.Links.{OpenLink}
-use Rattle.bench_world.specs.Legal.{Joins, CutCame, CutFront, CutStores, HaltAdds, PeerHalts, LeavesStable, end_of, world_after}
+use Rattle.bench_world.specs.Legal.{Joins, CutCame, CutFront, CutStores, LeavesStable, end_of, world_after}
+use Rattle.bench_world.specs.Halting.{HaltAdds, PeerHalts}
 use Rattle.bench_world.specs.Obeying.{Machines, IsSettled, ObeyedBy, state_at, under}
 use Rattle.bench_world.specs.Opened.{IsOpen}
 use Rattle.bench_world.specs.Peers.{Peers}

@@ -34,7 +34,8 @@ use Rattle.bench_world.specs.Asked.{IsOnLink, asked_on_link, slot_messages}
 use Rattle.bench_world.specs.Forging.{forged_general, opens_link}
 use Rattle.bench_script.specs.declared.command.DeviceId.TheVariants.{A}
 use Rattle.bench_world.proofs.ForgeLeft.{forged_numbers}
-use Rattle.bench_world.specs.Legal.{State, Given, Joins, CutCall, CutLeft, CutShort, CutStores, ForgeCutLeaves, FrontOf, Halts, LeavesStable, changed, link_after, peers_left, world_after}
+use Rattle.bench_world.specs.Legal.{State, Given, Joins, CutCall, CutLeft, CutShort, CutStores, ForgeCutLeaves, FrontOf, LeavesStable, changed, link_after, peers_left, world_after}
+use Rattle.bench_world.specs.Halting.{Halts}
 use Rattle.bench_world.specs.LinkLaw.{cut_stretch}
 use Rattle.bench_world.specs.Links.{OpenLink, end_numbered}
 use Rattle.bench_world.specs.Peers.{Peers, placed_under}

@@ -15,7 +15,8 @@ use Rattle.snep_core.specs.Talk.{client_sap, sap_of_slot}
 use Rattle.bench_script.specs.Messages.{message_of}
 use Rattle.bench_world.specs.Asked.{IsOnLink, asked_on_link, slot_messages}
 use Rattle.bench_world.specs.Calls.{OfEnd, PeerMayAdd}
-use Rattle.bench_world.specs.Legal.{State, Given, Joins, Accepts, CutFront, begun, CutLeft, CutShort, EachLegal, CutStores, ForgeCutLeaves, ForgeHalts, FrontOf, HaltAdded, HaltLeaves, Halts, PeerHalts, end_of, first_state, state_after, world_after, RawHalts}
+use Rattle.bench_world.specs.Legal.{State, Given, Joins, Accepts, CutFront, begun, CutLeft, CutShort, EachLegal, CutStores, ForgeCutLeaves, FrontOf, end_of, first_state, state_after, world_after}
+use Rattle.bench_world.specs.Halting.{ForgeHalts, HaltAdded, HaltLeaves, Halts, PeerHalts, RawHalts}
 use Rattle.bench_world.specs.Rawing.{raw_opens}
 use Rattle.bench_devices.specs.AnyFrame.{peer_place, peers_in}
 use Rattle.bench_devices.proofs.AnyFrame.{place_stays}

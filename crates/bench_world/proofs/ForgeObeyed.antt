@@ -78,7 +78,8 @@ use Rattle.bench_world.specs.Arriving.{ArrivesWithin, ArrivesCutWithin}
 use Rattle.bench_world.specs.Calls.{OfEnd, told_loss, with_accepted}
 use Rattle.bench_world.specs.ForgedAt.{ForgeStops}
 use Rattle.bench_world.specs.Forging.{Forging, Activates, Exchanges, Unlinked, ForgeEnds, ForgeTells, forge_due, forge_stand, forged_general, forging, is_linked, linked_then, opens_link, then_forges, told_forging, told_walk}
-use Rattle.bench_world.specs.Legal.{State, Given, Joins, MayForge, CutFront, ForgeCutLeaves, ForgeHalts, ForgeLaw, ForgeLeaves, FrontOf, LeavesStable, peers_after, peers_forged, world_after}
+use Rattle.bench_world.specs.Legal.{State, Given, Joins, MayForge, CutFront, ForgeCutLeaves, ForgeLaw, ForgeLeaves, FrontOf, LeavesStable, peers_after, peers_forged, world_after}
+use Rattle.bench_world.specs.Halting.{ForgeHalts}
 use Rattle.bench_world.specs.Linking.{IsFieldLost}
 use Rattle.bench_world.specs.Links.{accepted_at, accepted_by, end_numbered, with_link, with_link_if, with_link_within}
 use Rattle.bench_world.specs.Obeying.{Machines, HasPlaces, ObeyedBy, linked_at, state_at, under}

@@ -10,7 +10,8 @@ use Rattle.bench_world.specs.Arriving.{ArrivesWithin, ArrivesCutWithin}
 use Rattle.bench_world.specs.Calls.{with_accepted}
 use Rattle.bench_world.specs.ForgedAt.{ForgeStops}
 use Rattle.bench_world.specs.Forging.{forged_general, opens_link}
-use Rattle.bench_world.specs.Legal.{State, Joins, CutOff, ForgeCutLeaves, ForgeHalts, ForgeLeaves, peers_forged, state_after, unlinked, world_after}
+use Rattle.bench_world.specs.Legal.{State, Joins, ForgeCutLeaves, ForgeLeaves, peers_forged, state_after, unlinked, world_after}
+use Rattle.bench_world.specs.Halting.{CutOff, ForgeHalts}
 use Rattle.bench_world.specs.Links.{with_link_if}
 use Rattle.bench_world.specs.Obeying.{Machines, IsSettled, link_ended, state_at}
 use Rattle.bench_world.specs.Peers.{Peers, placed_under}

@@ -44,7 +44,8 @@ use Rattle.bench_world.specs.Calls.{IsTold, OfEnd, link_behind, slots_behind, st
 use Rattle.bench_world.specs.Links.{OpenLink, accepted_by, end_numbered, ended, ended_unless, with_last_ended}
 use Rattle.bench_world.specs.Arriving.{ArrivesAt, ArrivesCutAt}
 use Rattle.bench_world.specs.Asked.{IsOnLink}
-use Rattle.bench_world.specs.Legal.{State, Given, Joins, Accepts, AnswerLaw, Came, CutCame, CutFront, CutStores, FrontOf, HaltAdds, HaltLeaves, IsAskedBy, LeavesStable, PeerHalts, begun, changed, due, end_of, joins_for, link_after, peers_after, state_after, world_after}
+use Rattle.bench_world.specs.Legal.{State, Given, Joins, Accepts, AnswerLaw, Came, CutCame, CutFront, CutStores, FrontOf, IsAskedBy, LeavesStable, begun, changed, due, end_of, joins_for, link_after, peers_after, state_after, world_after}
+use Rattle.bench_world.specs.Halting.{HaltAdds, HaltLeaves, PeerHalts}
 use Rattle.bench_world.specs.Obeying.{Machines, HasPlaces, IsSettled, KeepsLink, ObeyedBy, linked_at, state_at, under}
 use Rattle.bench_world.specs.Opened.{AreNumbered, AreServed}
 use Rattle.bench_world.specs.Peers.{Peers, next_number}

@@ -36,7 +36,8 @@ use Rattle.bench_world.specs.declared.entry.Loss.TheVariants as losses
 use Rattle.bench_world.specs.World.{FarEnd, WholeWorld}
 use Rattle.bench_world.specs.Calls.{stands_closing, told_closing, told_loss}
 use Rattle.bench_world.specs.Links.{OpenLink, accepted_by, ended, with_last_ended}
-use Rattle.bench_world.specs.Legal.{Joins, CutFront, HaltAdds, Halts, due, peers_after, world_after}
+use Rattle.bench_world.specs.Legal.{Joins, CutFront, due, peers_after, world_after}
+use Rattle.bench_world.specs.Halting.{HaltAdds, Halts}
 use Rattle.bench_world.specs.Obeying.{Machines, IsCutOffBy, IsSettled, ObeyedBy, state_at, under}
 use Rattle.bench_world.specs.Peers.{Peers}
 use Rattle.bench_world.specs.World.{bench_air}

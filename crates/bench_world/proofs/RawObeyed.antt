@@ -50,7 +50,8 @@ use Rattle.bench_world.specs.declared.entry.Loss.TheVariants as losses
 use Rattle.bench_world.specs.declared.entry.RawHeard.{RawHeard}
 use Rattle.bench_world.specs.Calls.{with_accepted}
 use Rattle.bench_world.specs.Forging.{forged_general}
-use Rattle.bench_world.specs.Legal.{State, Joins, IsPeerPlaced, MayRaw, CutFront, RawHalts, RawOpensPeer, halted_at, peers_after, peers_forged}
+use Rattle.bench_world.specs.Legal.{State, Joins, IsPeerPlaced, MayRaw, CutFront, RawOpensPeer, peers_after, peers_forged}
+use Rattle.bench_world.specs.Halting.{RawHalts, halted_at}
 use Rattle.bench_world.specs.Linking.{IsFieldLost}
 use Rattle.bench_world.specs.Obeying.{Machines, HasPlaces, ObeyedBy, state_at, under}
 use Rattle.bench_world.specs.Peers.{Peers, next_number}

@@ -10,7 +10,8 @@ use Rattle.bench_script.specs.declared.command.DeviceId.{DeviceId}
 use Rattle.bench_script.specs.DeviceIds.{bytes_of}
 use Rattle.bench_world.specs.declared.entry.Answer.{Answer}
 use Rattle.bench_world.specs.Calls.{with_accepted}
-use Rattle.bench_world.specs.Legal.{State, Joins, CutOff, RawHalts, peers_forged, state_after, unlinked, world_after}
+use Rattle.bench_world.specs.Legal.{State, Joins, peers_forged, state_after, unlinked, world_after}
+use Rattle.bench_world.specs.Halting.{CutOff, RawHalts}
 use Rattle.bench_world.specs.Links.{with_link_if}
 use Rattle.bench_world.specs.Obeying.{Machines, IsSettled, link_ended, state_at}
 use Rattle.bench_world.specs.Peers.{Peers, placed_under}

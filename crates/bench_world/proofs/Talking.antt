@@ -20,7 +20,8 @@ use Rattle.bench_world.specs.declared.entry.Loss.TheVariants as losses
 use Rattle.bench_world.specs.World.{FarEnd}
 use Rattle.bench_world.specs.Asked.{asked_on_link}
 use Rattle.bench_world.specs.Calls.{CallAdds, CallMayAdd, CallTells, told_jobs, told_loss}
-use Rattle.bench_world.specs.Legal.{Accepts, AnswerBy, CallLaw, CutFront, CutLeft, CutCall, CutShort, HaltAdded, Halts, Joins, PeerHalts, joins_by, due_by, link_left, peers_left}
+use Rattle.bench_world.specs.Legal.{Accepts, AnswerBy, CallLaw, CutFront, CutLeft, CutCall, CutShort, Joins, joins_by, due_by, link_left, peers_left}
+use Rattle.bench_world.specs.Halting.{HaltAdded, Halts, PeerHalts}
 use Rattle.bench_world.specs.Links.{OpenLink}
 use Rattle.bench_world.specs.Obeying.{Machines, IsCutOffBy, IsSettled, ObeyedBy, state_at, under}
 use Rattle.bench_world.specs.Peers.{Peers}

@@ -1,6 +1,7 @@
 -- What a command that want of memory cut off leaves of what devices hold.
 use Rattle.bench_world.specs.Forging.{opens_link}
-use Rattle.bench_world.specs.Legal.{ForgeHalts, RawHalts, begun, halted_at}
+use Rattle.bench_world.specs.Legal.{begun}
+use Rattle.bench_world.specs.Halting.{ForgeHalts, RawHalts, halted_at}
 use Rattle.nfc_base.specs.Signal.{Signal}
 use Rattle.bench_world.proofs.ForgeLeft.{cut_devices}
 use Rattle.std.proofs.Common.{Err, ◌≡◌, ℕ, zero, suc, List, [], ◌∷◌, map, Option, Some, None, inl, inr, refl, sym, ◌∙◌, ap, subst}
@@ -25,7 +26,8 @@ use Rattle.link_calls.specs.Asking.{LinkAsking, Does, Closes, Finding, Getting, 
 use Rattle.bench_world.specs.Asked.{IsOnLink, slot_messages}
 use Rattle.bench_world.specs.Calls.{IfLinked}
 use Rattle.bench_world.specs.Links.{OpenLink}
-use Rattle.bench_world.specs.Legal.{State, Given, Joins, CutCall, CutFront, CutOff, CutShort, CutStores, FrontOf, LeavesStable, PeerHalts, StoresLaw, Stores3Law, changed, world_after}
+use Rattle.bench_world.specs.Legal.{State, Given, Joins, CutCall, CutFront, CutShort, CutStores, FrontOf, LeavesStable, StoresLaw, Stores3Law, changed, world_after}
+use Rattle.bench_world.specs.Halting.{CutOff, PeerHalts}
 use Rattle.bench_world.specs.Unfinished.{Write3Unfinished, Unfinished, WriteUnfinished}
 use Rattle.bench_world.specs.Writing.{KeepsStores}
 use Rattle.bench_world.proofs.FarStays.{all_stay, all_still, far_stay, stays_any}

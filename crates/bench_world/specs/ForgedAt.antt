@@ -23,7 +23,8 @@ use Rattle.bench_world.specs.declared.entry.Answer.TheVariants as answers
 use Rattle.bench_world.specs.declared.entry.Loss.TheVariants as losses
 use Rattle.bench_world.specs.World.{FarEnd}
 use Rattle.bench_world.specs.Forging.{forged_general}
-use Rattle.bench_world.specs.Legal.{State, Joins, CutFront, ForgeHalts}
+use Rattle.bench_world.specs.Legal.{State, Joins, CutFront}
+use Rattle.bench_world.specs.Halting.{ForgeHalts}
 use Rattle.bench_world.specs.LinkedAt.{moved_at}
 use Rattle.bench_world.specs.Links.{with_link}
 use Rattle.bench_world.specs.Obeying.{Machines}

@@ -1,14 +1,11 @@
 -- Which entries a bench may have: what it accepts, what each command changes, which request is due, and what it
 -- answers. A later command adds a case to each definition.
-use Rattle.std.specs.Prelude.{◌≡◌, ◌⊎◌, Err, ℕ, zero, suc, ◌+◌, ◌*◌, ◌-◌, ◌^◌, ◌<◌, ◌≤◌, get_or, List, [], ◌∷◌, ◌++◌, length, replicate, Option, Some, None, IsSome, Bool, true, false, if◌then◌else◌}
+use Rattle.std.specs.Prelude.{◌≡◌, Err, ℕ, ◌+◌, ◌*◌, ◌-◌, ◌^◌, ◌<◌, ◌≤◌, List, [], ◌∷◌, ◌++◌, length, replicate, Option, Some, None, IsSome, Bool, true, false, if◌then◌else◌}
 use Rattle.std.specs.List.{All}
 use Rattle.nfc_base.specs.declared.event.Event.{Event}
-use Rattle.nfc_base.specs.declared.event.Event.TheVariants.{Request}
 use Rattle.nfc_base.specs.declared.event.Fate.{Fate}
-use Rattle.nfc_base.specs.declared.event.Fate.TheVariants.{Pass}
 use Rattle.nfc_base.specs.Signal.{Signal}
-use Rattle.air_core.specs.World.{stepped_by}
-use Rattle.air_core.specs.Conversation.{Note, Next, Over, Asks, first_fate, later_fates, receptions, replay, queue_after, AreTurns, FatesFrom, EachDue}
+use Rattle.air_core.specs.Conversation.{Note, Next, Over, receptions, replay, queue_after, AreTurns, FatesFrom, EachDue}
 use Rattle.t2t_tag.specs.Store.{IsT2Store}
 use Rattle.t3t_tag.specs.Store as three
 use Rattle.t4t_tag.specs.Store.{IsT4Store, file_size}
@@ -22,7 +19,7 @@ use Rattle.bench_devices.specs.declared.device.Device.{Device}
 use Rattle.bench_world.specs.declared.entry.Answer.{Answer}
 use Rattle.bench_world.specs.declared.entry.Answer.TheVariants as answers
 use Rattle.bench_world.specs.declared.entry.Entry.{Entry}
-use Rattle.bench_devices.specs.AnyFrame.{peer_place, peers_in}
+use Rattle.bench_devices.specs.AnyFrame.{peers_in}
 use Rattle.bench_devices.specs.Device.{devices, most_devices, new_t2, new_t3, new_t4, new_t5, new_peer, blocks_of, device_locked, may_be_busy, device_busy, is_tag, memory_in}
 use Rattle.isodep_link.specs.Card.{most_busy}
 use Rattle.isodep_link.specs.Reader.{longest_extension}
@@ -34,7 +31,6 @@ use Rattle.bench_script.specs.declared.command.SlotPut.{SlotPut}
 use Rattle.bench_script.specs.Messages.{message_of}
 use Rattle.bench_devices.specs.Polling.{asks, finding_all}
 use Rattle.bench_devices.specs.Sensing.{sensing}
-use Rattle.bench_devices.specs.Beside.{TalkLeaves}
 use Rattle.bench_devices.specs.Placed.{device_with, without, with_changed, OfPlaced, IfPlaced}
 use Rattle.bench_devices.specs.Keeping.{AllKeepBut}
 use Rattle.tag_writer.specs.Law.{Ending, Stopped}
@@ -50,10 +46,10 @@ use Rattle.bench_world.specs.Peers.{Peers, no_peers, with_tag, with_peer, withou
 use Rattle.snep_core.specs.Server.{Received as Accepted}
 use Rattle.bench_script.specs.Script.{SpellsName, longest_message, longest_payload, most_payloads, least_puts, most_puts, most_frames}
 use Rattle.bench_devices.specs.Opening.{linking}
-use Rattle.bench_world.specs.Links.{OpenLink, ended, is_with, end_numbered, begun_if, ended_unless, with_link_if, with_link_within}
+use Rattle.bench_world.specs.Links.{OpenLink, ended, is_with, end_numbered, begun_if, ended_unless, with_link_if}
 use Rattle.bench_world.specs.Linking.{LinkTells, link_if, own_general}
 use Rattle.link_calls.specs.Asking.{LinkAsking}
-use Rattle.bench_world.specs.Asked.{IsOnLink, asked_on_link}
+use Rattle.bench_world.specs.Asked.{asked_on_link}
 use Rattle.bench_world.specs.Calls.{IfLinked, IsTold, OfEnd, PeerAdds, PeerMayAdd, PeerTells, asked_behind, due_asked, due_if, told_asked, with_accepted}
 use Rattle.bench_world.specs.Arriving.{ArrivesAt, ArrivesCutAt, ArrivesCutWithin, ArrivesWithin, BeginsAt}
 use Rattle.bench_world.specs.Forging.{ForgeTells, forged_general, forging, opens_link}
@@ -675,127 +671,6 @@ CutShort joins s (Write id message) cut t = CutFrontBy (λ asked. CutTag id aske
 CutShort joins s (Read3 id) cut t = CutFrontBy (λ asked. CutThree id asked cut) joins s (Read3 id) cut t
 CutShort joins s (Write3 id message) cut t = CutFrontBy (λ asked. CutThree id asked cut) joins s (Write3 id message) cut t
 CutShort joins s c cut t = CutFront joins s c cut t
-
--- What a command may add at most to what the peer's server accepted, at which its end stopped.
-abbrev pub HaltAdded : Option LinkAsking → FarEnd → List Accepted → Type 0
-HaltAdded None end more = more ≡ []
-HaltAdded (Some asked) end more = PeerMayAdd asked end more
-
-abbrev pub HaltAdds : Command → FarEnd → List Accepted → Type 0
-HaltAdds c end more = HaltAdded (asked_on_link c) end more
-
--- What stays where the peer's end stopped. All that stays of a device does, each beside the peer is aside still, and has
--- a link at most while it is active; the server accepted at most what the call adds, and nothing else of a far end that
--- stays changed. The open link is gone, and its range goes to what was accepted.
-pub record HaltLeaves (s : State) (c : Command) (l : OpenLink) (t : State) : Type 0 where
-  pub talk : (own : List ℕ) × (place : ℕ) × TalkLeaves own place s.world.field.listeners t.world.field.listeners
-  pub more : List Accepted
-  pub adds : OfEnd (λ end. HaltAdds c end more) (end_of s l)
-  pub ends : (stable t.world).ends ≡ with_accepted more l.peer s.peers.numbers (stable s.world).ends
-  pub peers : t.peers ≡ ended (Some l) t.world.fars s.peers
-  pub link : t.link ≡ None
-
--- Behind a front of a command on the link a request that was due passed, and as it handed a payload over the peer's end
--- stopped for want of memory: nothing came back.
-pub record PeerHalts (joins : Joins) (s : State) (c : Command) (cut : List Event) (t : State) : Type 0 where
-  pub on_link : IsOnLink c
-  pub given : Given
-  pub joined : given.joins ≡ joins
-  pub before : List Event
-  pub mid : State
-  pub front : FrontOf s given c before None mid
-  pub sent : Signal
-  pub split : cut ≡ before ++ Request sent Pass ∷ []
-  pub asked : due s given c (receptions before) ≡ Asks sent
-  pub passes : first_fate mid.queue ≡ Pass
-  pub lit : t.world.field.lit ≡ true
-  pub queue : t.queue ≡ later_fates mid.queue
-  pub on : OpenLink
-  pub open_ : s.link ≡ Some on
-  pub leaves : HaltLeaves s c on t
-  pub came : ArrivesCutAt on s.peers.numbers given.joins.far s.world.fars t.world.fars cut
-
--- What stays where the end of a peer stopped to which payloads were sent over a link of their own: likewise, and that link
--- has its range.
-pub record ForgeHaltLeaves (s : State) (peer : ℕ) (t : State) : Type 0 where
-  pub talk : (own : List ℕ) × (place : ℕ) × TalkLeaves own place s.world.field.listeners t.world.field.listeners
-  pub more : List Accepted
-  pub ends : (stable t.world).ends ≡ with_accepted more peer s.peers.numbers (stable s.world).ends
-  pub peers : t.peers ≡ with_link_within peer s.world.fars t.world.fars (unlinked s).peers
-  pub link : t.link ≡ None
-
--- Behind a front in which a link was opened a request that was due passed, and as it handed a payload over the peer's end
--- stopped for want of memory: nothing came back.
-pub record ForgeHalts (joins : Joins) (s : State) (c : Command) (cut : List Event) (t : State) : Type 0 where
-  pub id : List ℕ
-  pub payloads : List (List ℕ)
-  pub command : c ≡ Forge id payloads
-  pub given : Given
-  pub joined : given.joins ≡ joins
-  pub before : List Event
-  pub mid : State
-  pub front : FrontOf s given (Forge id payloads) before None mid
-  pub opened : opens_link id payloads cut ≡ true
-  pub sent : Signal
-  pub split : cut ≡ before ++ Request sent Pass ∷ []
-  pub asked : due s given (Forge id payloads) (receptions before) ≡ Asks sent
-  pub passes : first_fate mid.queue ≡ Pass
-  pub lit : t.world.field.lit ≡ true
-  pub queue : t.queue ≡ later_fates mid.queue
-  pub peer : ℕ
-  pub placed : placed_under id s.world.field.listeners s.peers.numbers ≡ Some peer
-  pub leaves : ForgeHaltLeaves s peer t
-  pub came : ArrivesCutWithin peer forged_general s.peers.numbers given.joins.far s.world.fars t.world.fars cut
-
--- the devices where the end of the peer at a place stopped at a frame: those before it and it made their steps, it without a reply,
--- and those behind it didn't
-abbrev pub halted_at : ℕ → Signal → List Device → List Device
-halted_at place f [] = []
-halted_at zero f (d ∷ ds) = stepped_by devices d f None ∷ ds
-halted_at (suc place) f (d ∷ ds) = stepped_by devices d f None ∷ halted_at place f ds
-
--- What stays where the end of the peer stopped at a frame that was sent as it is, from a state on: each device did what its step
--- does, as far as the frame came; the peer's server accepted no less than before, and nothing else of a far end that stays
--- changed. Where the peer was activated its link has its range.
-pub record RawHaltLeaves (s : State) (id : DeviceId) (opened : Bool) (mid : State) (sent : Signal) (t : State) : Type 0 where
-  pub opens : opened ≡ true → IsPeerPlaced s id
-  pub place : ℕ
-  pub stands : peer_place mid.world.field.listeners ≡ Some place
-  pub devices : t.world.field.listeners ≡ halted_at place sent mid.world.field.listeners
-  pub peer : ℕ
-  pub numbered : get_or s.peers.numbers place None ≡ Some peer
-  pub more : List Accepted
-  pub ends : (stable t.world).ends ≡ with_accepted more peer s.peers.numbers (stable mid.world).ends
-  pub peers : t.peers ≡ peers_forged opened s id t.world.fars
-  pub link : t.link ≡ None
-
--- Behind a front of frames that were sent as they are a request that was due passed, and as it handed a payload over the peer's end
--- stopped for want of memory: nothing came back.
-pub record RawHalts (joins : Joins) (s : State) (c : Command) (cut : List Event) (t : State) : Type 0 where
-  pub id : DeviceId
-  pub frames : List Signal
-  pub command : c ≡ Raw id frames
-  pub given : Given
-  pub joined : given.joins ≡ joins
-  pub before : List Event
-  pub mid : State
-  pub front : FrontOf s given (Raw id frames) before None mid
-  pub sent : Signal
-  pub split : cut ≡ before ++ Request sent Pass ∷ []
-  pub asked : due s given (Raw id frames) (receptions before) ≡ Asks sent
-  pub passes : first_fate mid.queue ≡ Pass
-  pub lit : t.world.field.lit ≡ true
-  pub queue : t.queue ≡ later_fates mid.queue
-  pub leaves : RawHaltLeaves s id (raw_opens id frames cut) mid sent t
-
--- the peer's end stopped: on the open link, or on one of payloads or frames that were written by hand
-abbrev pub Halts : Joins → State → Command → List Event → State → Type 0
-Halts joins s c cut t = PeerHalts joins s c cut t ⊎ (ForgeHalts joins s c cut t ⊎ RawHalts joins s c cut t)
-
--- What want of memory leaves of a command: nothing was done, there is a front of its step, or the peer's end stopped
--- behind one.
-abbrev pub CutOff : Joins → State → Command → List Event → State → Type 0
-CutOff joins s c cut t = ((cut ≡ []) × (t ≡ s)) ⊎ (CutShort joins s c cut t ⊎ Halts joins s c cut t)
 
 -- The entries lead from one state to another, each behind those before it, and each has what its step is said for.
 abbrev pub EachLegal : State → List Given → List Entry → State → Type 0

@@ -18,7 +18,8 @@ use Rattle.bench_world.specs.declared.entry.Received.{Received}
 use Rattle.bench_world.specs.ByPayloads.{IfPayloads, IsByPayloads, IsFrontOfPayloads}
 use Rattle.bench_world.specs.Inbox.{came_on_link, chosen, told_of}
 use Rattle.bench_world.specs.Journal.{LeadsTo}
-use Rattle.bench_world.specs.Legal.{State, Joins, CutShort, Halts, first_state}
+use Rattle.bench_world.specs.Legal.{State, Joins, CutShort, first_state}
+use Rattle.bench_world.specs.Halting.{Halts}
 use Rattle.bench_world.specs.Peers.{placed_under}
 use Rattle.bench_world.specs.Stories.{Opener, ByLink, ByForge, ByRaw, Beginning, NothingBegins, BeginsOpen, BeginsAndEnds, LinkPut, Story, Stretch, accepted_in, beginning, state_from, stories_behind, stories_of}
 

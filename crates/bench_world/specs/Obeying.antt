@@ -11,7 +11,8 @@ use Rattle.bench_script.specs.declared.command.Command.TheVariants.{Skip}
 use Rattle.bench_devices.specs.declared.device.Device.{Device}
 use Rattle.bench_world.specs.declared.entry.Answer.{Answer}
 use Rattle.bench_world.specs.declared.entry.Entry.{Entry}
-use Rattle.bench_world.specs.Legal.{State, Given, Joins, Accepts, AnswerLaw, FrontOf, LegalStep, CutShort, CutOff, due, first_state, no_joins}
+use Rattle.bench_world.specs.Legal.{State, Given, Joins, Accepts, AnswerLaw, FrontOf, LegalStep, CutShort, due, first_state, no_joins}
+use Rattle.bench_world.specs.Halting.{CutOff}
 use Rattle.bench_devices.specs.Keeping.{AreTame, kept}
 use Rattle.bench_devices.specs.Phases.{AreTidy, IsIdle}
 use Rattle.bench_devices.specs.Device.{device_darkened}

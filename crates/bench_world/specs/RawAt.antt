@@ -24,7 +24,8 @@ use Rattle.bench_world.specs.declared.entry.Answer.TheVariants as answers
 use Rattle.bench_world.specs.declared.entry.RawHeard.{RawHeard}
 use Rattle.bench_world.specs.ForgedAt.{left_by, told_cause}
 use Rattle.bench_world.specs.Forging.{forged_general}
-use Rattle.bench_world.specs.Legal.{State, Joins, CutFront, RawHalts}
+use Rattle.bench_world.specs.Legal.{State, Joins, CutFront}
+use Rattle.bench_world.specs.Halting.{RawHalts}
 use Rattle.bench_world.specs.LinkedAt.{moved_at}
 use Rattle.bench_world.specs.Obeying.{Machines, under}
 use Rattle.bench_world.specs.Rawing.{Sends, Dark, are_sent, raw_due, raw_stand}

@@ -15,7 +15,8 @@ use Rattle.bench_world.specs.declared.entry.Entry.{Entry}
 use Rattle.bench_world.specs.Journal.{LeadsTo}
 use Rattle.bench_script.specs.declared.command.Command.{Command}
 use Rattle.bench_script.specs.Script.{Spells}
-use Rattle.bench_world.specs.Legal.{State, Joins, Given, CutOff, no_joins}
+use Rattle.bench_world.specs.Legal.{State, Joins, Given, no_joins}
+use Rattle.bench_world.specs.Halting.{CutOff}
 use Rattle.bench_world.specs.Unfinished.{Unfinished}
 use Rattle.bench_world.specs.Obeying.{Benched, Spoils, begun_anew, new_bench}
 use Rattle.bench_world.specs.Report.{report_text}

@@ -21,7 +21,8 @@ use Rattle.nfc_bench.specs.declared.top.words.Form.{Form}
 use Rattle.nfc_bench.specs.declared.top.words.Form.TheVariants.{Run, Sweep, Make}
 use Rattle.nfc_bench.specs.declared.top.program.WordsFault.{WordsFault}
 use Rattle.nfc_bench.specs.declared.top.program.WordsFault.TheVariants.{Memory, NoText}
-use Rattle.bench_world.specs.Legal.{State, CutOff, no_joins}
+use Rattle.bench_world.specs.Legal.{State, no_joins}
+use Rattle.bench_world.specs.Halting.{CutOff}
 use Rattle.bench_world.specs.Unfinished.{Unfinished}
 use Rattle.bench_world.specs.Obeying.{Benched}
 use Rattle.bench_world.specs.Journal.{LeadsTo, Legal}
