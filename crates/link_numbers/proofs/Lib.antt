@@ -6,3 +6,4 @@ pub mod Paired
 pub mod Filled
 pub mod Growing
 pub mod SameSo
+pub mod Begun

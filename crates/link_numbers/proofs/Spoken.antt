@@ -101,7 +101,7 @@ piece_said u n xs bytes r past U is all next due unsent left = go (nat_lt u.most
     go true b =
         let l = ltb-true u.most (length bytes) b in
         let size : length (take u.most bytes) ≡ u.most = length-take-le u.most bytes (omega arith) in
-        let cut : xs ++ bytes ≡ xs ++ take u.most bytes ++ drop u.most bytes = ap (λ zs. xs ++ zs) (sym (take-append-drop u.most bytes)) in
+        let cut : xs ++ bytes ≡ xs ++ (take u.most bytes ++ drop u.most bytes) = ap (λ zs. xs ++ zs) (sym (take-append-drop u.most bytes)) in
         let whole : r ≡ (xs ++ take u.most bytes) ++ u.left =
         all ∙ cut ∙ sym (append_assoc xs (take u.most bytes) (drop u.most bytes)) ∙ ap (λ zs. (xs ++ take u.most bytes) ++ zs) (sym left) in
         let long : length (xs ++ take u.most bytes) ≡ length xs + length (take u.most bytes) = length-append xs (take u.most bytes) in
