@@ -7,3 +7,5 @@ pub mod Filled
 pub mod Growing
 pub mod SameSo
 pub mod Begun
+pub mod Giving
+pub mod Showing
