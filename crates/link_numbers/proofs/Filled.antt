@@ -30,7 +30,7 @@ content RlsReq h = refl
 content RlsRes h = refl
 
 -- a frame with content is a piece
-pub frame_pieces : (a : Signal) (v : DepFrame) → spelled a ≡ Some v → IsFilled v → pieces_of (a ∷ []) ≡ before_frames (spelled a) []
+frame_pieces : (a : Signal) (v : DepFrame) → spelled a ≡ Some v → IsFilled v → pieces_of (a ∷ []) ≡ before_frames (spelled a) []
 frame_pieces a v e h = rw (e, content v h) refl
 
 last_filled : (t : TargetState) (v : DepFrame) → t.last ≡ Some v → IfSome t.last IsFilled → IsFilled v

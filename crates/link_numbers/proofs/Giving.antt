@@ -33,7 +33,7 @@ move_most t draws = refl
 move_most t asks_again = refl
 move_most t has_time = refl
 
-pub some_most : (i : InitState) (f : Signal) (t : TargetState) (U : Cut) (past : List (List ℕ)) (g : Option (List ℕ)) → Paired i f t U past g → 0 < (target_table t f).state.most
+some_most : (i : InitState) (f : Signal) (t : TargetState) (U : Cut) (past : List (List ℕ)) (g : Option (List ℕ)) → Paired i f t U past g → 0 < (target_table t f).state.most
 some_most i f t U past g p =
     let turn = turn_at p.most p.busy p.out i t g f p.ahead p.ask in
     let range = range_at p.most p.busy p.out i t g f p.ahead p.ask in
@@ -92,7 +92,7 @@ module _ (t : TargetState) (r s : List ℕ) (past : List (List ℕ)) (W : Cut) (
       let rest : drop t.most xs ≡ ws.0 = ap (drop t.most) bytes ∙ ap (λ k. drop k (take t.most r ++ ws.0)) (sym size) ∙ drop-append_seam (take t.most r) ws.0 in
       as_cut w.0 ws.0 ws.1 (subst (λ bs. Alike bs (replied t (xs ++ ys)) (replied t (xs ++ zs))) rest w.1)
 
-  pub given_so : Goal
+  given_so : Goal
   given_so = go (nat_lt 0 t.busy) refl
     where
       go : (b : Bool) → nat_lt 0 t.busy ≡ b → Goal

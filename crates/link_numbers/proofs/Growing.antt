@@ -7,9 +7,9 @@ use Rattle.dep_link.specs.Payloads.{Cut, joined}
 use Rattle.dep_link.specs.Replies.{taken_up, cut_up}
 
 -- The payloads of c come first; where no payload more is whole, the chain begins as that of c.
-pub record Grows (c d : Cut) : Type 0 where
-  pub payloads : (ps : List (List ℕ)) × (d.payloads ≡ c.payloads ++ ps)
-  pub chain : length d.payloads ≡ length c.payloads → (ws : List ℕ) × (d.chain ≡ c.chain ++ ws)
+record Grows (c d : Cut) : Type 0 where
+  payloads : (ps : List (List ℕ)) × (d.payloads ≡ c.payloads ++ ps)
+  chain : length d.payloads ≡ length c.payloads → (ws : List ℕ) × (d.chain ≡ c.chain ++ ws)
 
 stays : (c : Cut) → Grows c c
 stays c = record { payloads = ([], sym (append-nil c.payloads)); chain = λ e. ([], sym (append-nil c.chain)) }
@@ -55,7 +55,7 @@ one_grows c DslRes = stays c
 one_grows c RlsReq = stays c
 one_grows c RlsRes = stays c
 
-pub cut_grows : (c : Cut) (vs : List DepFrame) → Grows c (cut_up c vs)
+cut_grows : (c : Cut) (vs : List DepFrame) → Grows c (cut_up c vs)
 cut_grows c [] = stays c
 cut_grows c (v ∷ vs) = onwards c (taken_up c v) (cut_up (taken_up c v) vs) (one_grows c v) (cut_grows (taken_up c v) vs)
 

@@ -24,7 +24,7 @@ pub record Alike (xs : List ℕ) (t u : TargetState) : Type 0 where
   pub same : u ≡ record t { left = u.left }
 
 -- What the two do at one frame: the same, and stay so; or each sends a piece, which is the same as far as the bytes go; or both begin anew.
-pub data SameMove (xs : List ℕ) (t : TargetState) (m n : TargetMove) : Type 0 where
+data SameMove (xs : List ℕ) (t : TargetState) (m n : TargetMove) : Type 0 where
   keeps_so : m.does ≡ n.does → m.state.left ≡ t.left → Alike xs m.state n.state → SameMove xs t m n
   sends_so : (pni : ℕ) → m.does ≡ Answers (piece true t.most pni t.left) → m.state.left ≡ drop t.most t.left → m.state.unsent ≡ nat_lt t.most (length t.left)
       → (t.most ≤ length xs → (m.does ≡ n.does) × Alike (drop t.most xs) m.state n.state) → SameMove xs t m n
