@@ -2,3 +2,12 @@ pub mod Counting
 pub mod Kept
 pub mod Payload
 pub mod Pieces
+pub mod Spoken
+pub mod Moving
+pub mod Paired
+pub mod Filled
+pub mod Growing
+pub mod SameSo
+pub mod Begun
+pub mod Giving
+pub mod Showing
