@@ -1,2 +1,5 @@
 pub mod Counting
 pub mod Kept
+pub mod Cuts
+pub mod Turns
+pub mod Moving
