@@ -3,3 +3,5 @@ pub mod Kept
 pub mod Cuts
 pub mod Turns
 pub mod Moving
+pub mod Places
+pub mod Begun
