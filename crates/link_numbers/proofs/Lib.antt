@@ -5,3 +5,5 @@ pub mod Turns
 pub mod Moving
 pub mod Places
 pub mod Begun
+pub mod Payload
+pub mod Pieces
