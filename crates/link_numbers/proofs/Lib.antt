@@ -7,3 +7,7 @@ pub mod Places
 pub mod Begun
 pub mod Payload
 pub mod Pieces
+pub mod EndTakes
+pub mod CallKeeps
+pub mod CallTurns
+pub mod Own
