@@ -11,3 +11,5 @@ pub mod EndTakes
 pub mod CallKeeps
 pub mod CallTurns
 pub mod Own
+pub mod Alike
+pub mod OwnShown
