@@ -2,6 +2,17 @@ pub mod Counting
 pub mod Kept
 pub mod Payload
 pub mod Pieces
+pub mod OwnCuts
+pub mod OwnTurns
+pub mod OwnMoving
+pub mod OwnPlaces
+pub mod OwnBegun
+pub mod EndTakes
+pub mod CallKeeps
+pub mod CallTurns
+pub mod Own
+pub mod OwnAlike
+pub mod OwnShown
 pub mod Spoken
 pub mod Moving
 pub mod Paired
@@ -10,4 +21,3 @@ pub mod Growing
 pub mod SameSo
 pub mod Begun
 pub mod Giving
-pub mod Showing
