@@ -1,8 +1,8 @@
 -- What is said of a client's end beside its own connections stays true while a call prepares its payload and takes its reply.
-use Rattle.std.proofs.Common.{◌≡◌, ◌≤◌, nat_lt, ℕ, zero, suc, ◌+◌, Bool, true, false, List, [], ◌∷◌, length, take, drop, Option, Some, None, if◌then◌else◌, refl, sym, ap, subst, ◌∙◌}
-use Rattle.llcp_link.specs.Asking.{refusal_of, standing_of, submitted_by}
+use Rattle.std.proofs.Common.{◌≡◌, ◌≤◌, nat_lt, ℕ, zero, suc, false, List, [], ◌∷◌, length, take, drop, Option, Some, None, refl, sym, ap, subst, ◌∙◌}
+use Rattle.llcp_link.specs.Asking.{standing_of, submitted_by}
 use Rattle.llcp_link.specs.State.{OwnState, own_from}
-use Rattle.llcp_link.specs.Giving.{after_giving, given}
+use Rattle.llcp_link.specs.Giving.{after_giving}
 use Rattle.llcp_link.specs.Taking.{taken_from}
 use Rattle.llcp_link.proofs.Ranged.{either}
 use Rattle.snep_core.specs.declared.job.Job.{Job}

@@ -1,22 +1,20 @@
 -- The numbers that a call's own frames show are as good as the true ones, whatever stands behind them: the same is due by them, and what the call
 -- comes to is the same. And so they are for a closing.
-use Rattle.std.proofs.Common.{◌≡◌, ◌⊎◌, inl, inr, ℕ, List, [], ◌∷◌, ◌++◌, append_assoc, append-nil, refl, sym, ap, subst, ◌∙◌}
+use Rattle.std.proofs.Common.{◌≡◌, ◌⊎◌, inl, inr, ℕ, List, [], ◌∷◌, ◌++◌, append_assoc, refl, sym, ap, subst, ◌∙◌}
 use Rattle.nfc_base.specs.Signal.{Signal}
 use Rattle.nfc_base.specs.declared.event.Event.{Event}
-use Rattle.nfc_base.specs.declared.carrier.EndCause.{EndCause}
-use Rattle.air_core.specs.Conversation.{Note, Lit, Got, Lost, Next, LightUp, Over, Asks, IsDemand, EachDue}
+use Rattle.air_core.specs.Conversation.{Note, Next, LightUp, Over, Asks, EachDue}
 use Rattle.air_core.specs.Turning.{due_weaker}
 use Rattle.dep_link.specs.Initiator.{InitState}
 use Rattle.dep_link.specs.Asking.{Standing, Waits, Rests, Broken, Astray, due_at}
-use Rattle.dep_link.specs.Releasing.{rls_frame}
-use Rattle.snep_core.specs.Talk.{Ends, GivesUp, Goes, Step}
+use Rattle.snep_core.specs.Talk.{Step}
 use Rattle.link_calls.specs.Walk.{Carries, Comes, BrokenBy, Strays, walk_due_at, walk_noted}
 use Rattle.link_calls.specs.CallDue.{CallStanding, by_client, call_at, call_due, call_on, call_stand}
 use Rattle.link_calls.specs.ClosingDue.{Calls, ClosingStanding, Released, Releasing, closing_at, closing_due, closing_due_at, closing_noted, closing_on, closing_stand}
 use Rattle.link_numbers.specs.OwnShows.{AtEnd, GoesAlike, IsWithin, OwnShows, OwnShowsClosing, Rested}
 use Rattle.link_numbers.specs.Shown.{numbers, own_shown, requests_of}
 use Rattle.link_numbers.proofs.OwnCuts.{at, cuts}
-use Rattle.link_numbers.proofs.OwnTurns.{Along, Turn, asked_in, heard_in, on}
+use Rattle.link_numbers.proofs.OwnTurns.{Along, Turn, asked_in, heard_in}
 use Rattle.link_numbers.proofs.OwnAlike.{EndAlike, asked_more, both_go, both_over, end_self, go_alike, past}
 use Rattle.link_numbers.proofs.CallTurns.{Alike, BothEnd, CallAlong, call_past}
 use Rattle.link_numbers.proofs.CallTurns as ends
@@ -158,8 +156,8 @@ module _ (ns : List ℕ) (from : Step) (i : InitState) (rested : Rested i.core) 
       go_same (walk_noted by_client) walk_due_at (call_past true_call) (call_past shown_call) (call_stand ns from i) (call_stand shown from i)
       (λ ms. call_is true_call ms) (λ ms. call_is shown_call ms) turned more
       (go_alike (walk_noted by_client) walk_due_at call_dark true_call shown_call turned more call_law
-          (each_same (walk_noted by_client) walk_due_at (call_past true_call) (call_past shown_call) (call_stand ns from i) (call_stand shown from i)
-              (λ ms. call_is true_call ms) (λ ms. call_is shown_call ms) turned each))
+      (each_same (walk_noted by_client) walk_due_at (call_past true_call) (call_past shown_call) (call_stand ns from i) (call_stand shown from i)
+      (λ ms. call_is true_call ms) (λ ms. call_is shown_call ms) turned each))
 
   -- a closing
   split_law : (ts : List Turn) (tail : List Signal) → asked_in ts ++ tail ≡ requests_of (turned ++ more) → Split true_call ts
@@ -183,8 +181,8 @@ module _ (ns : List ℕ) (from : Step) (i : InitState) (rested : Rested i.core) 
       go_same closing_noted closing_due_at (closing_past (closing_at true_call)) (closing_past (closing_at shown_call)) (closing_stand ns from i) (closing_stand shown from i)
       (λ ms. closing_is (closing_at true_call) ms) (λ ms. closing_is (closing_at shown_call) ms) turned more
       (go_alike closing_noted closing_due_at closing_dark (closing_at true_call) (closing_at shown_call) turned more closing_law
-          (each_same closing_noted closing_due_at (closing_past (closing_at true_call)) (closing_past (closing_at shown_call)) (closing_stand ns from i) (closing_stand shown from i)
-              (λ ms. closing_is (closing_at true_call) ms) (λ ms. closing_is (closing_at shown_call) ms) turned each))
+      (each_same closing_noted closing_due_at (closing_past (closing_at true_call)) (closing_past (closing_at shown_call)) (closing_stand ns from i) (closing_stand shown from i)
+      (λ ms. closing_is (closing_at true_call) ms) (λ ms. closing_is (closing_at shown_call) ms) turned each))
 
 pub own_shows : OwnShows
 own_shows = λ ns from i turned more rested within each. own_shown_call ns from i rested within turned more each

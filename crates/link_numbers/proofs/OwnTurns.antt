@@ -1,12 +1,12 @@
 -- A course of requests, each of which was due by what was heard before it, turn by turn; and that it is so just where each request among
 -- some events was due.
-use Rattle.std.proofs.Common.{◌≡◌, List, [], ◌∷◌, ◌++◌, append_assoc, append-nil, refl, sym, ap, subst, ◌∙◌}
+use Rattle.std.proofs.Common.{◌≡◌, List, [], ◌∷◌, ◌++◌, append_assoc, append-nil, refl, sym, ap, ◌∙◌}
 use Rattle.nfc_base.specs.Signal.{Signal}
 use Rattle.nfc_base.specs.Trace.{Back, back_of, heard_by}
 use Rattle.nfc_base.specs.Trace as backs
 use Rattle.nfc_base.specs.declared.event.Event.{Event}
 use Rattle.nfc_base.specs.declared.event.Event.TheVariants.{Reset, Request, Answer, Clash}
-use Rattle.air_core.specs.Conversation.{Note, Lit, note, Next, LightUp, Asks, receptions, EachDue}
+use Rattle.air_core.specs.Conversation.{Note, note, Next, LightUp, Asks, receptions, EachDue}
 use Rattle.link_numbers.specs.Shown.{requests_of}
 
 -- a request, and what was heard of it
