@@ -1,2 +1,15 @@
 pub mod Counting
 pub mod Kept
+pub mod Cuts
+pub mod Turns
+pub mod Moving
+pub mod Places
+pub mod Begun
+pub mod Payload
+pub mod Pieces
+pub mod EndTakes
+pub mod CallKeeps
+pub mod CallTurns
+pub mod Own
+pub mod Alike
+pub mod OwnShown
