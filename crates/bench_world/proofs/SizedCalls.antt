@@ -1,5 +1,5 @@
 -- A call on a link leaves how many bytes the other end takes, and how the initiator cuts payloads.
-use Rattle.std.proofs.Common.{◌≡◌, nat_lt, ◌&&◌, ℕ, Bool, true, false, List, [], ◌∷◌, Option, Some, None, if◌then◌else◌}
+use Rattle.std.proofs.Common.{nat_lt, ℕ, Bool, true, false, List, [], ◌∷◌, Option, Some, None}
 use Rattle.nfc_base.specs.Choosing.{first_number, later_numbers}
 use Rattle.air_core.specs.Conversation.{Note}
 use Rattle.dep_link.specs.Asking.{Standing, Waits, Rests, Broken, Astray, noted}
@@ -11,7 +11,7 @@ use Rattle.llcp_link.specs.Taking.{taken_from}
 use Rattle.llcp_link.proofs.Ranged.{either}
 use Rattle.snep_core.specs.declared.job.OnSap.{OnSap}
 use Rattle.snep_core.specs.Talk as talk
-use Rattle.snep_core.specs.Talk.{CameTo, EndState, Ends, GivesUp, Goes, Step, Task, TaskOn, Puts, Gets, Finds, Leaves, Working, all_emptied, all_heard, all_opening, all_over, all_well, begins_all, connected, emptied, gave_any, idle_after, leave_from, most_idle, opening, own_of, ready, replied, silent, took}
+use Rattle.snep_core.specs.Talk.{CameTo, EndState, Ends, GivesUp, Goes, Step, Task, TaskOn, Puts, Gets, Finds, Leaves, Working, all_emptied, all_heard, all_opening, all_over, all_well, begins_all, connected, emptied, gave_any, idle_after, most_idle, opening, own_of, ready, replied, silent, took}
 use Rattle.link_calls.specs.Asking.{Call, Putting, Getting, Finding, call_begins}
 use Rattle.link_calls.specs.AtOnce.{puts_at_once}
 use Rattle.link_calls.specs.CallDue.{OnCall, CallStanding, by_client, call_at, call_noted, call_on, call_stand}

@@ -1,6 +1,6 @@
 -- Whatever happens to them, the devices of a bench cut replies into pieces that are none too small, and the far ends above them have no
 -- payload that is too long.
-use Rattle.std.proofs.Common.{◌≤◌, ℕ, List, Option, Some, None, if◌then◌else◌, arith}
+use Rattle.std.proofs.Common.{◌≤◌, ℕ, List, Option, Some, None, arith}
 use Rattle.nfc_base.specs.Signal.{Signal}
 use Rattle.nfca_poll.specs.Front.{Idle}
 use Rattle.nfca_poll.specs.declared.upper.UpStep.TheVariants as steps

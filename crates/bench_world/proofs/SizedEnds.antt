@@ -1,8 +1,8 @@
 -- No general bytes say an MIU that is too long for a payload, and nothing that an end takes or gives changes the MIU of the other.
-use Rattle.std.proofs.Common.{◌≡◌, ◌≤◌, ◌<◌, ◌+◌, ◌*◌, ◌/◌, ◌%◌, ◌==◌, nat_lt, ℕ, zero, suc, Bool, true, false, List, [], ◌∷◌, length, take, Option, Some, None, Result, Ok, Err, if◌then◌else◌, arith, unwrap_or, refl, sym, subst}
+use Rattle.std.proofs.Common.{◌≤◌, ◌<◌, ◌+◌, ◌*◌, ◌/◌, ◌%◌, ◌==◌, nat_lt, ℕ, zero, suc, Bool, true, false, List, [], ◌∷◌, length, take, Option, Some, None, Result, Ok, Err, if◌then◌else◌, arith, unwrap_or, refl, sym, subst}
 use Rattle.std.specs.Prelude.{IfSome}
 use Rattle.llcp_pdu.specs.declared.param.Param.{Param}
-use Rattle.llcp_pdu.specs.declared.param.Param.TheVariants.{Version, Miux, Wks, Lto, Rw, Sn, Opt, SdReq, SdRes}
+use Rattle.llcp_pdu.specs.declared.param.Param.TheVariants.{Version, Miux, Wks, Lto, Rw, Opt, SdReq, SdRes}
 use Rattle.llcp_pdu.specs.General.{general, miu_by, said, said_behind, spoken, unmasked}
 use Rattle.llcp_pdu.specs.Params.{begun, is_known, last_of, later, miux_in, one, param, params, taken, two, version_in, wks_in}
 use Rattle.llcp_pdu.specs.Reading.{onto}

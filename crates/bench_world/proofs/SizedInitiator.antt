@@ -1,12 +1,12 @@
 -- Whatever it hears, an initiator cuts its payloads into pieces of the same size.
-use Rattle.std.proofs.Common.{◌≡◌, ◌==◌, ◌++◌, nat_lt, ℕ, ◌+◌, Bool, true, false, List, [], ◌∷◌, length, Option, Some, None, if◌then◌else◌}
+use Rattle.std.proofs.Common.{◌==◌, ◌++◌, nat_lt, ℕ, ◌+◌, Bool, true, false, List, Option, Some, None, if◌then◌else◌}
 use Rattle.nfc_base.specs.Signal.{Signal}
 use Rattle.nfc_base.specs.declared.event.Heard.{Heard}
 use Rattle.nfc_base.specs.declared.event.Heard.TheVariants.{Whole, Collided, Damaged, Silent}
 use Rattle.air_core.specs.Conversation.{Note, Lit, Got, Lost}
 use Rattle.dep_pdu.specs.declared.frame.DepFrame.{DepFrame}
-use Rattle.dep_pdu.specs.declared.frame.DepFrame.TheVariants.{Info, Ack, Nack, Attention, Extend}
-use Rattle.dep_link.specs.Asking.{Standing, Waits, Rests, Broken, Astray, asks, goes_by, noted}
+use Rattle.dep_pdu.specs.declared.frame.DepFrame.TheVariants.{Info, Ack, Attention, Extend}
+use Rattle.dep_link.specs.Asking.{Standing, Waits, Rests, Broken, Astray, goes_by, noted}
 use Rattle.dep_link.specs.Frames.{spelled}
 use Rattle.dep_link.specs.Initiator as i
 use Rattle.dep_link.specs.Initiator.{InitState, InitMove, heard_next, init_table}

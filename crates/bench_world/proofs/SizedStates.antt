@@ -1,5 +1,5 @@
 -- Whatever a command does, both ends of a bench's links cut payloads as before, and have none that is too long.
-use Rattle.std.proofs.Common.{◌≡◌, ◌≤◌, ◌*◌, nat_eq, ℕ, Bool, true, false, List, [], ◌∷◌, Option, Some, None, if◌then◌else◌, sym, subst, arith}
+use Rattle.std.proofs.Common.{◌≤◌, ◌*◌, nat_eq, ℕ, List, [], ◌∷◌, Option, Some, None, sym, subst, arith}
 use Rattle.std.specs.Prelude.{IfSome, option_map}
 use Rattle.std.specs.Cmp.Lexicographic.{pointwise}
 use Rattle.std.specs.List.{AllByRecursion}
@@ -7,7 +7,6 @@ use Rattle.nfc_base.specs.declared.event.Event.{Event}
 use Rattle.air_core.specs.Conversation.{receptions, replay}
 use Rattle.dep_link.specs.Sizes.{initiator_lr}
 use Rattle.far_air.specs.FarEnds.{first_far, later_fars}
-use Rattle.far_air.specs.FarWorld.{far_air}
 use Rattle.llcp_link.proofs.Ranged.{either}
 use Rattle.peer_air.specs.PeerFars.{peer_ends}
 use Rattle.snep_core.specs.Talk.{Ends}
@@ -15,8 +14,7 @@ use Rattle.link_calls.specs.Asking.{Call, Closes, Does, LinkAsking}
 use Rattle.link_calls.specs.CallDue.{CallStanding, Comes}
 use Rattle.bench_script.specs.DeviceIds.{bytes_of}
 use Rattle.bench_script.specs.declared.command.Command.{Command}
-use Rattle.bench_script.specs.declared.command.Command.TheVariants.{Skip, Fates, PlaceT2, PlaceT3, PlaceT4, PlaceT5, PlacePeer, Lock, Busy, Offer, Remove, Find, Crowd, Poll3, Read, Read3, Write, Write3, Link, Forge, Raw}
-use Rattle.bench_script.specs.declared.command.DeviceId.{DeviceId}
+use Rattle.bench_script.specs.declared.command.Command.TheVariants.{PlaceT2, PlaceT3, PlaceT4, PlaceT5, PlacePeer, Lock, Busy, Offer, Remove, Find, Crowd, Poll3, Read, Read3, Write, Write3, Link, Forge, Raw}
 use Rattle.bench_devices.specs.declared.device.Device.{Device}
 use Rattle.bench_devices.specs.Device.{device_busy, device_id, device_linked, device_locked, device_target, devices, new_peer, new_t2, new_t3, new_t4, new_t5}
 use Rattle.bench_devices.specs.Placed.{device_with, with_changed, without}
@@ -26,16 +24,17 @@ use Rattle.bench_world.specs.declared.entry.Answer.TheVariants as answers
 use Rattle.bench_world.specs.Asked.{asked_on_link}
 use Rattle.bench_world.specs.Calls.{IfLinked, asked_behind, link_behind, stands_on}
 use Rattle.bench_world.specs.Cutting.{CutsReplies, CutsWell, FirstCuts, FrontsCut, GivesShort, LinkCuts, MidstCuts, WorldCuts}
-use Rattle.bench_world.specs.Legal.{Joins, State, begun, changed, first_state, is_linked_to, link_after, link_alone, link_left, memory_of, state_after, with_device_changed, world_after}
+use Rattle.bench_world.specs.Legal.{Joins, State, begun, changed, is_linked_to, link_alone, link_left, memory_of, state_after}
 use Rattle.bench_world.specs.Linking.{link_if}
 use Rattle.bench_world.specs.Links.{OpenLink}
+use Rattle.bench_world.specs.Obeying.{Machines, ObeyedBy, state_at, untraced}
 use Rattle.bench_world.specs.Peers.{end_offered, new_end, placed_under, with_place_changed, without_place}
 use Rattle.bench_world.specs.World.{FarEnd, WholeWorld, bench_air, with_listeners, with_one_more}
 use Rattle.bench_world.proofs.SizedCalls.{CallSized, call_sized}
 use Rattle.bench_world.proofs.SizedDevices.{both_keep, busy_sized, locked_sized}
 use Rattle.bench_world.proofs.SizedEnds.{general_fits}
 use Rattle.bench_world.proofs.SizedTargets.{piece_fits}
-use Rattle.bench_world.proofs.SizedWorld.{AllSo, all_more, first_so, later_so, replay_so}
+use Rattle.bench_world.proofs.SizedWorld.{all_more, first_so, later_so, replay_so}
 
 abbrev Above : Option FarEnd → Type 0
 Above o = IfSome o GivesShort
@@ -159,3 +158,9 @@ after_cuts s joins c es told h =
 
 pub front_cuts : FrontsCut
 front_cuts s g c es told t f h = subst CutsWell (sym f.after) (after_cuts s g.joins c es told h)
+
+-- So it is of machines behind a command that was obeyed, once its events are taken.
+pub untraced_cuts : (joins : Joins) (a b : Machines) (c : Command) (answer : Answer) → CutsWell (state_at a) → ObeyedBy joins a b c answer → CutsWell (state_at (untraced b))
+untraced_cuts joins a b c answer h o =
+    let k = front_cuts (state_at a) o.given c b.air.trace (Some answer) (state_at b) o.front h in
+    record { world = record { targets = k.world.targets; ends = k.world.ends }; link = k.link }

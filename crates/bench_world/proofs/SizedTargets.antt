@@ -1,10 +1,10 @@
 -- Whatever it hears, a target cuts its replies into pieces that are none too small, and so does an initiator its payloads.
-use Rattle.std.proofs.Common.{◌≡◌, ◌≤◌, ◌-◌, ◌==◌, nat_lt, ℕ, Bool, true, false, List, [], ◌∷◌, ◌++◌, length, Option, Some, None, if◌then◌else◌, arith}
+use Rattle.std.proofs.Common.{◌-◌, ◌==◌, nat_lt, ℕ, Bool, true, false, List, ◌++◌, length, Option, Some, None, if◌then◌else◌, arith}
 use Rattle.nfc_base.specs.Signal.{Signal}
 use Rattle.dep_pdu.specs.declared.frame.DepFrame.{DepFrame}
-use Rattle.dep_pdu.specs.declared.frame.DepFrame.TheVariants.{AtrReq, AtrRes, Info, Ack, Nack, Attention, Extend, DslReq, DslRes, RlsReq, RlsRes}
+use Rattle.dep_pdu.specs.declared.frame.DepFrame.TheVariants.{AtrReq, Info, Ack, Nack, Attention, Extend}
 use Rattle.dep_link.specs.Frames.{after, spelled}
-use Rattle.dep_link.specs.Sizes.{frame_size, limit, piece_size}
+use Rattle.dep_link.specs.Sizes.{limit, piece_size}
 use Rattle.dep_link.specs.Target as t
 use Rattle.dep_link.specs.Target.{TargetMove, TargetState, frame_table, heeded, obeyed, replied, target_table}
 use Rattle.llcp_link.proofs.Ranged.{either}

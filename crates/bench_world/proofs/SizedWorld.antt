@@ -12,7 +12,7 @@ use Rattle.nfc_base.specs.Choosing.{first_number}
 use Rattle.air_core.specs.World.{Machine, hands_over, hears, stepped_by}
 use Rattle.air_core.specs.Conversation.{replay}
 use Rattle.far_air.specs.FarEnds.{FarTable, numbers_left, first_far, later_fars, moved, rests, by_link}
-use Rattle.far_air.specs.FarWorld.{FarWorld, all_meet, reply_at, device_after, far_after, far_reset, far_dark, far_requested, far_came_back, far_happens, far_air}
+use Rattle.far_air.specs.FarWorld.{FarWorld, all_meet, reply_at, device_after, far_reset, far_dark, far_requested, far_came_back, far_happens, far_air}
 use Rattle.llcp_link.proofs.Ranged.{either}
 
 -- it holds of a far end, where there is one
