@@ -120,3 +120,11 @@ pub mod RawStories
 pub mod RawStores
 pub mod CompleteRaws
 pub mod RawSends
+pub mod SizedTargets
+pub mod SizedEnds
+pub mod SizedWorld
+pub mod SizedFronts
+pub mod SizedInitiator
+pub mod SizedCalls
+pub mod SizedDevices
+pub mod SizedStates
