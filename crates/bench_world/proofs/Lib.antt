@@ -128,3 +128,10 @@ pub mod SizedInitiator
 pub mod SizedCalls
 pub mod SizedDevices
 pub mod SizedStates
+pub mod ShowingTurns
+pub mod ShowingSplits
+pub mod ShowingStep
+pub mod ShowingBegins
+pub mod ShowingOwn
+pub mod ShowingLink
+pub mod ShowingSteps
