@@ -7,3 +7,9 @@ pub mod Filled
 pub mod Growing
 pub mod SameSo
 pub mod Begun
+pub mod FarCourse
+pub mod FarAlone
+pub mod FarLeft
+pub mod FarShows
+pub mod FarSolo
+pub mod FarRun

@@ -88,7 +88,7 @@ module _ {S : Type 0} (m : Serving S) (miu : ℕ) where
   from_keeps l (p ∷ ps) h = one_keeps _ p.part h
 
 module _ {S : Type 0} (m : Serving S) where
-  gave_keeps : (l : LlcState S) (x : Gave S) → gave m l ≡ Some x → x.llc.far_miu ≡ l.far_miu
+  pub gave_keeps : (l : LlcState S) (x : Gave S) → gave m l ≡ Some x → x.llc.far_miu ≡ l.far_miu
   gave_keeps l x e = from_keeps m l.far_miu l l.queue refl x e
 
   -- no more PDUs are joined than are asked for, and each takes a byte at least
