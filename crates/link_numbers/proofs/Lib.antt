@@ -13,3 +13,4 @@ pub mod FarLeft
 pub mod FarShows
 pub mod FarSolo
 pub mod FarRun
+pub mod FarShown
