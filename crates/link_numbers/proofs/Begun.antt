@@ -1,9 +1,8 @@
 -- While of a reply only a front comes, a target with another reply of that front does the same.
-use Rattle.std.proofs.Common.{◌≡◌, ◌⊎◌, inl, inr, ℕ, ◌+◌, ◌-◌, ◌<◌, ◌≤◌, nat_lt, Bool, true, false, List, [], ◌∷◌, ◌++◌, length, take, drop, Option, Some, None, refl, sym, ap, ◌∙◌, subst, arith, append-nil, append_assoc, length-append, length-drop}
+use Rattle.std.proofs.Common.{◌≡◌, ℕ, ◌<◌, ◌≤◌, nat_lt, true, false, List, [], ◌∷◌, ◌++◌, length, take, drop, Option, Some, None, refl, sym, ap, ◌∙◌, subst, arith, append_assoc, length-append}
 use Rattle.std.proofs.lemmas.Bool.{ltb-true}
 use Rattle.std.proofs.lemmas.List.{take-append-drop, length-take-le, append_cancel_left, append_cancel_right}
 use Rattle.std.proofs.Math.Seq.{drop-append_seam}
-use Rattle.arrayvec.specs.ArrayVec.{ArrayVec}
 use Rattle.nfc_base.specs.Signal.{Signal}
 use Rattle.dep_pdu.specs.declared.frame.DepFrame.{DepFrame}
 use Rattle.dep_link.specs.declared.target.TargetStep.{TargetStep}
@@ -14,7 +13,7 @@ use Rattle.dep_link.specs.Initiator.{InitState}
 use Rattle.dep_link.specs.Payloads.{Cut}
 use Rattle.dep_link.specs.Replies.{cut_up}
 use Rattle.dep_link.specs.Target.{TargetState, target_table}
-use Rattle.link_numbers.proofs.Spoken.{Speaks, none_said, some_said, all_said, cut_at}
+use Rattle.link_numbers.proofs.Spoken.{Speaks, none_said, some_said, all_said}
 use Rattle.link_numbers.proofs.Paired.{Paired, Answering, Passed, passed}
 use Rattle.link_numbers.proofs.Growing.{chain_grows, payloads_grow}
 use Rattle.link_numbers.proofs.SameSo.{Alike, SameTurn, keeps, sends, anew, same_turn}
@@ -93,7 +92,8 @@ module _ (i : InitState) (f : Signal) (t u : TargetState) (U : Cut) (past : List
         (sym e ∙ does, record { none_whole = none_whole; xs = b.xs; ahead = ahead ∙ ap (λ zs. zs ++ b.xs) chain; alike = h })
 
     -- a piece of it was
-    more : t1.left ≡ drop t.most t.left → t1.unsent ≡ nat_lt t.most (length t.left) → (t.most ≤ length b.xs → ((target_table t f).does ≡ (target_table u f).does) × Alike (drop t.most b.xs) t1 u1) → Next
+    more : t1.left ≡ drop t.most t.left → t1.unsent ≡ nat_lt t.most (length t.left)
+        → (t.most ≤ length b.xs → ((target_table t f).does ≡ (target_table u f).does) × Alike (drop t.most b.xs) t1 u1) → Next
     more l n h =
         let longer : t.most < length t.left = ltb-true t.most (length t.left) (sym n ∙ unsent) in
         let size : length (take t.most t.left) ≡ t.most = length-take-le t.most t.left (omega (arith, longer)) in

@@ -10,8 +10,7 @@ use Rattle.dep_link.specs.Target.{TargetState}
 use Rattle.far_air.specs.FarEnds.{FarTable}
 use Rattle.far_air.specs.FarWorld.{FarWorld, far_dark, far_air, with_numbers}
 use Rattle.link_numbers.proofs.FarCourse.{Made, AllLit, all_events, all_noted, all_world, made_events, made_note, made_world}
-use Rattle.link_numbers.proofs.FarLeft.{leaving}
-use Rattle.link_numbers.proofs.FarSolo.{DoesSo, here}
+use Rattle.link_numbers.proofs.FarSolo.{DoesSo, here, leaving}
 
 module _ {L F : Type 0} (m : Machine L) (linked : L → Bool) (t : FarTable F) where
   abbrev W : Type 0

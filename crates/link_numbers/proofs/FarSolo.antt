@@ -22,7 +22,10 @@ use Rattle.far_air.specs.FarEnds.{FarTable, numbers_left, reply_to, moved, by_li
 use Rattle.far_air.specs.FarWorld.{FarWorld, AllMet, met_first, meeting, far_stepped, far_dark, far_came_back, far_air, with_numbers}
 use Rattle.link_numbers.proofs.FarAlone.{alone}
 use Rattle.link_numbers.proofs.FarCourse.{Made, AllLit, Dues, all_events, all_noted, all_world, made_events, made_note, made_world}
-use Rattle.link_numbers.proofs.FarLeft.{leaving}
+
+-- the target whose reply has these bytes left
+abbrev pub leaving : TargetState → List ℕ → TargetState
+leaving s l = record s { left = l }
 
 module _ {L F : Type 0} (m : Machine L) (linked : L → Bool) (t : FarTable F) (dev : TargetState → L) where
   -- A device does what its target's table says, with its far end's reply; it has a link, and what is left of a reply goes in the dark.

@@ -7,10 +7,12 @@ pub mod Filled
 pub mod Growing
 pub mod SameSo
 pub mod Begun
+pub mod Giving
+pub mod Showing
 pub mod FarCourse
 pub mod FarAlone
-pub mod FarLeft
 pub mod FarShows
 pub mod FarSolo
 pub mod FarRun
 pub mod FarShown
+pub mod FarSame
