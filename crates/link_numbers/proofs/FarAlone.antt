@@ -178,7 +178,7 @@ module _ {L F : Type 0} (m : Machine L) (linked : L → Bool) (t : FarTable F) w
         others = stepped_around x f k a.others;
       }
 
-      darkened : (x : Around L F) (w v : FarWorld L F) → IsAmid x w v → IsAmid (around_dark x) (far_dark m linked t w) (far_dark m linked t v)
+      pub darkened : (x : Around L F) (w v : FarWorld L F) → IsAmid x w v → IsAmid (around_dark x) (far_dark m linked t w) (far_dark m linked t v)
       darkened x w v a = record {
         lit = false;
         device = m.darkened a.device;
@@ -188,6 +188,17 @@ module _ {L F : Type 0} (m : Machine L) (linked : L → Bool) (t : FarTable F) w
         apart = ap (far_dark m linked t) a.apart;
         others = dark_around x a.others;
       }
+
+      -- the world of the device alone, in the midst of the others
+      abbrev pub placed : Around L F → FarWorld L F → FarWorld L F
+      placed x v = record {
+        field = record { lit = v.field.lit; listeners = x.before ++ (v.field.listeners ++ x.behind) };
+        fars = x.firsts ++ (v.fars ++ x.lasts);
+        numbers = v.numbers;
+      }
+
+      pub is_placed : (x : Around L F) (w v : FarWorld L F) → IsAmid x w v → w ≡ placed x v
+      is_placed x w v a = a.here ∙ ap (placed x) (sym a.apart)
 
       -- one event
       abbrev AsksAt : Event → Type 0

@@ -442,3 +442,14 @@ module _ {L F : Type 0} (m : Machine L) (linked : L → Bool) (t : FarTable F) (
     sames (q ∷ qs) c i f s U given a ns ks more o p most ok l k =
         let z : f ≡ q.frame = run.same_frame m linked t dev does due noted Busy Done Off laws c i f q o k.1 in
         sames_turn qs (sames qs) q.fate q.back c i q.frame s U given a ns ks more (subst (λ x. Busy c i x) z o) (subst (λ x. Paired i x s U [] given) z p) most ok l k.2
+
+    -- So it is where exchanges begin, or none does.
+    pub begins_same : (qs : List Made) (d : C) (j : InitState) (reply : List ℕ) (s : TargetState) (a : F) (ns ks : List ℕ) (more : List Signal) → GoesTo (Rests j reply) d → InStep j s → 2 ≤ s.most
+        → Good a → ks ≡ shows (begins j.core.number) (answers (solo s a ns) qs ++ more) → DuesOf (solo s a ns) d qs → ShownOf (solo s a ns) (solo s a ks) d qs
+    begins_same qs d j reply s a ns ks more o step most ok shown k = go o
+      where
+        go : ((out : List ℕ) × (length out ≤ limit) × Busy d (begun j out) (air_frame (request (begun j out).core))) ⊎ Done d j → ShownOf (solo s a ns) (solo s a ks) d qs
+        go (inl (out, short, busy)) =
+            sames qs d (begun j out) (air_frame (request (begun j out).core)) s (begins j.core.number) None a ns ks more busy
+            (begins_paired j s out [] (begins j.core.number) short step refl) most ok (asked refl shown) k
+        go (inr done) = tail d j qs s a ns ks done step k

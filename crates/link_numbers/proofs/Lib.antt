@@ -16,3 +16,5 @@ pub mod FarSolo
 pub mod FarRun
 pub mod FarShown
 pub mod FarSame
+pub mod FarLaw
+pub mod FarWalk
