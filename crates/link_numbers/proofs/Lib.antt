@@ -18,3 +18,5 @@ pub mod FarShown
 pub mod FarSame
 pub mod FarLaw
 pub mod FarWalk
+pub mod Payload
+pub mod Pieces
