@@ -18,5 +18,7 @@ pub mod FarShown
 pub mod FarSame
 pub mod FarLaw
 pub mod FarWalk
+pub mod EndTakes
+pub mod FarPayloads
 pub mod Payload
 pub mod Pieces
