@@ -20,5 +20,6 @@ pub mod FarLaw
 pub mod FarWalk
 pub mod EndTakes
 pub mod FarPayloads
+pub mod FarWalked
 pub mod Payload
 pub mod Pieces
