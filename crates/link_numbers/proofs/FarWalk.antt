@@ -122,7 +122,7 @@ module _ {W E : Type 0} (g : Giver W E) where
     ok_told (Underway w) h = h w refl
     ok_told (Through e) h = tt
 
-    abbrev Goes : Standing → Walk W E → Type 0
+    abbrev pub Goes : Standing → Walk W E → Type 0
     Goes (Waits j f) d = Busy d j f
     Goes (Rests j reply) d = Starts d j
     Goes (Broken x) d = Off d

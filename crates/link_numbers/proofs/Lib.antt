@@ -21,5 +21,6 @@ pub mod FarWalk
 pub mod EndTakes
 pub mod FarPayloads
 pub mod FarWalked
+pub mod FarClosing
 pub mod Payload
 pub mod Pieces
