@@ -22,5 +22,7 @@ pub mod EndTakes
 pub mod FarPayloads
 pub mod FarWalked
 pub mod FarClosing
+pub mod FarFree
+pub mod FarMost
 pub mod Payload
 pub mod Pieces
