@@ -1,5 +1,5 @@
 -- A field in which all devices but one are silent: what is said there is said by that one alone, and the others go on beside it.
-use Rattle.std.proofs.Common.{◌≡◌, ℕ, suc, List, [], ◌∷◌, ◌++◌, length, Bool, Option, Some, None, true, false, refl, sym, ◌∙◌, ap, subst}
+use Rattle.std.proofs.Common.{◌≡◌, ℕ, suc, List, [], ◌∷◌, ◌++◌, length, Bool, Option, None, false, refl, sym, ◌∙◌, ap, subst}
 use Rattle.std.specs.Prelude.{map}
 use Rattle.std.specs.List.{AllByRecursion, filter_map, cons_option}
 use Rattle.nfc_base.specs.Signal.{Signal}
@@ -12,11 +12,11 @@ use Rattle.nfc_base.specs.declared.event.Fate.TheVariants.{Pass, Damage, Lose, B
 use Rattle.air_core.specs.Joint.{Joint, Nothing, Single, Clashing, joint}
 use Rattle.air_core.specs.Conversation.{Note, note, Next, joint_events, joint_back, replay, turn_events}
 use Rattle.air_core.specs.Quiet.{EachQuiet}
-use Rattle.air_core.specs.World.{Machine, World, hands_over, answered_by, stepped_by}
+use Rattle.air_core.specs.World.{Machine, hands_over, answered_by, stepped_by}
 use Rattle.far_air.specs.FarEnds.{FarTable, numbers_left, rests, later_fars}
 use Rattle.far_air.specs.FarWorld.{FarWorld, AllMet, met_first, reply_at, device_after, far_after, all_meet, meeting, far_stepped, far_dark, far_happens, far_air}
 use Rattle.far_air.specs.FarLaws.{shown}
-use Rattle.far_air.proofs.Meeting.{OneUnasked, one_unasked, unasked, meets_unasked}
+use Rattle.far_air.proofs.Meeting.{OneUnasked, one_unasked, meets_unasked}
 use Rattle.link_numbers.proofs.FarCourse.{Made, AllLit, Dues, all_events, all_noted, all_world, made_events, made_note, made_world}
 
 -- the devices around one, with their far ends
@@ -110,7 +110,7 @@ module _ {L F : Type 0} (m : Machine L) (linked : L → Bool) (t : FarTable F) w
           ap (met_first (device_after m linked t d f o ns) (far_after m linked t d f o ns) (answered_by m d f r))
           (meets_unasked m linked t f behind lasts (numbers_left r ns) (all_quiet behind f k b))
           ∙ ap (λ (said : List Signal). met_first (device_after m linked t d f o ns) (far_after m linked t d f o ns) (answered_by m d f r)
-              (record { listeners = silent_step behind f; fars = shown linked t (silent_step behind f) lasts; answers = said; numbers = numbers_left r ns }))
+          (record { listeners = silent_step behind f; fars = shown linked t (silent_step behind f) lasts; answers = said; numbers = numbers_left r ns }))
           (all_silent behind f k b)
       meets_amid [] behind (p ∷ firsts) lasts f d o ns e k a b = absurd cc
       meets_amid (l ∷ before) behind [] lasts f d o ns e k a b = absurd cc
@@ -285,9 +285,10 @@ module _ {L F : Type 0} (m : Machine L) (linked : L → Bool) (t : FarTable F) w
           let one = turned x w v q k.0 a in
           let rest = all_same qs (around_all x E) (made_world (far_air m linked t) w q) (made_world (far_air m linked t) v q) k.1 one in
           let W : FarWorld L F = all_world (far_air m linked t) w (q ∷ qs) in
-          let V : FarWorld L F = all_world (far_air m linked t) v (q ∷ qs) in
-          (ap (λ es. es ++ all_events (far_air m linked t) (made_world (far_air m linked t) w q) qs) (same_turn x w v q k.0 a) ∙ ap (λ es. E ++ es) rest.0,
-            subst (λ y. IsAmid y W V) (sym (around_more x E (all_events (far_air m linked t) (made_world (far_air m linked t) v q) qs))) rest.1)
+          let V : FarWorld L F = all_world (far_air m linked t) v (q ∷ qs) in (
+            ap (λ es. es ++ all_events (far_air m linked t) (made_world (far_air m linked t) w q) qs) (same_turn x w v q k.0 a) ∙ ap (λ es. E ++ es) rest.0,
+            subst (λ y. IsAmid y W V) (sym (around_more x E (all_events (far_air m linked t) (made_world (far_air m linked t) v q) qs))) rest.1,
+          )
 
       same_lit : (x : Around L F) (w v : FarWorld L F) → IsAmid x w v → w.field.lit ≡ v.field.lit
       same_lit x w v a = ap (λ (z : FarWorld L F). z.field.lit) a.here ∙ sym (ap (λ (z : FarWorld L F). z.field.lit) a.apart)
@@ -307,9 +308,12 @@ module _ {L F : Type 0} (m : Machine L) (linked : L → Bool) (t : FarTable F) w
         dues_alone [] x w v c k a d = tt
         dues_alone (q ∷ qs) x w v c k a d =
             let W : FarWorld L F = made_world (far_air m linked t) w q in
-            let V : FarWorld L F = made_world (far_air m linked t) v q in
-            (sym (same_lit x w v a) ∙ d.0, d.1, dues_alone qs (around_all x (made_events (far_air m linked t) v q)) W V (noted c (made_note (far_air m linked t) v q)) k.1 (turned x w v q k.0 a)
-              (subst (λ n. Dues (far_air m linked t) due noted W (noted c n) qs) (same_note x w v q k.0 a) d.2))
+            let V : FarWorld L F = made_world (far_air m linked t) v q in (
+              sym (same_lit x w v a) ∙ d.0,
+              d.1,
+              dues_alone qs (around_all x (made_events (far_air m linked t) v q)) W V (noted c (made_note (far_air m linked t) v q)) k.1 (turned x w v q k.0 a)
+                  (subst (λ n. Dues (far_air m linked t) due noted W (noted c n) qs) (same_note x w v q k.0 a) d.2),
+            )
 
         pub noted_alone : (qs : List Made) (x : Around L F) (w v : FarWorld L F) (c : C) → AllAsk qs → IsAmid x w v → all_noted (far_air m linked t) due noted w c qs ≡ all_noted (far_air m linked t) due noted v c qs
         noted_alone [] x w v c k a = refl

@@ -1,21 +1,17 @@
 -- The numbers that a peer's answers show are as good as the true ones while a link is closed: behind the call RLS_REQ is sent, which hands nothing over.
-use Rattle.std.proofs.Common.{◌≡◌, ◌⊎◌, inl, inr, ℕ, ◌≤◌, Bool, true, false, if◌then◌else◌, List, [], ◌∷◌, ◌++◌, length, Option, Some, None, refl, sym, ◌∙◌, ap, subst}
-use Rattle.std.specs.Prelude.{map}
-use Rattle.nfc_base.specs.Far.{FarUse, Untouched}
-use Rattle.nfc_base.specs.Signal.{Signal, whole_a}
-use Rattle.nfc_base.specs.Trace.{by_fate, heard_by}
+use Rattle.std.proofs.Common.{◌≡◌, ◌⊎◌, inl, inr, ℕ, ◌≤◌, Bool, true, false, if◌then◌else◌, List, [], ◌∷◌, ◌++◌, length, Some, refl, sym, ◌∙◌, ap, subst}
+use Rattle.nfc_base.specs.Far.{Untouched}
+use Rattle.nfc_base.specs.Signal.{Signal}
+use Rattle.nfc_base.specs.Trace.{by_fate}
 use Rattle.nfc_base.specs.declared.carrier.EndCause.{EndCause}
-use Rattle.nfc_base.specs.declared.carrier.EndCause.TheVariants.{FieldLost}
 use Rattle.nfc_base.specs.declared.event.Event.{Event}
 use Rattle.nfc_base.specs.declared.event.Event.TheVariants.{Request}
 use Rattle.nfc_base.specs.declared.event.Fate.{Fate}
 use Rattle.nfc_base.specs.declared.event.Fate.TheVariants.{Pass, Damage, Lose, Break}
 use Rattle.air_core.specs.Joint.{Joint, Nothing, Single, Clashing, joint}
-use Rattle.air_core.specs.Conversation.{AirModel, Note, Lit, Got, Lost, note, Next, Over, LightUp, Asks, AreTurns, EachDue, joint_back, joint_events, receptions, replay}
+use Rattle.air_core.specs.Conversation.{AirModel, Note, Lit, Got, Lost, Over, LightUp, Asks, AreTurns, EachDue, joint_events, receptions, replay}
 use Rattle.air_core.specs.World.{Machine, hands_over}
 use Rattle.dep_pdu.specs.declared.frame.DepFrame.TheVariants.{RlsReq}
-use Rattle.dep_link.specs.declared.target.TargetStep.{TargetStep}
-use Rattle.dep_link.specs.declared.target.TargetStep.TheVariants as steps
 use Rattle.dep_link.specs.Asking.{Standing, Waits, Rests, Broken, Astray}
 use Rattle.dep_link.specs.Asking as carrying
 use Rattle.dep_link.specs.Exchange.{InStep}
@@ -26,19 +22,19 @@ use Rattle.dep_link.specs.Peers.{target_use}
 use Rattle.dep_link.specs.Releasing.{rls_frame}
 use Rattle.dep_link.specs.Replies.{cut_up}
 use Rattle.dep_link.specs.Sizes.{limit}
-use Rattle.dep_link.specs.Target.{TargetState, TargetTurn, framed, frame_table, heeded, stays, target_table}
+use Rattle.dep_link.specs.Target.{TargetState, TargetTurn, framed, frame_table, stays, target_table}
 use Rattle.dep_link.proofs.Wire.{target_heeds}
 use Rattle.far_air.specs.FarEnds.{FarTable}
 use Rattle.far_air.specs.FarWorld.{FarWorld, AllMet, far_air, far_dark, far_stepped, meeting, with_numbers}
 use Rattle.far_air.proofs.Meeting.{meets_unasked, unasked}
 use Rattle.snep_core.specs.Talk.{Step, Goes, Ends, GivesUp}
-use Rattle.link_calls.specs.CallDue.{OnCall, by_client, call_at, call_noted, next_of}
+use Rattle.link_calls.specs.CallDue.{OnCall, by_client, call_at, next_of}
 use Rattle.link_calls.specs.ClosingDue.{ClosingStanding, Calls, Releasing, Released, closing_at, closing_due, closing_due_at, closing_noted, closing_on, closing_stand}
-use Rattle.link_calls.specs.Walk.{Course, Underway, Walk, Carries, Comes, BrokenBy, Strays, walk_at, walk_due_at, walk_noted}
+use Rattle.link_calls.specs.Walk.{Underway, Walk, Carries, Comes, BrokenBy, Strays, walk_noted}
 use Rattle.link_numbers.specs.Shown.{answers_of, far_shown, numbers, pieces_of}
 use Rattle.link_numbers.proofs.FarAlone.{Around, AreAround, IsSilent, amid}
 use Rattle.link_numbers.proofs.FarCourse.{Dues, Made, made_events, made_note, made_world, noted_all}
-use Rattle.link_numbers.proofs.FarLaw.{IsWhole, ShowsWell, far_law}
+use Rattle.link_numbers.proofs.FarLaw.{IsWhole, far_law}
 use Rattle.link_numbers.proofs.FarRun as run
 use Rattle.link_numbers.proofs.FarSame.{IsNumbered}
 use Rattle.link_numbers.proofs.FarShown.{SameDark, Shown, same_dark, shown_more, shown_none}
@@ -300,10 +296,10 @@ module _ {L F : Type 0} (m : Machine L) (linked : L → Bool) (t : FarTable F) (
       pub closes_well : AreTurns air (world ns) es → EachDue (closing_due own from i) [] es → ClosesWell
       closes_well turns each =
           let k = far_law m linked t Is aside dark dev does closing_due_at closing_noted BusyAt DoneAt OffAt carries Good reads numbered HasClosedAt
-              (λ c j f b e. busy_more Ok short goes_on c j f b e) (λ c o e. off_more Ok short goes_on c o e) (IsWholeClosing Ok short goes_on) (λ c f w e. asks_whole Ok short goes_on c f w e)
-              (λ c n w. closing_whole Ok short goes_on c n w) (λ c e. closing_never Ok short goes_on c e) tail x around i s a ns step most ok (closing_at (call_at own from i)) []
-              (starts_closing Ok short goes_on (call_at own from i) i (walk_starts by_client Ok short goes_on (next_of own from) i under))
-              (at_closing_whole Ok short goes_on (call_at own from i) (at_whole by_client (next_of own from) i)) (answers_of more) ks es (closing_due own from i)
-              (λ hs. ap closing_due_at (closing_all Ok short goes_on (closing_at (call_at own from i)) hs)) turns each
-              (ap (λ fs. numbers (cut_up (begins i.core.number) (pieces_of fs))) (answers_append es more)) in
+          (λ c j f b e. busy_more Ok short goes_on c j f b e) (λ c o e. off_more Ok short goes_on c o e) (IsWholeClosing Ok short goes_on) (λ c f w e. asks_whole Ok short goes_on c f w e)
+          (λ c n w. closing_whole Ok short goes_on c n w) (λ c e. closing_never Ok short goes_on c e) tail x around i s a ns step most ok (closing_at (call_at own from i)) []
+          (starts_closing Ok short goes_on (call_at own from i) i (walk_starts by_client Ok short goes_on (next_of own from) i under))
+          (at_closing_whole Ok short goes_on (call_at own from i) (at_whole by_client (next_of own from) i)) (answers_of more) ks es (closing_due own from i)
+          (λ hs. ap closing_due_at (closing_all Ok short goes_on (closing_at (call_at own from i)) hs)) turns each
+          (ap (λ fs. numbers (cut_up (begins i.core.number) (pieces_of fs))) (answers_append es more)) in
           record { turns = k.turns; alike = k.alike; done = λ e. k.done (subst HasClosedAt (closing_all Ok short goes_on (closing_at (call_at own from i)) (receptions es)) e) }

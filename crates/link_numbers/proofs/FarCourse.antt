@@ -1,15 +1,14 @@
 -- Turns of an air whose requests are due one after another, by what was heard of those before.
-use Rattle.std.proofs.Common.{◌≡◌, List, [], ◌∷◌, ◌++◌, Bool, true, false, if◌then◌else◌, Option, refl, sym, ◌∙◌, ap, subst, append_assoc, append-nil}
+use Rattle.std.proofs.Common.{◌≡◌, List, [], ◌∷◌, ◌++◌, Bool, true, false, if◌then◌else◌, refl, sym, ◌∙◌, ap, subst, append_assoc, append-nil}
 use Rattle.nfc_base.specs.Signal.{Signal}
 use Rattle.nfc_base.specs.Trace.{Back, by_fate, back_of, heard_by}
 use Rattle.nfc_base.specs.Trace as backs
 use Rattle.nfc_base.specs.declared.event.Event.{Event}
-use Rattle.nfc_base.specs.declared.event.Event.TheVariants.{Reset, Request, Answer, Clash}
+use Rattle.nfc_base.specs.declared.event.Event.TheVariants.{Request}
 use Rattle.nfc_base.specs.declared.event.Fate.{Fate}
 use Rattle.nfc_base.specs.declared.event.Fate.TheVariants.{Pass, Damage, Lose, Break}
-use Rattle.nfc_base.specs.declared.event.Heard.{Heard}
 use Rattle.air_core.specs.Joint.{Joint, Nothing, Single, Clashing}
-use Rattle.air_core.specs.Conversation.{AirModel, Note, note, Next, Over, LightUp, Asks, receptions, EachDue, joint_events, joint_back, replay, turn_events, turn_heard, Move, Light, Ask, move_events, trace_of, AreTurns}
+use Rattle.air_core.specs.Conversation.{AirModel, Note, note, Next, LightUp, Asks, receptions, EachDue, joint_events, joint_back, replay, turn_events, turn_heard, Move, Light, Ask, move_events, trace_of, AreTurns}
 use Rattle.air_core.specs.Turning.{receptions-append}
 
 -- a turn that is made: its request, and the fates of it and of what comes back

@@ -1,5 +1,5 @@
 -- The numbers that a peer's answers show are as good as the true ones, among others in the field that are silent.
-use Rattle.std.proofs.Common.{◌≡◌, ◌⊎◌, inl, inr, ℕ, ◌≤◌, List, [], ◌∷◌, ◌++◌, length, Bool, true, false, Option, Some, None, refl, sym, ◌∙◌, ap, subst}
+use Rattle.std.proofs.Common.{◌≡◌, ℕ, ◌≤◌, List, [], ◌∷◌, ◌++◌, Bool, true, Some, refl, sym, ◌∙◌, ap, subst}
 use Rattle.nfc_base.specs.Signal.{Signal, whole_a}
 use Rattle.nfc_base.specs.declared.event.Event.{Event}
 use Rattle.air_core.specs.Conversation.{AirModel, Note, Next, LightUp, Asks, AreTurns, EachDue, receptions, replay}
@@ -13,7 +13,7 @@ use Rattle.far_air.specs.FarEnds.{FarTable}
 use Rattle.far_air.specs.FarWorld.{FarWorld, far_dark, far_air, with_numbers}
 use Rattle.link_numbers.specs.Shown.{answers_of}
 use Rattle.link_numbers.proofs.FarAlone.{Around, AreAround, AllAsk, IsAmid, IsSilent, all_same, amid, around_all, around_dark, darkened, dues_alone, is_placed, lit_amid, noted_alone, placed}
-use Rattle.link_numbers.proofs.FarCourse.{AreMade, Dues, Made, all_events, all_known, all_noted, all_replayed, all_turns, all_world, are_made, dues_lit, made_note, made_world, noted_all}
+use Rattle.link_numbers.proofs.FarCourse.{AreMade, Dues, Made, all_events, all_known, all_replayed, all_turns, all_world, are_made, made_note, made_world, noted_all}
 use Rattle.link_numbers.proofs.FarRun as run
 use Rattle.link_numbers.proofs.FarSame.{IsNumbered, begins_same}
 use Rattle.link_numbers.proofs.FarShown.{SameDark, Shown}
@@ -60,7 +60,7 @@ module _ {L F : Type 0} (m : Machine L) (linked : L → Bool) (t : FarTable F) w
         (Frames : C → Type 0) (frames : (c : C) (f : Signal) → Frames c → due c ≡ Asks f → IsWhole f) (frames_on : (c : C) (n : Note) → Frames c → Frames (noted c n))
         (never : (c : C) → due c ≡ LightUp → ⊥)
         (tail : (d : C) (j : InitState) (qs : List Made) (s : TargetState) (a : F) (ns ks : List ℕ) → Done d j → InStep j s → Dues air due noted (here m linked t dev s a ns) d qs
-            → Shown m linked t due noted End (here m linked t dev s a ns) (here m linked t dev s a ks) d qs) where
+        → Shown m linked t due noted End (here m linked t dev s a ns) (here m linked t dev s a ks) d qs) where
       all_whole : (qs : List Made) (w : W) (c : C) → Frames c → Dues air due noted w c qs → AllAsk m linked t Is IsWhole silent dark qs
       all_whole [] w c k d = tt
       all_whole (q ∷ qs) w c k d =
@@ -113,11 +113,11 @@ module _ {L F : Type 0} (m : Machine L) (linked : L → Bool) (t : FarTable F) w
             alike = subst (λ z. SameDark m linked t z (replay air (world ks) (all_events air (world ns) qs))) (sym (all_replayed air (world ns) qs))
                 (subst (λ z. SameDark m linked t (all_world air (world ns) qs) z) (sym replayed)
                 (dark_amid (around_all m linked t x (all_events air (apart ns) qs)) (all_world air (world ns) qs) (all_world air (apart ns) qs) (all_world air (world ks) qs) (all_world air (apart ks) qs)
-                  true_turns.1 other_amid same.alike));
+                true_turns.1 other_amid same.alike));
             done = λ e.
                 ap (λ z. with_numbers z []) replayed
                 ∙ same_amid (around_all m linked t x (all_events air (apart ns) qs)) (all_world air (world ns) qs) (all_world air (apart ns) qs) (all_world air (world ks) qs) (all_world air (apart ks) qs)
-                    true_turns.1 other_amid (same.done (subst End (all_known air due noted (world ns) c qs ∙ noted_alone m linked t Is IsWhole silent dark due noted qs x (world ns) (apart ns) c whole (amid_at ns)) e))
+                true_turns.1 other_amid (same.done (subst End (all_known air due noted (world ns) c qs ∙ noted_alone m linked t Is IsWhole silent dark due noted qs x (world ns) (apart ns) c whole (amid_at ns)) e))
                 ∙ sym (ap (λ z. with_numbers z []) (all_replayed air (world ns) qs));
           }
             where

@@ -1,11 +1,11 @@
 -- A target's pieces have two bytes or more, whatever it hears: its links are of initiators that take 61 bytes at least.
-use Rattle.std.proofs.Common.{◌≡◌, ℕ, ◌-◌, ◌≤◌, ◌==◌, nat_lt, Bool, true, false, if◌then◌else◌, List, [], ◌++◌, length, Option, Some, None, refl, sym, ap, subst, arith}
+use Rattle.std.proofs.Common.{ℕ, ◌-◌, ◌≤◌, ◌==◌, nat_lt, Bool, true, false, if◌then◌else◌, List, ◌++◌, length, Option, Some, None, arith}
 use Rattle.nfc_base.specs.Signal.{Signal}
 use Rattle.dep_pdu.specs.declared.frame.DepFrame.{DepFrame}
 use Rattle.dep_pdu.specs.declared.frame.DepFrame.TheVariants.{AtrReq, AtrRes, Info, Ack, Nack, Attention, Extend, DslReq, DslRes, RlsReq, RlsRes}
 use Rattle.dep_link.specs.Frames.{after, spelled}
-use Rattle.dep_link.specs.Sizes.{frame_size, initiator_lr, limit, piece_size}
-use Rattle.dep_link.specs.Target.{TargetState, TargetMove, TargetTurn, again, darkened, drawn, extended, framed, gathered, granted, grown, heeded, obeyed, frame_table, repeated, restarted, stays, target_table}
+use Rattle.dep_link.specs.Sizes.{initiator_lr, limit, piece_size}
+use Rattle.dep_link.specs.Target.{TargetState, TargetMove, again, darkened, drawn, extended, gathered, granted, grown, heeded, obeyed, frame_table, repeated, stays, target_table}
 
 -- the least that an initiator takes
 abbrev pub Cuts : TargetState → Type 0

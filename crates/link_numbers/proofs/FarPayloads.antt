@@ -1,5 +1,5 @@
 -- What the numbers of PDUs that payloads show do at the end of a peer.
-use Rattle.std.proofs.Common.{◌≡◌, ℕ, ◌<◌, ◌≤◌, List, [], ◌∷◌, ◌++◌, length, Bool, true, false, if◌then◌else◌, Option, Some, None, refl, sym, ◌∙◌, ap, subst, arith}
+use Rattle.std.proofs.Common.{◌≡◌, ℕ, ◌<◌, ◌≤◌, List, [], ◌∷◌, ◌++◌, length, Bool, true, false, if◌then◌else◌, refl, sym, ◌∙◌, ap, subst, arith}
 use Rattle.nfc_base.specs.Choosing.{first_number}
 use Rattle.dep_link.specs.Sizes.{limit}
 use Rattle.llcp_pdu.specs.declared.part.Part.{Part}
@@ -7,9 +7,8 @@ use Rattle.llcp_pdu.specs.declared.part.Part.TheVariants.{Symm, Ui, Connect, Dis
 use Rattle.llcp_pdu.specs.Writing.{part_bytes}
 use Rattle.llcp_link.specs.Fronts.{IsFrontOf}
 use Rattle.llcp_link.specs.Giving.{after_giving, given, given_parts, payload_of}
-use Rattle.llcp_link.specs.State.{LlcState, fresh_end}
+use Rattle.llcp_link.specs.State.{fresh_end}
 use Rattle.llcp_link.specs.Taking.{taken_from}
-use Rattle.far_air.specs.FarEnds.{FarTable}
 use Rattle.peer_air.specs.PeerFars.{peer_ends}
 use Rattle.snep_core.specs.Accord.{PeerState}
 use Rattle.snep_core.specs.Server.{Received, no_sessions, serving}
@@ -17,7 +16,7 @@ use Rattle.snep_core.proofs.CallsKeep.{giving_keeps}
 use Rattle.link_calls.specs.Staying.{Setting, setting_of}
 use Rattle.link_calls.proofs.Settings.{answered_set}
 use Rattle.link_numbers.specs.Shown.{cut_off, number}
-use Rattle.link_numbers.proofs.EndTakes.{after_has, taken_has, unread_after, unread_given, unread_takes}
+use Rattle.link_numbers.proofs.EndTakes.{taken_has, unread_after, unread_given, unread_takes}
 use Rattle.link_numbers.proofs.FarSame.{IsNumbered}
 use Rattle.link_numbers.proofs.FarShows.{IsFront, begun_front}
 use Rattle.link_numbers.proofs.Payload.{cut_shown, later_shown, whole_shown}

@@ -1,11 +1,9 @@
 -- The run of a peer that is alone, turn by turn, while an initiator carries payloads to it: whether the reply that was given becomes whole.
-use Rattle.std.proofs.Common.{◌≡◌, ◌⊎◌, inl, inr, ℕ, ◌<◌, ◌≤◌, List, [], ◌∷◌, ◌++◌, length, drop, nat_lt, if◌then◌else◌, Bool, true, false, Option, Some, None, IfSome, refl, sym, ◌∙◌, ap, subst, arith, append-nil}
+use Rattle.std.proofs.Common.{◌≡◌, ◌⊎◌, inl, inr, ℕ, ◌<◌, ◌≤◌, List, [], ◌∷◌, ◌++◌, length, drop, nat_lt, if◌then◌else◌, Bool, true, false, Option, Some, None, IfSome, refl, sym, ◌∙◌, ap, subst, arith}
 use Rattle.arrayvec.specs.ArrayVec.{ArrayVec}
 use Rattle.nfc_base.specs.Signal.{Signal, whole_a}
 use Rattle.nfc_base.specs.Trace.{heard_at}
-use Rattle.nfc_base.specs.declared.carrier.EndCause.TheVariants as cause
-use Rattle.nfc_base.specs.declared.event.Event.{Event}
-use Rattle.nfc_base.specs.declared.event.Event.TheVariants.{Reset, Request, Answer, Clash}
+use Rattle.nfc_base.specs.declared.event.Event.TheVariants.{Request, Answer}
 use Rattle.nfc_base.specs.declared.event.Fate.{Fate}
 use Rattle.nfc_base.specs.declared.event.Fate.TheVariants.{Pass, Damage, Lose, Break}
 use Rattle.nfc_base.specs.declared.event.Heard.TheVariants as heards
@@ -15,7 +13,7 @@ use Rattle.dep_link.specs.declared.target.TargetStep.{TargetStep}
 use Rattle.dep_link.specs.declared.target.TargetStep.TheVariants as steps
 use Rattle.dep_link.specs.Asking.{Standing, Waits, Rests, Broken, Astray}
 use Rattle.dep_link.specs.Asking as carrying
-use Rattle.dep_link.specs.Exchange.{InStep, before_frames}
+use Rattle.dep_link.specs.Exchange.{before_frames}
 use Rattle.dep_link.specs.Frames.{air_frame, spelled}
 use Rattle.dep_link.specs.Initiator.{InitState, begun, request}
 use Rattle.dep_link.specs.Payloads.{Cut}
@@ -27,9 +25,9 @@ use Rattle.dep_link.proofs.Standing.{Ask, asks, nacks, attends}
 use Rattle.far_air.specs.FarEnds.{FarTable}
 use Rattle.far_air.specs.FarWorld.{FarWorld, far_dark, far_came_back, far_air}
 use Rattle.link_numbers.specs.Shown.{answers_of, pieces_of}
-use Rattle.link_numbers.proofs.FarCourse.{Made, Dues, all_events, made_events, made_note, made_world}
-use Rattle.link_numbers.proofs.FarShows.{IsFront, answers_append, cut_append, cut_first}
-use Rattle.link_numbers.proofs.FarSolo.{DoesSo, Stepped, here, passing, step_events, step_hands, step_note, step_says, step_world}
+use Rattle.link_numbers.proofs.FarCourse.{Made, Dues, all_events, made_note, made_world}
+use Rattle.link_numbers.proofs.FarShows.{IsFront, cut_first}
+use Rattle.link_numbers.proofs.FarSolo.{DoesSo, Stepped, here, passing, step_events, step_note, step_says, step_world}
 use Rattle.link_numbers.proofs.Filled.{answer_pieces}
 use Rattle.link_numbers.proofs.Growing.{payloads_grow}
 use Rattle.link_numbers.proofs.Moving.{Turn, turn_at}
@@ -52,8 +50,11 @@ said_outcome s r U most some (none_said due unsent left is) =
     inr (ap (λ (c : Cut). c.payloads) is, subst (λ xs. IsFront xs r) (sym (ap (λ (c : Cut). c.chain) is)) (some_left [] r r refl some), inl (ap (λ (c : Cut). c.chain) is))
 said_outcome s r U most some (some_said due unsent xs whole size rest is) =
     let chain : U.chain ≡ xs = ap (λ (c : Cut). c.chain) is in
-    inr (ap (λ (c : Cut). c.payloads) is, subst (λ zs. IsFront zs r) (sym chain) (some_left xs s.left r whole rest),
-      inr (let e : length U.chain ≡ length xs = ap length chain in omega (arith, most, size, e)))
+    inr (
+      ap (λ (c : Cut). c.payloads) is,
+      subst (λ zs. IsFront zs r) (sym chain) (some_left xs s.left r whole rest),
+      inr (let e : length U.chain ≡ length xs = ap length chain in omega (arith, most, size, e)),
+    )
 said_outcome s r U most some (all_said due unsent left is) = inl ([], ap (λ (c : Cut). c.payloads) is)
 
 pub whole_outcome : (r : List ℕ) (U : Cut) (fs : List Signal) → U.payloads ≡ r ∷ [] → Outcome r (cut_up U (pieces_of fs))
@@ -64,7 +65,7 @@ pub data Steps (i : InitState) (f : Signal) (s : TargetState) (U : Cut) (given :
   says : (g : Signal) → (target_table s f).does ≡ steps.Reply g → Answering i g (target_table s f).state (cut_up U (before_frames (spelled g) [])) [] given → Steps i f s U given
   hands : (p : ArrayVec ℕ) → (target_table s f).does ≡ steps.Deliver p → given ≡ None
       → ((r : List ℕ) → length r ≤ limit → Answering i (air_frame (reply_frame (target_table s f).state r)) (replied (target_table s f).state r)
-          (cut_up U (before_frames (spelled (air_frame (reply_frame (target_table s f).state r))) [])) [] (Some r)) → Steps i f s U given
+      (cut_up U (before_frames (spelled (air_frame (reply_frame (target_table s f).state r))) [])) [] (Some r)) → Steps i f s U given
 
 pub steps_of : (i : InitState) (f : Signal) (s : TargetState) (U : Cut) (given : Option (List ℕ)) → Paired i f s U [] given → Steps i f s U given
 steps_of i f s U given p = go (target_table s f).does refl (passed i f s U [] given p)
@@ -106,7 +107,7 @@ most_replied s r = go (nat_lt 0 s.busy)
   where
     go : (b : Bool)
         → (if b then record s { last = Some (Extend true s.times); left = r; unsent = true; due = s.busy; followed = false }
-          else record s { last = Some (first_piece s r); left = drop s.most r; unsent = nat_lt s.most (length r); due = 0; followed = false }).most ≡ s.most
+        else record s { last = Some (first_piece s r); left = drop s.most r; unsent = nat_lt s.most (length r); due = 0; followed = false }).most ≡ s.most
     go true = refl
     go false = refl
 
@@ -234,7 +235,7 @@ module _ {L F : Type 0} (m : Machine L) (linked : L → Bool) (t : FarTable F) (
             let U' : Cut = cut_up U (before_frames (spelled g) []) in
             subst (Outcome r) (sym (step_cut (solo s a ns) (solo s' a ns) f g y qs step i s' U (Some r) h some))
             (outs_back qs more y c i f g s' U' r a ns b h (subst (λ n. 2 ≤ n) (sym (most_stays i f s U (Some r) p)) most) some
-              (step_dues (solo s a ns) (solo s' a ns) c f g y qs step k))
+            (step_dues (solo s a ns) (solo s' a ns) c f g y qs step k))
         go (hands x e none h) = absurd (let z : Some r ≡ None = none in cc)
     outs_turn qs more Damage y c i f s U r a ns b p most some k =
         outs_on qs more (carrying.noted (Waits i f) (Got heards.Silent)) (noted c (Got heards.Silent)) s U r a ns (laws.goes c i f b (Got heards.Silent))

@@ -1,16 +1,13 @@
 -- A peer alone whose replies have the numbers that its answers show does the same as by the true ones.
-use Rattle.std.proofs.Common.{◌≡◌, ◌⊎◌, inl, inr, ℕ, ◌+◌, ◌<◌, ◌≤◌, List, [], ◌∷◌, ◌++◌, length, if◌then◌else◌, Bool, true, false, Option, Some, None, IfSome, refl, sym, ◌∙◌, ap, subst, arith, append_assoc, length-append}
+use Rattle.std.proofs.Common.{◌≡◌, ◌⊎◌, inl, inr, ℕ, ◌<◌, ◌≤◌, List, [], ◌∷◌, ◌++◌, length, if◌then◌else◌, Bool, true, false, Option, Some, None, IfSome, refl, sym, ◌∙◌, ap, subst, arith, length-append}
 use Rattle.std.specs.List.{filter}
 use Rattle.arrayvec.specs.ArrayVec.{ArrayVec}
 use Rattle.nfc_base.specs.Choosing.{first_number, later_numbers}
 use Rattle.nfc_base.specs.Signal.{Signal, whole_a}
-use Rattle.nfc_base.specs.declared.carrier.EndCause.TheVariants as cause
-use Rattle.nfc_base.specs.declared.event.Event.{Event}
-use Rattle.nfc_base.specs.declared.event.Event.TheVariants.{Reset, Request, Answer, Clash}
 use Rattle.nfc_base.specs.declared.event.Fate.{Fate}
 use Rattle.nfc_base.specs.declared.event.Fate.TheVariants.{Pass, Damage, Lose, Break}
 use Rattle.nfc_base.specs.declared.event.Heard.TheVariants as heards
-use Rattle.air_core.specs.Conversation.{AirModel, Note, Got, Lost, note, Next, Asks}
+use Rattle.air_core.specs.Conversation.{AirModel, Note, Got, Lost, Next}
 use Rattle.air_core.specs.World.{Machine}
 use Rattle.dep_pdu.specs.declared.frame.DepFrame.{DepFrame}
 use Rattle.dep_link.specs.declared.target.TargetStep.TheVariants as steps
@@ -24,7 +21,7 @@ use Rattle.dep_link.specs.Replies.{cut_up}
 use Rattle.dep_link.specs.Sizes.{limit}
 use Rattle.dep_link.specs.Target.{TargetState, target_table, replied, reply_frame}
 use Rattle.far_air.specs.FarEnds.{FarTable}
-use Rattle.far_air.specs.FarWorld.{FarWorld, far_dark, far_came_back, far_air, with_numbers}
+use Rattle.far_air.specs.FarWorld.{FarWorld, far_dark, far_came_back, far_air}
 use Rattle.link_numbers.specs.Shown.{answers_of, cut_off, has_content, number, numbers, pieces_of}
 use Rattle.link_numbers.proofs.Begun.{Begun, begun_turn, cut_up_then}
 use Rattle.link_numbers.proofs.FarCourse.{Made, Dues, all_events, made_note, made_world}
@@ -32,7 +29,7 @@ use Rattle.link_numbers.proofs.FarRun as run
 use Rattle.link_numbers.proofs.FarRun.{Outcome, Steps, says, hands, steps_of, asks_whole, most_stays, most_replied}
 use Rattle.link_numbers.proofs.FarShown.{SameDark, Shown, dark_same, left_dark, same_dark, shown_more, shown_none}
 use Rattle.link_numbers.proofs.FarShows.{IsFront, ReadOff, of_begun, of_whole, cut_append, first_read, first_whole, shows, shows_behind}
-use Rattle.link_numbers.proofs.FarSolo.{DoesSo, Stepped, here, leaving, passing, step_events, step_hands, step_note, step_says, step_world}
+use Rattle.link_numbers.proofs.FarSolo.{DoesSo, Stepped, here, step_events, step_hands, step_note, step_says, step_world}
 use Rattle.link_numbers.proofs.Filled.{answer_pieces}
 use Rattle.link_numbers.proofs.Giving.{begun_given}
 use Rattle.link_numbers.proofs.Growing.{payloads_grow}
@@ -203,7 +200,7 @@ module _ {L F : Type 0} (m : Machine L) (linked : L → Bool) (t : FarTable F) (
   cuts_turn qs more Break y c i f s u U r a b ns ks o p some h e k =
       shown_broken (solo s a ns) (solo u b ks) c f y qs refl
       (shown_off qs (far_dark m linked t (solo s a ns)) (far_dark m linked t (solo u b ks)) (noted c Lost) (laws.goes c i f o Lost) k
-        (dark_same m linked t (solo s a ns) (solo u b ks) (begun_dark _ s u U a b ns ks h e)))
+      (dark_same m linked t (solo s a ns) (solo u b ks) (begun_dark _ s u U a b ns ks h e)))
 
   cuts : (qs : List Made) → Cuts qs
   cuts [] c i f s u U r a b ns ks o p some h e k =
@@ -227,7 +224,7 @@ module _ {L F : Type 0} (m : Machine L) (linked : L → Bool) (t : FarTable F) (
       asked e (shown ∙ ap numbers (run.answer_cut m linked t dev does due noted Busy Done Off laws i g s U given fs h (subst (λ o. IfSome o (λ r. 0 < length r)) (sym e) tt)))
   aligned_more i g s U given a ks fs h (gave r e some shown) =
       gave r e some (shown ∙ ap (λ c. later_numbers (numbers c))
-        (run.answer_cut m linked t dev does due noted Busy Done Off laws i g s U given fs h (subst (λ o. IfSome o (λ r. 0 < length r)) (sym e) some)))
+      (run.answer_cut m linked t dev does due noted Busy Done Off laws i g s U given fs h (subst (λ o. IfSome o (λ r. 0 < length r)) (sym e) some)))
 
   -- the reply came whole, and the next exchange begins
   aligned_rests : (U : Cut) (n : ℕ) (reply : List ℕ) (given : Option (List ℕ)) (a : F) (ks : List ℕ) (fs : List Signal) → given ≡ Some reply → U ≡ cut_at n [] (reply ∷ [])
@@ -279,7 +276,7 @@ module _ {L F : Type 0} (m : Machine L) (linked : L → Bool) (t : FarTable F) (
         (k : DuesOf (made_world air (solo s a ns) (made_of f Pass y)) (noted c (made_note air (solo s a ns) (made_of f Pass y))) qs)
         (x : ArrayVec ℕ) (at : (target_table s f).does ≡ steps.Deliver x) (none : given ≡ None)
         (h : (r : List ℕ) → length r ≤ limit → Answering i (air_frame (reply_frame (target_table s f).state r)) (replied (target_table s f).state r)
-            (cut_up U (before_frames (spelled (air_frame (reply_frame (target_table s f).state r))) [])) [] (Some r)) where
+        (cut_up U (before_frames (spelled (air_frame (reply_frame (target_table s f).state r))) [])) [] (Some r)) where
       abbrev d1 : TargetState
       d1 = (target_table s f).state
 
@@ -393,7 +390,7 @@ module _ {L F : Type 0} (m : Machine L) (linked : L → Bool) (t : FarTable F) (
         read : ShownOf (solo s a ns) (solo s a ks) c (made_of f Pass y ∷ qs)
         read =
             by_outcome (run.outs_back m linked t dev does due noted Busy Done Off laws qs (run.outcome m linked t dev does due noted Busy Done Off laws qs) y c i f g s' V r a' (later_numbers ns)
-              o here_now most_now some dues)
+            o here_now most_now some dues)
 
       by_aligned : reads a x.items ≡ true → Aligned given U a ks (answers (solo s a ns) (made_of f Pass y ∷ qs) ++ more) → ShownOf (solo s a ns) (solo s a ks) c (made_of f Pass y ∷ qs)
       by_aligned e (mute all) = absurd (let z : true ≡ false = sym e ∙ all x.items in cc)
@@ -421,8 +418,8 @@ module _ {L F : Type 0} (m : Machine L) (linked : L → Bool) (t : FarTable F) (
             let said : answers (solo s a ns) (made_of f Pass y ∷ qs) ≡ g ∷ fs = ap answers_of (run.step_all m linked t dev does due noted Busy Done Off laws (solo s a ns) (solo s' a ns) f g y qs step) in
             shown_step (solo s a ns) (solo s a ks) (solo s' a ns) (solo s' a ks) c f g y qs refl step (step_says m linked t dev does s a ks f whole g at)
             (sames_back qs same y c i f g s' (cut_up U (before_frames (spelled g) [])) given a ns ks more o h (subst (λ z. 2 ≤ z) (sym (most_stays i f s U given p)) most) ok
-              (aligned_more i g s' U given a ks (fs ++ more) h (subst (λ z. Aligned given U a ks (z ++ more)) said l))
-              (run.step_dues m linked t dev does due noted Busy Done Off laws (solo s a ns) (solo s' a ns) c f g y qs step k))
+            (aligned_more i g s' U given a ks (fs ++ more) h (subst (λ z. Aligned given U a ks (z ++ more)) said l))
+            (run.step_dues m linked t dev does due noted Busy Done Off laws (solo s a ns) (solo s' a ns) c f g y qs step k))
         go (hands x at none h) = handed qs same y c i f s U given a ns ks more o p most ok l k x at none h
     sames_turn qs same Damage y c i f s U given a ns ks more o p most ok l k =
         (shown_missed (solo s a ns) (solo s a ks) c f y qs refl
@@ -433,7 +430,7 @@ module _ {L F : Type 0} (m : Machine L) (linked : L → Bool) (t : FarTable F) (
     sames_turn qs same Break y c i f s U given a ns ks more o p most ok l k =
         shown_broken (solo s a ns) (solo s a ks) c f y qs refl
         (shown_off qs (far_dark m linked t (solo s a ns)) (far_dark m linked t (solo s a ks)) (noted c Lost) (laws.goes c i f o Lost) k
-          (dark_same m linked t (solo s a ns) (solo s a ks) (same_dark m linked t dev does s a ns ks)))
+        (dark_same m linked t (solo s a ns) (solo s a ks) (same_dark m linked t dev does s a ns ks)))
 
     -- By the numbers that the answers show, whatever stands behind them, the same turns are made.
     pub sames : (qs : List Made) → Sames qs

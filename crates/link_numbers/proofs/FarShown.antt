@@ -1,9 +1,5 @@
 -- Two worlds in which the same turns are made, and what is the same behind them.
-use Rattle.std.proofs.Common.{◌≡◌, ℕ, List, [], ◌∷◌, ◌++◌, length, Bool, true, false, Option, Some, None, refl, sym, ◌∙◌, ap, subst}
-use Rattle.nfc_base.specs.Signal.{Signal}
-use Rattle.nfc_base.specs.declared.event.Event.{Event}
-use Rattle.nfc_base.specs.declared.event.Fate.{Fate}
-use Rattle.nfc_base.specs.declared.event.Fate.TheVariants.{Pass, Damage, Lose, Break}
+use Rattle.std.proofs.Common.{◌≡◌, ℕ, List, [], ◌∷◌, ◌++◌, Bool, true, false, Some, refl, sym, ◌∙◌, ap, subst}
 use Rattle.air_core.specs.Conversation.{AirModel, Note, Next}
 use Rattle.air_core.specs.World.{Machine}
 use Rattle.dep_link.specs.Target.{TargetState}

@@ -1,9 +1,9 @@
 -- Numbers that answers show, one answer after another.
-use Rattle.std.proofs.Common.{◌≡◌, ◌⊎◌, inl, inr, ℕ, ◌+◌, ◌<◌, ◌≤◌, ◌==◌, nat_lt, Bool, true, false, if◌then◌else◌, List, [], ◌∷◌, ◌++◌, length, Option, Some, None, refl, sym, ap, ◌∙◌, subst, arith, append_assoc, append-nil}
+use Rattle.std.proofs.Common.{◌≡◌, ℕ, ◌<◌, ◌≤◌, ◌==◌, Bool, true, false, if◌then◌else◌, List, [], ◌∷◌, ◌++◌, length, Option, Some, None, refl, sym, ap, ◌∙◌, subst, arith, append_assoc, append-nil}
 use Rattle.std.specs.Prelude.{map}
-use Rattle.std.specs.List.{filter, AllByRecursion}
+use Rattle.std.specs.List.{filter}
 use Rattle.std.proofs.lemmas.Bool.{ltb-true}
-use Rattle.nfc_base.specs.Choosing.{first_number, later_numbers}
+use Rattle.nfc_base.specs.Choosing.{first_number}
 use Rattle.nfc_base.specs.Signal.{Signal}
 use Rattle.nfc_base.specs.declared.event.Event.{Event}
 use Rattle.nfc_base.specs.declared.event.Event.TheVariants.{Reset, Request, Answer, Clash}
@@ -13,8 +13,7 @@ use Rattle.dep_link.specs.Exchange.{before_frames, frames_of}
 use Rattle.dep_link.specs.Frames.{after, spelled}
 use Rattle.dep_link.specs.Payloads.{Cut, begins, joined}
 use Rattle.dep_link.specs.Replies.{cut_up, taken_up}
-use Rattle.llcp_pdu.specs.Raw.{raw}
-use Rattle.link_numbers.specs.Shown.{answers_of, cut_off, has_content, heads_agf, number, number_begun, numbers, pieces_of}
+use Rattle.link_numbers.specs.Shown.{answers_of, cut_off, has_content, number, numbers, pieces_of}
 use Rattle.link_numbers.proofs.Growing.{payloads_grow}
 use Rattle.link_numbers.proofs.Spoken.{cut_at}
 

@@ -1,27 +1,26 @@
 -- One peer alone in a lit field, turn by turn, in two worlds in which it does the same.
-use Rattle.std.proofs.Common.{◌≡◌, ◌⊎◌, inl, inr, ℕ, ◌≤◌, List, [], ◌∷◌, ◌++◌, length, Bool, true, false, Option, Some, None, refl, sym, ◌∙◌, ap, subst}
-use Rattle.std.specs.Prelude.{map}
+use Rattle.std.proofs.Common.{◌≡◌, ℕ, List, [], ◌∷◌, Bool, true, Option, Some, None, refl, sym, ◌∙◌, ap}
 use Rattle.arrayvec.specs.ArrayVec.{ArrayVec}
 use Rattle.nfc_base.specs.Choosing.{first_number, later_numbers}
-use Rattle.nfc_base.specs.Far.{FarUse, Untouched, Restarts, Hands}
+use Rattle.nfc_base.specs.Far.{FarUse}
 use Rattle.nfc_base.specs.Signal.{Signal, whole_a}
-use Rattle.nfc_base.specs.Trace.{by_fate, heard_at, heard_by}
+use Rattle.nfc_base.specs.Trace.{heard_at, heard_by}
 use Rattle.nfc_base.specs.declared.event.Event.{Event}
-use Rattle.nfc_base.specs.declared.event.Event.TheVariants.{Reset, Request, Answer, Clash}
+use Rattle.nfc_base.specs.declared.event.Event.TheVariants.{Request, Answer}
 use Rattle.nfc_base.specs.declared.event.Fate.{Fate}
-use Rattle.nfc_base.specs.declared.event.Fate.TheVariants.{Pass, Damage, Lose, Break}
+use Rattle.nfc_base.specs.declared.event.Fate.TheVariants.{Pass}
 use Rattle.nfc_base.specs.declared.event.Heard.TheVariants as heards
 use Rattle.air_core.specs.Joint.{joint}
-use Rattle.air_core.specs.Conversation.{Note, Lit, Got, Lost, note, Next, Asks, joint_back, joint_events, replay}
+use Rattle.air_core.specs.Conversation.{note, joint_back, joint_events, replay}
 use Rattle.air_core.specs.World.{Machine, hands_over, answered_by, stepped_by}
 use Rattle.dep_link.specs.declared.target.TargetStep.TheVariants as steps
 use Rattle.dep_link.specs.Frames.{air_frame}
 use Rattle.dep_link.specs.Peers.{target_use}
 use Rattle.dep_link.specs.Target.{TargetState, target_table, replied, reply_frame}
-use Rattle.far_air.specs.FarEnds.{FarTable, numbers_left, reply_to, moved, by_link, rests}
-use Rattle.far_air.specs.FarWorld.{FarWorld, AllMet, met_first, meeting, far_stepped, far_dark, far_came_back, far_air, with_numbers}
+use Rattle.far_air.specs.FarEnds.{FarTable, numbers_left, reply_to, moved, by_link}
+use Rattle.far_air.specs.FarWorld.{FarWorld, AllMet, met_first, meeting, far_stepped, far_came_back, far_air}
 use Rattle.link_numbers.proofs.FarAlone.{alone}
-use Rattle.link_numbers.proofs.FarCourse.{Made, AllLit, Dues, all_events, all_noted, all_world, made_events, made_note, made_world}
+use Rattle.link_numbers.proofs.FarCourse.{Made, made_events, made_note, made_world}
 
 -- the target whose reply has these bytes left
 abbrev pub leaving : TargetState → List ℕ → TargetState

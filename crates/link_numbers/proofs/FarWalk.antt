@@ -1,9 +1,9 @@
 -- A walk carries payloads to a peer as its exchanges go.
-use Rattle.std.proofs.Common.{◌≡◌, ◌⊎◌, inl, inr, ℕ, ◌≤◌, List, [], ◌∷◌, length, Some, None, refl, sym, ◌∙◌, ap, subst}
+use Rattle.std.proofs.Common.{◌≡◌, ◌⊎◌, inl, inr, ℕ, ◌≤◌, List, [], ◌∷◌, length, refl, sym, ◌∙◌, ap, subst}
 use Rattle.nfc_base.specs.Signal.{Signal, whole_a}
 use Rattle.nfc_base.specs.declared.carrier.EndCause.{EndCause}
-use Rattle.air_core.specs.Conversation.{Note, Lit, Got, Lost, Next, Over, LightUp, Asks}
-use Rattle.dep_link.specs.Asking.{Standing, Waits, Rests, Broken, Astray, asks, goes_by, noted, due_at}
+use Rattle.air_core.specs.Conversation.{Note, Lit, Got, Lost, Over, LightUp, Asks}
+use Rattle.dep_link.specs.Asking.{Standing, Waits, Rests, Broken, Astray, goes_by, noted, due_at}
 use Rattle.dep_link.specs.Frames.{air_frame}
 use Rattle.dep_link.specs.Initiator.{InitState, begun, framed_next, heard_next, init_table, request}
 use Rattle.dep_link.specs.Initiator as init

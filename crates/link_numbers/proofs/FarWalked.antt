@@ -1,8 +1,8 @@
 -- The numbers that a peer's answers show are as good as the true ones while a walk carries payloads to it, whoever gives them.
-use Rattle.std.proofs.Common.{◌≡◌, ℕ, ◌≤◌, Bool, true, List, [], ◌∷◌, ◌++◌, length, Some, None, refl, sym, ◌∙◌, ap, subst}
+use Rattle.std.proofs.Common.{◌≡◌, ℕ, ◌≤◌, Bool, true, List, [], ◌∷◌, ◌++◌, length, Some, refl, ap, subst}
 use Rattle.nfc_base.specs.Signal.{Signal}
 use Rattle.nfc_base.specs.declared.event.Event.{Event}
-use Rattle.air_core.specs.Conversation.{AirModel, Note, AreTurns, EachDue, receptions, replay}
+use Rattle.air_core.specs.Conversation.{AirModel, AreTurns, EachDue, receptions, replay}
 use Rattle.air_core.specs.World.{Machine}
 use Rattle.dep_link.specs.Exchange.{InStep}
 use Rattle.dep_link.specs.Initiator.{InitState}
@@ -10,13 +10,13 @@ use Rattle.dep_link.specs.Sizes.{limit}
 use Rattle.dep_link.specs.Target.{TargetState}
 use Rattle.far_air.specs.FarEnds.{FarTable}
 use Rattle.far_air.specs.FarWorld.{FarWorld, far_air, with_numbers}
-use Rattle.link_calls.specs.Walk.{Course, Giver, Underway, Walk, walk_at, walk_due, walk_due_at, walk_noted, walk_on, walk_stand}
+use Rattle.link_calls.specs.Walk.{Course, Giver, Underway, Walk, walk_at, walk_due, walk_due_at, walk_noted, walk_stand}
 use Rattle.link_numbers.specs.Shown.{answers_of, far_shown, numbers, pieces_of}
 use Rattle.dep_link.specs.Payloads.{begins}
 use Rattle.dep_link.specs.Replies.{cut_up}
 use Rattle.link_numbers.proofs.FarAlone.{Around, AreAround, IsSilent, amid}
-use Rattle.link_numbers.proofs.FarCourse.{Dues, Made, noted_all}
-use Rattle.link_numbers.proofs.FarLaw.{IsWhole, ShowsWell, far_law}
+use Rattle.link_numbers.proofs.FarCourse.{Dues, Made}
+use Rattle.link_numbers.proofs.FarLaw.{IsWhole, far_law}
 use Rattle.link_numbers.proofs.FarRun as run
 use Rattle.link_numbers.proofs.FarSame.{IsNumbered}
 use Rattle.link_numbers.proofs.FarShown.{SameDark, Shown, same_dark, shown_none}
@@ -76,7 +76,7 @@ module _ {L F : Type 0} (m : Machine L) (linked : L → Bool) (t : FarTable F) (
     pub walks_well : AreTurns air (world ns) es → EachDue (walk_due g from i) [] es → WalksWell
     walks_well turns each =
         let k = far_law m linked t Is silent dark dev does walk_due_at (walk_noted g) BusyAt DoneAt OffAt carries Good reads numbered (HasCome g)
-            (λ c j f b e. busy_has_more g Ok short goes_on c j f b e) (λ c o e. off_has_more g Ok short goes_on c o e) (IsWholeWalk g) (λ c f w e. walk_asks g c f w e) (λ c n w. walk_whole g c n w)
-            (λ c e. walk_never g c e) tail x around i s a ns step most ok (walk_at g from i) [] (walk_starts g Ok short goes_on from i under) (at_whole g from i) (answers_of more) ks es (walk_due g from i)
-            (λ hs. ap walk_due_at (walk_all g (walk_at g from i) hs)) turns each (ap (λ fs. numbers (cut_up (begins i.core.number) (pieces_of fs))) (answers_append es more)) in
+        (λ c j f b e. busy_has_more g Ok short goes_on c j f b e) (λ c o e. off_has_more g Ok short goes_on c o e) (IsWholeWalk g) (λ c f w e. walk_asks g c f w e) (λ c n w. walk_whole g c n w)
+        (λ c e. walk_never g c e) tail x around i s a ns step most ok (walk_at g from i) [] (walk_starts g Ok short goes_on from i under) (at_whole g from i) (answers_of more) ks es (walk_due g from i)
+        (λ hs. ap walk_due_at (walk_all g (walk_at g from i) hs)) turns each (ap (λ fs. numbers (cut_up (begins i.core.number) (pieces_of fs))) (answers_append es more)) in
         record { turns = k.turns; alike = k.alike; done = λ e. k.done (subst (HasCome g) (walk_all g (walk_at g from i) (receptions es)) e) }
