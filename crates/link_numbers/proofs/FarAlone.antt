@@ -290,7 +290,7 @@ module _ {L F : Type 0} (m : Machine L) (linked : L → Bool) (t : FarTable F) w
             subst (λ y. IsAmid y W V) (sym (around_more x E (all_events (far_air m linked t) (made_world (far_air m linked t) v q) qs))) rest.1,
           )
 
-      same_lit : (x : Around L F) (w v : FarWorld L F) → IsAmid x w v → w.field.lit ≡ v.field.lit
+      pub same_lit : (x : Around L F) (w v : FarWorld L F) → IsAmid x w v → w.field.lit ≡ v.field.lit
       same_lit x w v a = ap (λ (z : FarWorld L F). z.field.lit) a.here ∙ sym (ap (λ (z : FarWorld L F). z.field.lit) a.apart)
 
       pub lit_amid : (qs : List Made) (x : Around L F) (w v : FarWorld L F) → AllAsk qs → IsAmid x w v → AllLit (far_air m linked t) v qs → AllLit (far_air m linked t) w qs
@@ -301,7 +301,7 @@ module _ {L F : Type 0} (m : Machine L) (linked : L → Bool) (t : FarTable F) w
       )
 
       module _ {C : Type 0} (due : C → Next) (noted : C → Note → C) where
-        same_note : (x : Around L F) (w v : FarWorld L F) (q : Made) → Asks q.frame → IsAmid x w v → made_note (far_air m linked t) w q ≡ made_note (far_air m linked t) v q
+        pub same_note : (x : Around L F) (w v : FarWorld L F) (q : Made) → Asks q.frame → IsAmid x w v → made_note (far_air m linked t) w q ≡ made_note (far_air m linked t) v q
         same_note x w v q k a = ap (λ j. note (heard_by q.fate (joint_back j q.back))) (same_joint x w v q.frame k a)
 
         pub dues_alone : (qs : List Made) (x : Around L F) (w v : FarWorld L F) (c : C) → AllAsk qs → IsAmid x w v → Dues (far_air m linked t) due noted w c qs → Dues (far_air m linked t) due noted v c qs

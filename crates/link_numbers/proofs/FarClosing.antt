@@ -35,6 +35,7 @@ use Rattle.link_numbers.specs.Shown.{answers_of, far_shown, numbers, pieces_of}
 use Rattle.link_numbers.proofs.FarAlone.{Around, AreAround, IsSilent, amid}
 use Rattle.link_numbers.proofs.FarCourse.{Dues, Made, made_events, made_note, made_world, noted_all}
 use Rattle.link_numbers.proofs.FarLaw.{IsWhole, far_law}
+use Rattle.link_numbers.proofs.FarFit.{DuesFit, RepliesFit}
 use Rattle.link_numbers.proofs.FarRun as run
 use Rattle.link_numbers.proofs.FarSame.{IsNumbered}
 use Rattle.link_numbers.proofs.FarShown.{SameDark, Shown, same_dark, shown_more, shown_none}
@@ -232,7 +233,7 @@ module _ {L F : Type 0} (m : Machine L) (linked : L → Bool) (t : FarTable F) (
     ShownAt w v d qs = Shown m linked t closing_due_at closing_noted HasClosedAt w v d qs
 
     abbrev DuesAt : FarWorld L F → D → List Made → Type 0
-    DuesAt w d qs = Dues air closing_due_at closing_noted w d qs
+    DuesAt w d qs = DuesFit m linked t closing_due_at closing_noted w d qs
 
     rls_over : (to : Step) (n : Note) (f : Signal) → closing_due_at (closing_noted (Releasing to) n) ≡ Asks f → ⊥
     rls_over to Lit f e = cc
@@ -293,13 +294,13 @@ module _ {L F : Type 0} (m : Machine L) (linked : L → Bool) (t : FarTable F) (
         pub alike : SameDark m linked t (replay air (world ns) es) (replay air (with_numbers (world ns) ks) es)
         pub done : HasClosedAt (closing_stand own from i (receptions es)) → with_numbers (replay air (with_numbers (world ns) ks) es) [] ≡ with_numbers (replay air (world ns) es) []
 
-      pub closes_well : AreTurns air (world ns) es → EachDue (closing_due own from i) [] es → ClosesWell
-      closes_well turns each =
+      pub closes_well : AreTurns air (world ns) es → EachDue (closing_due own from i) [] es → RepliesFit m linked t (world ns) es → ClosesWell
+      closes_well turns each fit =
           let k = far_law m linked t Is aside dark dev does closing_due_at closing_noted BusyAt DoneAt OffAt carries Good reads numbered HasClosedAt
           (λ c j f b e. busy_more Ok short goes_on c j f b e) (λ c o e. off_more Ok short goes_on c o e) (IsWholeClosing Ok short goes_on) (λ c f w e. asks_whole Ok short goes_on c f w e)
           (λ c n w. closing_whole Ok short goes_on c n w) (λ c e. closing_never Ok short goes_on c e) tail x around i s a ns step most ok (closing_at (call_at own from i)) []
           (starts_closing Ok short goes_on (call_at own from i) i (walk_starts by_client Ok short goes_on (next_of own from) i under))
           (at_closing_whole Ok short goes_on (call_at own from i) (at_whole by_client (next_of own from) i)) (answers_of more) ks es (closing_due own from i)
-          (λ hs. ap closing_due_at (closing_all Ok short goes_on (closing_at (call_at own from i)) hs)) turns each
+          (λ hs. ap closing_due_at (closing_all Ok short goes_on (closing_at (call_at own from i)) hs)) turns each fit
           (ap (λ fs. numbers (cut_up (begins i.core.number) (pieces_of fs))) (answers_append es more)) in
           record { turns = k.turns; alike = k.alike; done = λ e. k.done (subst HasClosedAt (closing_all Ok short goes_on (closing_at (call_at own from i)) (receptions es)) e) }

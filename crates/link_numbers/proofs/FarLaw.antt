@@ -14,6 +14,7 @@ use Rattle.far_air.specs.FarWorld.{FarWorld, far_dark, far_air, with_numbers}
 use Rattle.link_numbers.specs.Shown.{answers_of}
 use Rattle.link_numbers.proofs.FarAlone.{Around, AreAround, AllAsk, IsAmid, IsSilent, all_same, amid, around_all, around_dark, darkened, dues_alone, is_placed, lit_amid, noted_alone, placed}
 use Rattle.link_numbers.proofs.FarCourse.{AreMade, Dues, Made, all_events, all_known, all_replayed, all_turns, all_world, are_made, made_note, made_world, noted_all}
+use Rattle.link_numbers.proofs.FarFit.{AllFit, DuesFit, RepliesFit, all_fit, dues_fit}
 use Rattle.link_numbers.proofs.FarRun as run
 use Rattle.link_numbers.proofs.FarSame.{IsNumbered, begins_same}
 use Rattle.link_numbers.proofs.FarShown.{SameDark, Shown}
@@ -59,7 +60,7 @@ module _ {L F : Type 0} (m : Machine L) (linked : L → Bool) (t : FarTable F) w
         (busy_goes_on : (c : C) (i : InitState) (f : Signal) → Busy c i f → End c → ⊥) (off_is_no_end : (c : C) → Off c → End c → ⊥)
         (Frames : C → Type 0) (frames : (c : C) (f : Signal) → Frames c → due c ≡ Asks f → IsWhole f) (frames_on : (c : C) (n : Note) → Frames c → Frames (noted c n))
         (never : (c : C) → due c ≡ LightUp → ⊥)
-        (tail : (d : C) (j : InitState) (qs : List Made) (s : TargetState) (a : F) (ns ks : List ℕ) → Done d j → InStep j s → Dues air due noted (here m linked t dev s a ns) d qs
+        (tail : (d : C) (j : InitState) (qs : List Made) (s : TargetState) (a : F) (ns ks : List ℕ) → Done d j → InStep j s → DuesFit m linked t due noted (here m linked t dev s a ns) d qs
         → Shown m linked t due noted End (here m linked t dev s a ns) (here m linked t dev s a ks) d qs) where
       all_whole : (qs : List Made) (w : W) (c : C) → Frames c → Dues air due noted w c qs → AllAsk m linked t Is IsWhole silent dark qs
       all_whole [] w c k d = tt
@@ -83,7 +84,7 @@ module _ {L F : Type 0} (m : Machine L) (linked : L → Bool) (t : FarTable F) w
         amid_at : (ks : List ℕ) → AmidOf x (world ks) (apart ks)
         amid_at ks = record { lit = true; device = dev s; far = Some a; numbers = ks; here = refl; apart = refl; others = around }
 
-        module _ (ks : List ℕ) (qs : List Made) (d : Dues air due noted (world ns) c qs) (shown : ks ≡ shows (begins i.core.number) (answers_of (all_events air (world ns) qs) ++ more)) where
+        module _ (ks : List ℕ) (qs : List Made) (d : Dues air due noted (world ns) c qs) (fit : AllFit m linked t (world ns) qs) (shown : ks ≡ shows (begins i.core.number) (answers_of (all_events air (world ns) qs) ++ more)) where
           whole : AllAsk m linked t Is IsWhole silent dark qs
           whole = all_whole qs (world ns) c starts d
 
@@ -99,7 +100,7 @@ module _ {L F : Type 0} (m : Machine L) (linked : L → Bool) (t : FarTable F) w
           same =
               begins_same m linked t dev does due noted Busy Done Off laws Good reads numbered End busy_goes_on off_is_no_end tail qs c i reply s a ns ks more begins_so step most ok
               (shown ∙ ap (λ es. shows (begins i.core.number) (answers_of es ++ more)) true_turns.0)
-              (dues_alone m linked t Is IsWhole silent dark due noted qs x (world ns) (apart ns) c whole (amid_at ns) d)
+              (dues_fit m linked t Is IsWhole silent dark due noted qs x (world ns) (apart ns) c whole (amid_at ns) d fit)
 
           same_events : all_events air (world ks) qs ≡ all_events air (world ns) qs
           same_events = other_turns.0 ∙ same.events ∙ sym true_turns.0
@@ -124,9 +125,9 @@ module _ {L F : Type 0} (m : Machine L) (linked : L → Bool) (t : FarTable F) w
               replayed : replay air (world ks) (all_events air (world ns) qs) ≡ all_world air (world ks) qs
               replayed = ap (replay air (world ks)) (sym same_events) ∙ all_replayed air (world ks) qs
 
-        pub far_law : (ks : List ℕ) (es : List Event) (next : List Note → Next) → ((hs : List Note) → next hs ≡ due (noted_all noted c hs)) → AreTurns air (world ns) es → EachDue next [] es
+        pub far_law : (ks : List ℕ) (es : List Event) (next : List Note → Next) → ((hs : List Note) → next hs ≡ due (noted_all noted c hs)) → AreTurns air (world ns) es → EachDue next [] es → RepliesFit m linked t (world ns) es
             → ks ≡ shows (begins i.core.number) (answers_of es ++ more) → ShowsWell (world ns) ks c es
-        far_law ks es next is turns each shown =
+        far_law ks es next is turns each fit shown =
             let a : AreMade air due noted (world ns) c es = are_made air due noted never c next is (world ns) es turns each in
             subst (ShowsWell (world ns) ks c) (sym a.events)
-            (shows_well ks a.made a.dues (shown ∙ ap (λ z. shows (begins i.core.number) (answers_of z ++ more)) a.events))
+            (shows_well ks a.made a.dues (all_fit m linked t a.made (world ns) (subst (RepliesFit m linked t (world ns)) a.events fit)) (shown ∙ ap (λ z. shows (begins i.core.number) (answers_of z ++ more)) a.events))

@@ -61,8 +61,7 @@ given_same n l = giving_keeps serving (λ s. s.accepted ≡ l.service.accepted) 
 abbrev pub reads : PeerState → List ℕ → Bool
 reads a p = (taken_from serving a p).readable
 
-module _ (Good : PeerState → Type 0) (kept : (a : PeerState) (p : List ℕ) (n : ℕ) → Good a → Good (peer_ends.left a p n))
-    (short : (a : PeerState) (p : List ℕ) (n : ℕ) → Good a → length (peer_ends.reply a p n) ≤ limit) (miu : (a : PeerState) → Good a → a.far_miu ≤ 2176) where
+module _ (Good : PeerState → Type 0) (kept : (a : PeerState) (p : List ℕ) (n : ℕ) → Good a → Good (peer_ends.left a p n)) (miu : (a : PeerState) → Good a → a.far_miu ≤ 2176) where
   miu_taken : (a : PeerState) (p : List ℕ) → Good a → (taken_from serving a p).far_miu ≤ 2176
   miu_taken a p ok = subst (λ k. k ≤ 2176) (sym (taken_has serving a.far_miu a p refl)) (miu a ok)
 
@@ -93,11 +92,10 @@ module _ (Good : PeerState → Type 0) (kept : (a : PeerState) (p : List ℕ) (n
       rested_by (peer_ends.left a p k) ∙ ap (λ s. rested_as s (peer_ends.left a p k).service.accepted) (answered_set p k a ∙ sym (answered_set p n a))
       ∙ ap (rested_as (setting_of (peer_ends.left a p n))) (given_same k l ∙ sym (given_same n l)) ∙ sym (rested_by (peer_ends.left a p n))
 
-  -- Where ends are good their replies are as long as payloads may be, and they stay good.
+  -- Where ends are good the other end's MIU is one that an end may have, and they stay good.
   pub peer_numbered : IsNumbered peer_ends Good reads
   peer_numbered = record {
     good = kept;
-    short = short;
     whole = λ a p n ok. whole_shown serving (taken_from serving a p) n (miu_taken a p ok);
     further = further;
     cut = cuts;

@@ -25,7 +25,8 @@ use Rattle.dep_link.proofs.Standing.{Ask, asks, nacks, attends}
 use Rattle.far_air.specs.FarEnds.{FarTable}
 use Rattle.far_air.specs.FarWorld.{FarWorld, far_dark, far_came_back, far_air}
 use Rattle.link_numbers.specs.Shown.{answers_of, pieces_of}
-use Rattle.link_numbers.proofs.FarCourse.{Made, Dues, all_events, made_note, made_world}
+use Rattle.link_numbers.proofs.FarCourse.{Made, all_events, made_note, made_world}
+use Rattle.link_numbers.proofs.FarFit.{DuesFit}
 use Rattle.link_numbers.proofs.FarShows.{IsFront, cut_first}
 use Rattle.link_numbers.proofs.FarSolo.{DoesSo, Stepped, here, passing, step_events, step_note, step_says, step_world}
 use Rattle.link_numbers.proofs.Filled.{answer_pieces}
@@ -136,7 +137,7 @@ module _ {L F : Type 0} (m : Machine L) (linked : L → Bool) (t : FarTable F) (
   solo s a ns = here m linked t dev s a ns
 
   abbrev pub DuesOf : W → C → List Made → Type 0
-  DuesOf w c qs = Dues air due noted w c qs
+  DuesOf w c qs = DuesFit m linked t due noted w c qs
 
   abbrev pub back_note : Fate → Signal → Note
   back_note y g = note (heard_at y (heards.Whole g))

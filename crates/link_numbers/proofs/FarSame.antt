@@ -20,11 +20,13 @@ use Rattle.dep_link.specs.Payloads.{Cut, begins}
 use Rattle.dep_link.specs.Replies.{cut_up}
 use Rattle.dep_link.specs.Sizes.{limit}
 use Rattle.dep_link.specs.Target.{TargetState, target_table, replied, reply_frame}
-use Rattle.far_air.specs.FarEnds.{FarTable}
+use Rattle.far_air.specs.FarEnds.{FarTable, reply_to}
+use Rattle.dep_link.specs.Peers.{target_use}
 use Rattle.far_air.specs.FarWorld.{FarWorld, far_dark, far_came_back, far_air}
 use Rattle.link_numbers.specs.Shown.{answers_of, cut_off, has_content, number, numbers, pieces_of}
 use Rattle.link_numbers.proofs.Begun.{Begun, begun_turn, cut_up_then}
-use Rattle.link_numbers.proofs.FarCourse.{Made, Dues, all_events, made_note, made_world}
+use Rattle.link_numbers.proofs.FarCourse.{Made, all_events, made_note, made_world}
+use Rattle.link_numbers.proofs.FarFit.{DuesFit, FitsAt}
 use Rattle.link_numbers.proofs.FarRun as run
 use Rattle.link_numbers.proofs.FarRun.{Outcome, Steps, says, hands, steps_of, asks_whole, most_stays, most_replied}
 use Rattle.link_numbers.proofs.FarShown.{SameDark, Shown, dark_same, left_dark, same_dark, shown_more, shown_none}
@@ -41,7 +43,6 @@ use Rattle.link_numbers.proofs.Spoken.{cut_at}
 -- read gives nothing, for good. What stays of an end is the same by each number.
 pub record IsNumbered {F : Type 0} (t : FarTable F) (Good : F → Type 0) (reads : F → List ℕ → Bool) : Type 0 where
   pub good : (a : F) (p : List ℕ) (n : ℕ) → Good a → Good (t.left a p n)
-  pub short : (a : F) (p : List ℕ) (n : ℕ) → Good a → length (t.reply a p n) ≤ limit
   pub whole : (a : F) (p : List ℕ) (n : ℕ) → Good a → (t.reply a p (number (t.reply a p n)) ≡ t.reply a p n) × (t.left a p (number (t.reply a p n)) ≡ t.left a p n)
   pub further : (a : F) (p : List ℕ) (n : ℕ) (xs b : List ℕ) → reads a p ≡ true → 2 ≤ length xs → IsFront xs (t.reply a p n) → IsFront xs b → IsFront xs (t.reply a p (number b))
   pub cut : (a : F) (p : List ℕ) (n : ℕ) (xs ys : List ℕ) → reads a p ≡ true → 2 ≤ length xs → IsFront xs (t.reply a p n) → IsFront xs (t.reply a p (first_number (cut_off (xs ++ ys))))
@@ -84,7 +85,7 @@ module _ {L F : Type 0} (m : Machine L) (linked : L → Bool) (t : FarTable F) (
   solo s a ns = here m linked t dev s a ns
 
   abbrev DuesOf : W → C → List Made → Type 0
-  DuesOf w c qs = Dues air due noted w c qs
+  DuesOf w c qs = DuesFit m linked t due noted w c qs
 
   abbrev ShownOf : W → W → C → List Made → Type 0
   ShownOf w v c qs = Shown m linked t due noted End w v c qs
@@ -272,7 +273,7 @@ module _ {L F : Type 0} (m : Machine L) (linked : L → Bool) (t : FarTable F) (
 
     -- the payload is handed over
     module _ (qs : List Made) (same : Sames qs) (y : Fate) (c : C) (i : InitState) (f : Signal) (s : TargetState) (U : Cut) (given : Option (List ℕ)) (a : F) (ns ks : List ℕ) (more : List Signal)
-        (o : Busy c i f) (p : Paired i f s U [] given) (most : 2 ≤ s.most) (ok : Good a) (l : Aligned given U a ks (answers (solo s a ns) (made_of f Pass y ∷ qs) ++ more))
+        (o : Busy c i f) (p : Paired i f s U [] given) (most : 2 ≤ s.most) (ok : Good a) (fit : FitsAt m linked t Pass f (solo s a ns)) (l : Aligned given U a ks (answers (solo s a ns) (made_of f Pass y ∷ qs) ++ more))
         (k : DuesOf (made_world air (solo s a ns) (made_of f Pass y)) (noted c (made_note air (solo s a ns) (made_of f Pass y))) qs)
         (x : ArrayVec ℕ) (at : (target_table s f).does ≡ steps.Deliver x) (none : given ≡ None)
         (h : (r : List ℕ) → length r ≤ limit → Answering i (air_frame (reply_frame (target_table s f).state r)) (replied (target_table s f).state r)
@@ -313,8 +314,12 @@ module _ {L F : Type 0} (m : Machine L) (linked : L → Bool) (t : FarTable F) (
       step : Stepped m linked t dev (solo s a ns) f (solo s' a' (later_numbers ns)) g
       step = step_hands m linked t dev does s a ns f whole x r at refl
 
+      -- the reply is as long as a payload may be
+      fits : length r ≤ limit
+      fits = fit.0 r (ap (λ u. reply_to t u (Some a) n) (does.hands s f whole ∙ ap target_use at))
+
       here_now : Answering i g s' V [] (Some r)
-      here_now = h r (numbered.short a x.items n ok)
+      here_now = h r fits
 
       most_now : 2 ≤ s'.most
       most_now = subst (λ z. 2 ≤ z) (sym (most_replied d1 r ∙ most_stays i f s U given p)) most
@@ -376,7 +381,7 @@ module _ {L F : Type 0} (m : Machine L) (linked : L → Bool) (t : FarTable F) (
             let cut_now : cut_up U (before_frames (spelled g) (pieces_of fs)) ≡ D = cut_up_then U (spelled g) (pieces_of fs) in
             let first = front_split D.chain r front in
             let second = front_split D.chain q other in
-            let b = begun_given i f s U [] pair x at r q (numbered.short a x.items n ok) (pieces_of fs) (ap (λ (v : Cut). length v.payloads) cut_now ∙ ap length z)
+            let b = begun_given i f s U [] pair x at r q fits (pieces_of fs) (ap (λ (v : Cut). length v.payloads) cut_now ∙ ap length z)
             D.chain first.0 second.0 (ap (λ (v : Cut). v.chain) cut_now) first.1 second.1 (λ v. first.2) (λ v. second.2) in
             let twin : Stepped m linked t dev (solo s a ks) f (solo (replied d1 q) (t.left a x.items kn) (later_numbers ks)) g =
             subst (λ v. Stepped m linked t dev (solo s a ks) f (solo (replied d1 q) (t.left a x.items kn) (later_numbers ks)) (air_frame v)) (sym b.0) (step_hands m linked t dev does s a ks f whole x q at refl) in
@@ -405,9 +410,9 @@ module _ {L F : Type 0} (m : Machine L) (linked : L → Bool) (t : FarTable F) (
           go false e = unread e
 
     sames_turn : (qs : List Made) → Sames qs → (v y : Fate) (c : C) (i : InitState) (f : Signal) (s : TargetState) (U : Cut) (given : Option (List ℕ)) (a : F) (ns ks : List ℕ) (more : List Signal)
-        → Busy c i f → Paired i f s U [] given → 2 ≤ s.most → Good a → Aligned given U a ks (answers (solo s a ns) (made_of f v y ∷ qs) ++ more)
+        → Busy c i f → Paired i f s U [] given → 2 ≤ s.most → Good a → FitsAt m linked t v f (solo s a ns) → Aligned given U a ks (answers (solo s a ns) (made_of f v y ∷ qs) ++ more)
         → DuesOf (made_world air (solo s a ns) (made_of f v y)) (noted c (made_note air (solo s a ns) (made_of f v y))) qs → ShownOf (solo s a ns) (solo s a ks) c (made_of f v y ∷ qs)
-    sames_turn qs same Pass y c i f s U given a ns ks more o p most ok l k = go (steps_of i f s U given p)
+    sames_turn qs same Pass y c i f s U given a ns ks more o p most ok fit l k = go (steps_of i f s U given p)
       where
         go : Steps i f s U given → ShownOf (solo s a ns) (solo s a ks) c (made_of f Pass y ∷ qs)
         go (says g at h) =
@@ -420,14 +425,14 @@ module _ {L F : Type 0} (m : Machine L) (linked : L → Bool) (t : FarTable F) (
             (sames_back qs same y c i f g s' (cut_up U (before_frames (spelled g) [])) given a ns ks more o h (subst (λ z. 2 ≤ z) (sym (most_stays i f s U given p)) most) ok
             (aligned_more i g s' U given a ks (fs ++ more) h (subst (λ z. Aligned given U a ks (z ++ more)) said l))
             (run.step_dues m linked t dev does due noted Busy Done Off laws (solo s a ns) (solo s' a ns) c f g y qs step k))
-        go (hands x at none h) = handed qs same y c i f s U given a ns ks more o p most ok l k x at none h
-    sames_turn qs same Damage y c i f s U given a ns ks more o p most ok l k =
+        go (hands x at none h) = handed qs same y c i f s U given a ns ks more o p most ok fit l k x at none h
+    sames_turn qs same Damage y c i f s U given a ns ks more o p most ok fit l k =
         (shown_missed (solo s a ns) (solo s a ks) c f y qs refl
         (sames_on qs same (carrying.noted (Waits i f) (Got heards.Silent)) (noted c (Got heards.Silent)) s U given a ns ks more (laws.goes c i f o (Got heards.Silent)) (unheard i f s U [] given p) most ok l k)).0
-    sames_turn qs same Lose y c i f s U given a ns ks more o p most ok l k =
+    sames_turn qs same Lose y c i f s U given a ns ks more o p most ok fit l k =
         (shown_missed (solo s a ns) (solo s a ks) c f y qs refl
         (sames_on qs same (carrying.noted (Waits i f) (Got heards.Silent)) (noted c (Got heards.Silent)) s U given a ns ks more (laws.goes c i f o (Got heards.Silent)) (unheard i f s U [] given p) most ok l k)).1
-    sames_turn qs same Break y c i f s U given a ns ks more o p most ok l k =
+    sames_turn qs same Break y c i f s U given a ns ks more o p most ok fit l k =
         shown_broken (solo s a ns) (solo s a ks) c f y qs refl
         (shown_off qs (far_dark m linked t (solo s a ns)) (far_dark m linked t (solo s a ks)) (noted c Lost) (laws.goes c i f o Lost) k
         (dark_same m linked t (solo s a ns) (solo s a ks) (same_dark m linked t dev does s a ns ks)))
@@ -438,7 +443,7 @@ module _ {L F : Type 0} (m : Machine L) (linked : L → Bool) (t : FarTable F) (
         shown_none m linked t due noted End (solo s a ns) (solo s a ks) c [] refl (same_dark m linked t dev does s a ns ks) (λ x. absurd (busy_goes_on c i f o x))
     sames (q ∷ qs) c i f s U given a ns ks more o p most ok l k =
         let z : f ≡ q.frame = run.same_frame m linked t dev does due noted Busy Done Off laws c i f q o k.1 in
-        sames_turn qs (sames qs) q.fate q.back c i q.frame s U given a ns ks more (subst (λ x. Busy c i x) z o) (subst (λ x. Paired i x s U [] given) z p) most ok l k.2
+        sames_turn qs (sames qs) q.fate q.back c i q.frame s U given a ns ks more (subst (λ x. Busy c i x) z o) (subst (λ x. Paired i x s U [] given) z p) most ok k.0.1 l k.2
 
     -- So it is where exchanges begin, or none does.
     pub begins_same : (qs : List Made) (d : C) (j : InitState) (reply : List ℕ) (s : TargetState) (a : F) (ns ks : List ℕ) (more : List Signal) → GoesTo (Rests j reply) d → InStep j s → 2 ≤ s.most

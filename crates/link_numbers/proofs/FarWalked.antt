@@ -17,6 +17,7 @@ use Rattle.dep_link.specs.Replies.{cut_up}
 use Rattle.link_numbers.proofs.FarAlone.{Around, AreAround, IsSilent, amid}
 use Rattle.link_numbers.proofs.FarCourse.{Dues, Made}
 use Rattle.link_numbers.proofs.FarLaw.{IsWhole, far_law}
+use Rattle.link_numbers.proofs.FarFit.{DuesFit, RepliesFit}
 use Rattle.link_numbers.proofs.FarRun as run
 use Rattle.link_numbers.proofs.FarSame.{IsNumbered}
 use Rattle.link_numbers.proofs.FarShown.{SameDark, Shown, same_dark, shown_none}
@@ -50,7 +51,7 @@ module _ {L F : Type 0} (m : Machine L) (linked : L → Bool) (t : FarTable F) (
   }
 
   -- nothing is due at its end
-  tail : (d : C) (j : InitState) (qs : List Made) (s : TargetState) (a : F) (ns ks : List ℕ) → DoneAt d j → InStep j s → Dues air walk_due_at (walk_noted g) (here m linked t dev s a ns) d qs
+  tail : (d : C) (j : InitState) (qs : List Made) (s : TargetState) (a : F) (ns ks : List ℕ) → DoneAt d j → InStep j s → DuesFit m linked t walk_due_at (walk_noted g) (here m linked t dev s a ns) d qs
       → Shown m linked t walk_due_at (walk_noted g) (HasCome g) (here m linked t dev s a ns) (here m linked t dev s a ks) d qs
   tail d j [] s a ns ks done step k =
       shown_none m linked t walk_due_at (walk_noted g) (HasCome g) (here m linked t dev s a ns) (here m linked t dev s a ks) d [] refl (same_dark m linked t dev does s a ns ks) (λ e. refl)
@@ -73,10 +74,10 @@ module _ {L F : Type 0} (m : Machine L) (linked : L → Bool) (t : FarTable F) (
       pub alike : SameDark m linked t (replay air (world ns) es) (replay air (with_numbers (world ns) ks) es)
       pub done : HasCome g (walk_stand g from i (receptions es)) → with_numbers (replay air (with_numbers (world ns) ks) es) [] ≡ with_numbers (replay air (world ns) es) []
 
-    pub walks_well : AreTurns air (world ns) es → EachDue (walk_due g from i) [] es → WalksWell
-    walks_well turns each =
+    pub walks_well : AreTurns air (world ns) es → EachDue (walk_due g from i) [] es → RepliesFit m linked t (world ns) es → WalksWell
+    walks_well turns each fit =
         let k = far_law m linked t Is silent dark dev does walk_due_at (walk_noted g) BusyAt DoneAt OffAt carries Good reads numbered (HasCome g)
         (λ c j f b e. busy_has_more g Ok short goes_on c j f b e) (λ c o e. off_has_more g Ok short goes_on c o e) (IsWholeWalk g) (λ c f w e. walk_asks g c f w e) (λ c n w. walk_whole g c n w)
         (λ c e. walk_never g c e) tail x around i s a ns step most ok (walk_at g from i) [] (walk_starts g Ok short goes_on from i under) (at_whole g from i) (answers_of more) ks es (walk_due g from i)
-        (λ hs. ap walk_due_at (walk_all g (walk_at g from i) hs)) turns each (ap (λ fs. numbers (cut_up (begins i.core.number) (pieces_of fs))) (answers_append es more)) in
+        (λ hs. ap walk_due_at (walk_all g (walk_at g from i) hs)) turns each fit (ap (λ fs. numbers (cut_up (begins i.core.number) (pieces_of fs))) (answers_append es more)) in
         record { turns = k.turns; alike = k.alike; done = λ e. k.done (subst (HasCome g) (walk_all g (walk_at g from i) (receptions es)) e) }

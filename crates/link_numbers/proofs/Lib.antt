@@ -13,6 +13,7 @@ pub mod FarCourse
 pub mod FarAlone
 pub mod FarShows
 pub mod FarSolo
+pub mod FarFit
 pub mod FarRun
 pub mod FarShown
 pub mod FarSame
