@@ -22,7 +22,7 @@ abbrev pub noted_all : {C : Type 0} → (C → Note → C) → C → List Note �
 noted_all noted c [] = c
 noted_all noted c (n ∷ ns) = noted_all noted (noted c n) ns
 
-noted_more : {C : Type 0} (noted : C → Note → C) (c : C) (ns : List Note) (n : Note) → noted_all noted c (ns ++ n ∷ []) ≡ noted (noted_all noted c ns) n
+pub noted_more : {C : Type 0} (noted : C → Note → C) (c : C) (ns : List Note) (n : Note) → noted_all noted c (ns ++ n ∷ []) ≡ noted (noted_all noted c ns) n
 noted_more noted c [] n = refl
 noted_more noted c (k ∷ ns) n = noted_more noted (noted c k) ns n
 
@@ -77,7 +77,7 @@ module _ {W : Type 0} (m : AirModel W) where
   all_turns w qs l = record { moves = moves_of qs; made = all_traced w qs l }
 
   -- nothing stands before a turn's request, and one note is known of it
-  turn_back : (w : W) (q : Made) → back_of (made_events w q) ≡ backs.Nothing
+  pub turn_back : (w : W) (q : Made) → back_of (made_events w q) ≡ backs.Nothing
   turn_back w q = refl
 
   all_fresh : (w : W) (qs : List Made) → back_of (all_events w qs) ≡ backs.Nothing
@@ -94,7 +94,7 @@ module _ {W : Type 0} (m : AirModel W) where
   notes_joint (Single g) y = refl
   notes_joint (Clashing g) y = refl
 
-  turn_note : (w : W) (f : Signal) (x y : Fate) → receptions (turn_events m w f x y) ≡ note (turn_heard m w f x y) ∷ []
+  pub turn_note : (w : W) (f : Signal) (x y : Fate) → receptions (turn_events m w f x y) ≡ note (turn_heard m w f x y) ∷ []
   turn_note w f Pass y =
       ap (λ b. note (heard_by Pass b) ∷ receptions (joint_events (m.joint w f) y)) (back_joint (m.joint w f) y)
       ∙ ap (λ ns. note (turn_heard m w f Pass y) ∷ ns) (notes_joint (m.joint w f) y)

@@ -113,11 +113,11 @@ most_replied s r = go (nat_lt 0 s.busy)
     go false = refl
 
 module _ {L F : Type 0} (m : Machine L) (linked : L → Bool) (t : FarTable F) (dev : TargetState → L) (does : DoesSo m linked t dev) {C : Type 0} (due : C → Next) (noted : C → Note → C)
-    (Busy : C → InitState → Signal → Type 0) (Done : C → InitState → Type 0) (Off : C → Type 0) where
+    (Busy : C → InitState → Signal → Type 0) (Done : C → InitState → Type 0) (Off : C → Type 0) (Outs : C → Type 0) where
   -- where somebody stands that carries payloads, by where the exchange of one stands
   abbrev pub Goes : Standing → C → Type 0
   Goes (Waits j g) d = Busy d j g
-  Goes (Rests j reply) d = ((out : List ℕ) × (length out ≤ limit) × Busy d (begun j out) (air_frame (request (begun j out).core))) ⊎ Done d j
+  Goes (Rests j reply) d = ((out : List ℕ) × (Outs d → length out ≤ limit) × Busy d (begun j out) (air_frame (request (begun j out).core))) ⊎ Done d j
   Goes (Broken e) d = Off d
   Goes Astray d = Unit {0}
 
@@ -137,7 +137,7 @@ module _ {L F : Type 0} (m : Machine L) (linked : L → Bool) (t : FarTable F) (
   solo s a ns = here m linked t dev s a ns
 
   abbrev pub DuesOf : W → C → List Made → Type 0
-  DuesOf w c qs = DuesFit m linked t due noted w c qs
+  DuesOf w c qs = DuesFit m linked t due noted Outs w c qs
 
   abbrev pub back_note : Fate → Signal → Note
   back_note y g = note (heard_at y (heards.Whole g))
@@ -156,8 +156,8 @@ module _ {L F : Type 0} (m : Machine L) (linked : L → Bool) (t : FarTable F) (
     abbrev pub cut_of : Cut → W → List Made → Cut
     cut_of U w qs = cut_up U (pieces_of (answers_of (all_events air w qs)))
 
-    abbrev Outs : List Made → Type 0
-    Outs qs =
+    abbrev Runs : List Made → Type 0
+    Runs qs =
         (c : C) (i : InitState) (f : Signal) (s : TargetState) (U : Cut) (r : List ℕ) (a : F) (ns : List ℕ) → Busy c i f → Paired i f s U [] (Some r) → 2 ≤ s.most → 0 < length r
         → DuesOf (solo s a ns) c qs → Outcome r (cut_of U (solo s a ns) qs)
 
@@ -165,7 +165,7 @@ module _ {L F : Type 0} (m : Machine L) (linked : L → Bool) (t : FarTable F) (
     none_of U w qs e = ap (cut_of U w) e
 
     -- behind a turn, by where the exchange stands then
-    outs_on : (qs : List Made) → Outs qs → (S : Standing) (d : C) (s : TargetState) (U : Cut) (r : List ℕ) (a : F) (ns : List ℕ) → Goes S d → Comes S s U [] (Some r)
+    outs_on : (qs : List Made) → Runs qs → (S : Standing) (d : C) (s : TargetState) (U : Cut) (r : List ℕ) (a : F) (ns : List ℕ) → Goes S d → Comes S s U [] (Some r)
         → Speaks s r [] U → 2 ≤ s.most → 0 < length r → DuesOf (solo s a ns) d qs → Outcome r (cut_of U (solo s a ns) qs)
     outs_on qs more (Waits j g) d s U r a ns b p said most some k = more d j g s U r a ns b p most some k
     outs_on qs more (Rests j reply) d s U r a ns b p said most some k =
@@ -180,7 +180,7 @@ module _ {L F : Type 0} (m : Machine L) (linked : L → Bool) (t : FarTable F) (
     outs_off qs w d s U r o k said most some = subst (Outcome r) (sym (none_of U w qs (none_made qs w d o k))) (said_outcome s r U most some said)
 
     -- behind an answer, by its fate
-    pub outs_back : (qs : List Made) → Outs qs → (y : Fate) (c : C) (i : InitState) (f g : Signal) (s : TargetState) (U : Cut) (r : List ℕ) (a : F) (ns : List ℕ) → Busy c i f
+    pub outs_back : (qs : List Made) → Runs qs → (y : Fate) (c : C) (i : InitState) (f g : Signal) (s : TargetState) (U : Cut) (r : List ℕ) (a : F) (ns : List ℕ) → Busy c i f
         → Answering i g s U [] (Some r) → 2 ≤ s.most → 0 < length r → DuesOf (far_came_back m linked t (solo s a ns) y) (noted c (back_note y g)) qs
         → Outcome r (cut_of U (far_came_back m linked t (solo s a ns) y) qs)
     outs_back qs more Pass c i f g s U r a ns b h most some k =
@@ -224,7 +224,7 @@ module _ {L F : Type 0} (m : Machine L) (linked : L → Bool) (t : FarTable F) (
     abbrev pub made_of : Signal → Fate → Fate → Made
     made_of f x y = record { frame = f; fate = x; back = y }
 
-    outs_turn : (qs : List Made) → Outs qs → (x y : Fate) (c : C) (i : InitState) (f : Signal) (s : TargetState) (U : Cut) (r : List ℕ) (a : F) (ns : List ℕ) → Busy c i f
+    outs_turn : (qs : List Made) → Runs qs → (x y : Fate) (c : C) (i : InitState) (f : Signal) (s : TargetState) (U : Cut) (r : List ℕ) (a : F) (ns : List ℕ) → Busy c i f
         → Paired i f s U [] (Some r) → 2 ≤ s.most → 0 < length r
         → DuesOf (made_world air (solo s a ns) (made_of f x y)) (noted c (made_note air (solo s a ns) (made_of f x y))) qs → Outcome r (cut_of U (solo s a ns) (made_of f x y ∷ qs))
     outs_turn qs more Pass y c i f s U r a ns b p most some k = go (steps_of i f s U (Some r) p)
@@ -248,7 +248,7 @@ module _ {L F : Type 0} (m : Machine L) (linked : L → Bool) (t : FarTable F) (
         outs_off qs (far_dark m linked t (solo s a ns)) (noted c Lost) s U r (laws.goes c i f b Lost) k p.said most some
 
     -- Where the reply was given it becomes whole, or what comes of it begins it.
-    pub outcome : (qs : List Made) → Outs qs
+    pub outcome : (qs : List Made) → Runs qs
     outcome [] c i f s U r a ns b p most some k = said_outcome s r U most some p.said
     outcome (q ∷ qs) c i f s U r a ns b p most some k =
         let e : f ≡ q.frame = same_frame c i f q b k.1 in

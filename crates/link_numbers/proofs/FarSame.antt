@@ -72,7 +72,7 @@ front_none [] h = absurd (omega arith)
 front_none (x ∷ many) h = record { byte = x; more = many; is = refl }
 
 module _ {L F : Type 0} (m : Machine L) (linked : L → Bool) (t : FarTable F) (dev : TargetState → L) (does : DoesSo m linked t dev) {C : Type 0} (due : C → Next) (noted : C → Note → C)
-    (Busy : C → InitState → Signal → Type 0) (Done : C → InitState → Type 0) (Off : C → Type 0) (laws : run.IsCarrying m linked t dev does due noted Busy Done Off)
+    (Busy : C → InitState → Signal → Type 0) (Done : C → InitState → Type 0) (Off : C → Type 0) (Outs : C → Type 0) (laws : run.IsCarrying m linked t dev does due noted Busy Done Off Outs)
     (Good : F → Type 0) (reads : F → List ℕ → Bool) (numbered : IsNumbered t Good reads) (End : C → Type 0)
     (busy_goes_on : (c : C) (i : InitState) (f : Signal) → Busy c i f → End c → ⊥) (off_is_no_end : (c : C) → Off c → End c → ⊥) where
   abbrev W : Type 0
@@ -85,7 +85,7 @@ module _ {L F : Type 0} (m : Machine L) (linked : L → Bool) (t : FarTable F) (
   solo s a ns = here m linked t dev s a ns
 
   abbrev DuesOf : W → C → List Made → Type 0
-  DuesOf w c qs = DuesFit m linked t due noted w c qs
+  DuesOf w c qs = DuesFit m linked t due noted Outs w c qs
 
   abbrev ShownOf : W → W → C → List Made → Type 0
   ShownOf w v c qs = Shown m linked t due noted End w v c qs
@@ -100,13 +100,13 @@ module _ {L F : Type 0} (m : Machine L) (linked : L → Bool) (t : FarTable F) (
   made_of f x y = record { frame = f; fate = x; back = y }
 
   abbrev back_note : Fate → Signal → Note
-  back_note y g = run.back_note m linked t dev does due noted Busy Done Off y g
+  back_note y g = run.back_note m linked t dev does due noted Busy Done Off Outs y g
 
   abbrev GoesTo : Standing → C → Type 0
-  GoesTo S d = run.Goes m linked t dev does due noted Busy Done Off S d
+  GoesTo S d = run.Goes m linked t dev does due noted Busy Done Off Outs S d
 
   none_made : (qs : List Made) (w : W) (d : C) → Off d → DuesOf w d qs → qs ≡ []
-  none_made qs w d o k = run.none_made m linked t dev does due noted Busy Done Off laws qs w d o k
+  none_made qs w d o k = run.none_made m linked t dev does due noted Busy Done Off Outs laws qs w d o k
 
   -- nothing more is made
   shown_off : (qs : List Made) (w v : W) (d : C) → Off d → DuesOf w d qs → SameDark m linked t w v → ShownOf w v d qs
@@ -185,12 +185,12 @@ module _ {L F : Type 0} (m : Machine L) (linked : L → Bool) (t : FarTable F) (
           let step : Stepped m linked t dev (solo s a ns) f (solo s' a ns) g = step_says m linked t dev does s a ns f whole g at in
           let fs : List Signal = answers (back (solo s' a ns) y) qs in
           let V : Cut = cut_up U (before_frames (spelled g) []) in
-          let said : answers (solo s a ns) (made_of f Pass y ∷ qs) ≡ g ∷ fs = ap answers_of (run.step_all m linked t dev does due noted Busy Done Off laws (solo s a ns) (solo s' a ns) f g y qs step) in
+          let said : answers (solo s a ns) (made_of f Pass y ∷ qs) ≡ g ∷ fs = ap answers_of (run.step_all m linked t dev does due noted Busy Done Off Outs laws (solo s a ns) (solo s' a ns) f g y qs step) in
           let pieces : pieces_of (answers (solo s a ns) (made_of f Pass y ∷ qs)) ≡ before_frames (spelled g) (pieces_of fs) =
           ap pieces_of said ∙ pieces_first g fs (answer_pieces i g s' V [] (Some r) q some) in
           let next = begun_turn i f s u U [] r g (pieces_of fs) p (subst (λ vs. Begun vs s u U []) pieces h) at in
           shown_step (solo s a ns) (solo u b ks) (solo s' a ns) (solo u' b ks) c f g y qs refl step (step_says m linked t dev does u b ks f whole g next.0)
-          (cuts_back qs more y c i f g s' u' V r a b ns ks o q some next.1 e (run.step_dues m linked t dev does due noted Busy Done Off laws (solo s a ns) (solo s' a ns) c f g y qs step k))
+          (cuts_back qs more y c i f g s' u' V r a b ns ks o q some next.1 e (run.step_dues m linked t dev does due noted Busy Done Off Outs laws (solo s a ns) (solo s' a ns) c f g y qs step k))
       go (hands x at none q) = absurd (let z : Some r ≡ None = none in cc)
   cuts_turn qs more Damage y c i f s u U r a b ns ks o p some h e k =
       (shown_missed (solo s a ns) (solo u b ks) c f y qs refl
@@ -207,7 +207,7 @@ module _ {L F : Type 0} (m : Machine L) (linked : L → Bool) (t : FarTable F) (
   cuts [] c i f s u U r a b ns ks o p some h e k =
       shown_none m linked t due noted End (solo s a ns) (solo u b ks) c [] refl (begun_dark _ s u U a b ns ks h e) (λ x. absurd (busy_goes_on c i f o x))
   cuts (q ∷ qs) c i f s u U r a b ns ks o p some h e k =
-      let z : f ≡ q.frame = run.same_frame m linked t dev does due noted Busy Done Off laws c i f q o k.1 in
+      let z : f ≡ q.frame = run.same_frame m linked t dev does due noted Busy Done Off Outs laws c i f q o k.1 in
       cuts_turn qs (cuts qs) q.fate q.back c i q.frame s u U r a b ns ks (subst (λ x. Busy c i x) z o) (subst (λ x. Paired i x s U [] (Some r)) z p) some h e k.2
 
   -- How the numbers that are left stand to what the answers ahead show: an end that reads nothing gives nothing by any; before a payload is delivered they
@@ -222,10 +222,10 @@ module _ {L F : Type 0} (m : Machine L) (linked : L → Bool) (t : FarTable F) (
       → Aligned given U a ks (g ∷ fs) → Aligned given (cut_up U (before_frames (spelled g) [])) a ks fs
   aligned_more i g s U given a ks fs h (mute none) = mute none
   aligned_more i g s U given a ks fs h (asked e shown) =
-      asked e (shown ∙ ap numbers (run.answer_cut m linked t dev does due noted Busy Done Off laws i g s U given fs h (subst (λ o. IfSome o (λ r. 0 < length r)) (sym e) tt)))
+      asked e (shown ∙ ap numbers (run.answer_cut m linked t dev does due noted Busy Done Off Outs laws i g s U given fs h (subst (λ o. IfSome o (λ r. 0 < length r)) (sym e) tt)))
   aligned_more i g s U given a ks fs h (gave r e some shown) =
       gave r e some (shown ∙ ap (λ c. later_numbers (numbers c))
-      (run.answer_cut m linked t dev does due noted Busy Done Off laws i g s U given fs h (subst (λ o. IfSome o (λ r. 0 < length r)) (sym e) some)))
+      (run.answer_cut m linked t dev does due noted Busy Done Off Outs laws i g s U given fs h (subst (λ o. IfSome o (λ r. 0 < length r)) (sym e) some)))
 
   -- the reply came whole, and the next exchange begins
   aligned_rests : (U : Cut) (n : ℕ) (reply : List ℕ) (given : Option (List ℕ)) (a : F) (ks : List ℕ) (fs : List Signal) → given ≡ Some reply → U ≡ cut_at n [] (reply ∷ [])
@@ -242,16 +242,22 @@ module _ {L F : Type 0} (m : Machine L) (linked : L → Bool) (t : FarTable F) (
         (c : C) (i : InitState) (f : Signal) (s : TargetState) (U : Cut) (given : Option (List ℕ)) (a : F) (ns ks : List ℕ) (more : List Signal) → Busy c i f → Paired i f s U [] given → 2 ≤ s.most
         → Good a → Aligned given U a ks (answers (solo s a ns) qs ++ more) → DuesOf (solo s a ns) c qs → ShownOf (solo s a ns) (solo s a ks) c qs
 
+    -- an exchange begins
+    sames_begin : (qs : List Made) → Sames qs → (d : C) (j : InitState) (s : TargetState) (a : F) (ns ks : List ℕ) (more : List Signal)
+        → ((out : List ℕ) × (Outs d → length out ≤ limit) × Busy d (begun j out) (air_frame (request (begun j out).core))) ⊎ Done d j → InStep j s → 2 ≤ s.most → Good a
+        → Aligned None (begins j.core.number) a ks (answers (solo s a ns) qs ++ more) → DuesOf (solo s a ns) d qs → ShownOf (solo s a ns) (solo s a ks) d qs
+    sames_begin qs same d j s a ns ks more (inr done) step most ok l k = tail d j qs s a ns ks done step k
+    sames_begin [] same d j s a ns ks more (inl (out, short, busy)) step most ok l k =
+        shown_none m linked t due noted End (solo s a ns) (solo s a ks) d [] refl (same_dark m linked t dev does s a ns ks)
+        (λ e. absurd (busy_goes_on d (begun j out) (air_frame (request (begun j out).core)) busy e))
+    sames_begin (q ∷ qs) same d j s a ns ks more (inl (out, short, busy)) step most ok l k =
+        same d (begun j out) (air_frame (request (begun j out).core)) s (begins j.core.number) None a ns ks more busy
+        (begins_paired j s out [] (begins j.core.number) (short k.0.2) step refl) most ok l k
+
     sames_on : (qs : List Made) → Sames qs → (S : Standing) (d : C) (s : TargetState) (U : Cut) (given : Option (List ℕ)) (a : F) (ns ks : List ℕ) (more : List Signal) → GoesTo S d → Comes S s U [] given
         → 2 ≤ s.most → Good a → Aligned given U a ks (answers (solo s a ns) qs ++ more) → DuesOf (solo s a ns) d qs → ShownOf (solo s a ns) (solo s a ks) d qs
     sames_on qs same (Waits j g) d s U given a ns ks more o p most ok l k = same d j g s U given a ns ks more o p most ok l k
-    sames_on qs same (Rests j reply) d s U given a ns ks more o p most ok l k = go o
-      where
-        go : ((out : List ℕ) × (length out ≤ limit) × Busy d (begun j out) (air_frame (request (begun j out).core))) ⊎ Done d j → ShownOf (solo s a ns) (solo s a ks) d qs
-        go (inl (out, short, busy)) =
-            same d (begun j out) (air_frame (request (begun j out).core)) s (begins j.core.number) None a ns ks more busy
-            (begins_paired j s out [] (begins j.core.number) short p.1 refl) most ok (aligned_rests U j.core.number reply given a ks (answers (solo s a ns) qs ++ more) p.0 p.2 l) k
-        go (inr done) = tail d j qs s a ns ks done p.1 k
+    sames_on qs same (Rests j reply) d s U given a ns ks more o p most ok l k = sames_begin qs same d j s a ns ks more o p.1 most ok (aligned_rests U j.core.number reply given a ks (answers (solo s a ns) qs ++ more) p.0 p.2 l) k
     sames_on qs same (Broken x) d s U given a ns ks more o p most ok l k = shown_off qs (solo s a ns) (solo s a ks) d o k (same_dark m linked t dev does s a ns ks)
     sames_on qs same Astray d s U given a ns ks more o p most ok l k = absurd p
 
@@ -325,7 +331,7 @@ module _ {L F : Type 0} (m : Machine L) (linked : L → Bool) (t : FarTable F) (
       most_now = subst (λ z. 2 ≤ z) (sym (most_replied d1 r ∙ most_stays i f s U given p)) most
 
       dues : DuesOf (back (solo s' a' (later_numbers ns)) y) (noted c (back_note y g)) qs
-      dues = run.step_dues m linked t dev does due noted Busy Done Off laws (solo s a ns) (solo s' a' (later_numbers ns)) c f g y qs step k
+      dues = run.step_dues m linked t dev does due noted Busy Done Off Outs laws (solo s a ns) (solo s' a' (later_numbers ns)) c f g y qs step k
 
       -- the same reply, which leaves the end the same
       same_reply : r ≡ q → t.left a x.items kn ≡ a' → Aligned (Some r) V a' (later_numbers ks) (fs ++ more) → ShownOf (solo s a ns) (solo s a ks) c (made_of f Pass y ∷ qs)
@@ -351,8 +357,8 @@ module _ {L F : Type 0} (m : Machine L) (linked : L → Bool) (t : FarTable F) (
         shown_now : ks ≡ shows V (fs ++ more)
         shown_now =
             shown
-            ∙ ap (λ es. shows U (answers_of es ++ more)) (run.step_all m linked t dev does due noted Busy Done Off laws (solo s a ns) (solo s' a' (later_numbers ns)) f g y qs step)
-            ∙ ap numbers (run.answer_cut m linked t dev does due noted Busy Done Off laws i g s' U (Some r) (fs ++ more) here_now some)
+            ∙ ap (λ es. shows U (answers_of es ++ more)) (run.step_all m linked t dev does due noted Busy Done Off Outs laws (solo s a ns) (solo s' a' (later_numbers ns)) f g y qs step)
+            ∙ ap numbers (run.answer_cut m linked t dev does due noted Busy Done Off Outs laws i g s' U (Some r) (fs ++ more) here_now some)
 
         shown_end : ks ≡ numbers (cut_up D (pieces_of more))
         shown_end = shown_now ∙ ap numbers (cut_append V fs more)
@@ -394,7 +400,7 @@ module _ {L F : Type 0} (m : Machine L) (linked : L → Bool) (t : FarTable F) (
 
         read : ShownOf (solo s a ns) (solo s a ks) c (made_of f Pass y ∷ qs)
         read =
-            by_outcome (run.outs_back m linked t dev does due noted Busy Done Off laws qs (run.outcome m linked t dev does due noted Busy Done Off laws qs) y c i f g s' V r a' (later_numbers ns)
+            by_outcome (run.outs_back m linked t dev does due noted Busy Done Off Outs laws qs (run.outcome m linked t dev does due noted Busy Done Off Outs laws qs) y c i f g s' V r a' (later_numbers ns)
             o here_now most_now some dues)
 
       by_aligned : reads a x.items ≡ true → Aligned given U a ks (answers (solo s a ns) (made_of f Pass y ∷ qs) ++ more) → ShownOf (solo s a ns) (solo s a ks) c (made_of f Pass y ∷ qs)
@@ -420,11 +426,11 @@ module _ {L F : Type 0} (m : Machine L) (linked : L → Bool) (t : FarTable F) (
             let whole : f ≡ whole_a f.bytes = asks_whole i f s U given p in
             let step : Stepped m linked t dev (solo s a ns) f (solo s' a ns) g = step_says m linked t dev does s a ns f whole g at in
             let fs : List Signal = answers (back (solo s' a ns) y) qs in
-            let said : answers (solo s a ns) (made_of f Pass y ∷ qs) ≡ g ∷ fs = ap answers_of (run.step_all m linked t dev does due noted Busy Done Off laws (solo s a ns) (solo s' a ns) f g y qs step) in
+            let said : answers (solo s a ns) (made_of f Pass y ∷ qs) ≡ g ∷ fs = ap answers_of (run.step_all m linked t dev does due noted Busy Done Off Outs laws (solo s a ns) (solo s' a ns) f g y qs step) in
             shown_step (solo s a ns) (solo s a ks) (solo s' a ns) (solo s' a ks) c f g y qs refl step (step_says m linked t dev does s a ks f whole g at)
             (sames_back qs same y c i f g s' (cut_up U (before_frames (spelled g) [])) given a ns ks more o h (subst (λ z. 2 ≤ z) (sym (most_stays i f s U given p)) most) ok
             (aligned_more i g s' U given a ks (fs ++ more) h (subst (λ z. Aligned given U a ks (z ++ more)) said l))
-            (run.step_dues m linked t dev does due noted Busy Done Off laws (solo s a ns) (solo s' a ns) c f g y qs step k))
+            (run.step_dues m linked t dev does due noted Busy Done Off Outs laws (solo s a ns) (solo s' a ns) c f g y qs step k))
         go (hands x at none h) = handed qs same y c i f s U given a ns ks more o p most ok fit l k x at none h
     sames_turn qs same Damage y c i f s U given a ns ks more o p most ok fit l k =
         (shown_missed (solo s a ns) (solo s a ks) c f y qs refl
@@ -442,16 +448,10 @@ module _ {L F : Type 0} (m : Machine L) (linked : L → Bool) (t : FarTable F) (
     sames [] c i f s U given a ns ks more o p most ok l k =
         shown_none m linked t due noted End (solo s a ns) (solo s a ks) c [] refl (same_dark m linked t dev does s a ns ks) (λ x. absurd (busy_goes_on c i f o x))
     sames (q ∷ qs) c i f s U given a ns ks more o p most ok l k =
-        let z : f ≡ q.frame = run.same_frame m linked t dev does due noted Busy Done Off laws c i f q o k.1 in
+        let z : f ≡ q.frame = run.same_frame m linked t dev does due noted Busy Done Off Outs laws c i f q o k.1 in
         sames_turn qs (sames qs) q.fate q.back c i q.frame s U given a ns ks more (subst (λ x. Busy c i x) z o) (subst (λ x. Paired i x s U [] given) z p) most ok k.0.1 l k.2
 
     -- So it is where exchanges begin, or none does.
     pub begins_same : (qs : List Made) (d : C) (j : InitState) (reply : List ℕ) (s : TargetState) (a : F) (ns ks : List ℕ) (more : List Signal) → GoesTo (Rests j reply) d → InStep j s → 2 ≤ s.most
         → Good a → ks ≡ shows (begins j.core.number) (answers (solo s a ns) qs ++ more) → DuesOf (solo s a ns) d qs → ShownOf (solo s a ns) (solo s a ks) d qs
-    begins_same qs d j reply s a ns ks more o step most ok shown k = go o
-      where
-        go : ((out : List ℕ) × (length out ≤ limit) × Busy d (begun j out) (air_frame (request (begun j out).core))) ⊎ Done d j → ShownOf (solo s a ns) (solo s a ks) d qs
-        go (inl (out, short, busy)) =
-            sames qs d (begun j out) (air_frame (request (begun j out).core)) s (begins j.core.number) None a ns ks more busy
-            (begins_paired j s out [] (begins j.core.number) short step refl) most ok (asked refl shown) k
-        go (inr done) = tail d j qs s a ns ks done step k
+    begins_same qs d j reply s a ns ks more o step most ok shown k = sames_begin qs (sames qs) d j s a ns ks more o step most ok (asked refl shown) k

@@ -96,59 +96,56 @@ module _ {W E : Type 0} (g : Giver W E) where
   HasCome (BrokenBy x) = ⊥
   HasCome Strays = ⊥
 
-  -- What is under way is so, of which each payload is as long as one may be, and so is what goes on behind it.
-  module _ (Ok : W → Type 0) (short : (w : W) → Ok w → length (g.gives w) ≤ limit) (goes_on : (w : W) (reply : List ℕ) (v : W) → Ok w → g.told w reply ≡ Underway v → Ok v) where
-    abbrev pub Busy : Walk W E → InitState → Signal → Type 0
-    Busy c i f = (w : W) × Ok w × (c ≡ Carries w (Waits i f))
+  abbrev pub Busy : Walk W E → InitState → Signal → Type 0
+  Busy c i f = (w : W) × (c ≡ Carries w (Waits i f))
 
-    abbrev pub Done : Walk W E → InitState → Type 0
-    Done c i = (e : E) × (c ≡ Comes e i)
+  abbrev pub Done : Walk W E → InitState → Type 0
+  Done c i = (e : E) × (c ≡ Comes e i)
 
-    abbrev pub Off : Walk W E → Type 0
-    Off c = (x : EndCause) × (c ≡ BrokenBy x)
+  abbrev pub Off : Walk W E → Type 0
+  Off c = (x : EndCause) × (c ≡ BrokenBy x)
 
-    abbrev pub OkFrom : Course W E → Type 0
-    OkFrom (Underway w) = Ok w
-    OkFrom (Through e) = Unit {0}
+  -- what is carried is as long as a payload may be
+  abbrev pub Outs : Walk W E → Type 0
+  Outs (Carries w s) = length (g.gives w) ≤ limit
+  Outs (Comes e i) = Unit {0}
+  Outs (BrokenBy x) = Unit {0}
+  Outs Strays = Unit {0}
 
-    abbrev Starts : Walk W E → InitState → Type 0
-    Starts d j = ((out : List ℕ) × (length out ≤ limit) × Busy d (begun j out) (air_frame (request (begun j out).core))) ⊎ Done d j
+  abbrev Starts : Walk W E → InitState → Type 0
+  Starts d j = ((out : List ℕ) × (Outs d → length out ≤ limit) × Busy d (begun j out) (air_frame (request (begun j out).core))) ⊎ Done d j
 
-    pub walk_starts : (from : Course W E) (j : InitState) → OkFrom from → Starts (walk_at g from j) j
-    walk_starts (Underway w) j k = inl (g.gives w, short w k, (w, k, refl))
-    walk_starts (Through e) j k = inr (e, refl)
+  pub walk_starts : (from : Course W E) (j : InitState) → Starts (walk_at g from j) j
+  walk_starts (Underway w) j = inl (g.gives w, (λ h. h), (w, refl))
+  walk_starts (Through e) j = inr (e, refl)
 
-    ok_told : (from : Course W E) → ((v : W) → from ≡ Underway v → Ok v) → OkFrom from
-    ok_told (Underway w) h = h w refl
-    ok_told (Through e) h = tt
+  abbrev pub Goes : Standing → Walk W E → Type 0
+  Goes (Waits j f) d = Busy d j f
+  Goes (Rests j reply) d = Starts d j
+  Goes (Broken x) d = Off d
+  Goes Astray d = Unit {0}
 
-    abbrev pub Goes : Standing → Walk W E → Type 0
-    Goes (Waits j f) d = Busy d j f
-    Goes (Rests j reply) d = Starts d j
-    Goes (Broken x) d = Off d
-    Goes Astray d = Unit {0}
+  carried_goes : (w : W) (s : Standing) → Goes s (walk_carried g w s)
+  carried_goes w (Waits j f) = (w, refl)
+  carried_goes w (Rests j reply) = walk_starts (g.told w reply) j
+  carried_goes w (Broken x) = (x, refl)
+  carried_goes w Astray = tt
 
-    carried_goes : (w : W) (s : Standing) → Ok w → Goes s (walk_carried g w s)
-    carried_goes w (Waits j f) k = (w, k, refl)
-    carried_goes w (Rests j reply) k = walk_starts (g.told w reply) j (ok_told (g.told w reply) (λ v e. goes_on w reply v k e))
-    carried_goes w (Broken x) k = (x, refl)
-    carried_goes w Astray k = tt
+  pub walk_goes : (c : Walk W E) (i : InitState) (f : Signal) → Busy c i f → (n : Note) → Goes (noted (Waits i f) n) (walk_noted g c n)
+  walk_goes c i f (w, e) n =
+      subst (λ z. Goes (noted (Waits i f) n) (walk_noted g z n)) (sym e) (carried_goes w (noted (Waits i f) n))
 
-    pub walk_goes : (c : Walk W E) (i : InitState) (f : Signal) → Busy c i f → (n : Note) → Goes (noted (Waits i f) n) (walk_noted g c n)
-    walk_goes c i f (w, k, e) n =
-        subst (λ z. Goes (noted (Waits i f) n) (walk_noted g z n)) (sym e) (carried_goes w (noted (Waits i f) n) k)
+  pub busy_asks : (c : Walk W E) (i : InitState) (f : Signal) → Busy c i f → walk_due_at c ≡ Asks f
+  busy_asks c i f (w, e) = ap walk_due_at e
 
-    pub busy_asks : (c : Walk W E) (i : InitState) (f : Signal) → Busy c i f → walk_due_at c ≡ Asks f
-    busy_asks c i f (w, k, e) = ap walk_due_at e
+  pub off_due : (c : Walk W E) (f : Signal) → Off c → walk_due_at c ≡ Asks f → ⊥
+  off_due c f (x, e) k = absurd (let z : Over ≡ Asks f = sym (ap walk_due_at e) ∙ k in cc)
 
-    pub off_due : (c : Walk W E) (f : Signal) → Off c → walk_due_at c ≡ Asks f → ⊥
-    off_due c f (x, e) k = absurd (let z : Over ≡ Asks f = sym (ap walk_due_at e) ∙ k in cc)
+  pub done_due : (c : Walk W E) (i : InitState) (f : Signal) → Done c i → walk_due_at c ≡ Asks f → ⊥
+  done_due c i f (x, e) k = absurd (let z : Over ≡ Asks f = sym (ap walk_due_at e) ∙ k in cc)
 
-    pub done_due : (c : Walk W E) (i : InitState) (f : Signal) → Done c i → walk_due_at c ≡ Asks f → ⊥
-    done_due c i f (x, e) k = absurd (let z : Over ≡ Asks f = sym (ap walk_due_at e) ∙ k in cc)
+  pub busy_has_more : (c : Walk W E) (i : InitState) (f : Signal) → Busy c i f → HasCome c → ⊥
+  busy_has_more c i f (w, e) h = subst HasCome e h
 
-    pub busy_has_more : (c : Walk W E) (i : InitState) (f : Signal) → Busy c i f → HasCome c → ⊥
-    busy_has_more c i f (w, k, e) h = subst HasCome e h
-
-    pub off_has_more : (c : Walk W E) → Off c → HasCome c → ⊥
-    off_has_more c (x, e) h = subst HasCome e h
+  pub off_has_more : (c : Walk W E) → Off c → HasCome c → ⊥
+  off_has_more c (x, e) h = subst HasCome e h
