@@ -30,10 +30,10 @@ use Rattle.far_air.proofs.Meeting.{meets_unasked, unasked}
 use Rattle.snep_core.specs.Talk.{Step, Goes, Ends, GivesUp}
 use Rattle.link_calls.specs.CallDue.{OnCall, by_client, call_at, next_of}
 use Rattle.link_calls.specs.ClosingDue.{ClosingStanding, Calls, Releasing, Released, closing_at, closing_due, closing_due_at, closing_noted, closing_on, closing_stand}
-use Rattle.link_calls.specs.Walk.{Underway, Walk, Carries, Comes, BrokenBy, Strays, walk_noted}
+use Rattle.link_calls.specs.Walk.{Walk, Carries, Comes, BrokenBy, Strays, walk_noted}
 use Rattle.link_numbers.specs.Shown.{answers_of, far_shown, numbers, pieces_of}
 use Rattle.link_numbers.proofs.FarAlone.{Around, AreAround, IsSilent, amid}
-use Rattle.link_numbers.proofs.FarCourse.{Dues, Made, made_events, made_note, made_world, noted_all}
+use Rattle.link_numbers.proofs.FarCourse.{Made, made_events, made_note, made_world, noted_all}
 use Rattle.link_numbers.proofs.FarLaw.{IsWhole, far_law}
 use Rattle.link_numbers.proofs.FarFit.{DuesFit, RepliesFit}
 use Rattle.link_numbers.proofs.FarRun as run

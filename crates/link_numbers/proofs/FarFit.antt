@@ -1,5 +1,5 @@
 -- Turns in which each reply that a far end gives is no longer than a payload may be.
-use Rattle.std.proofs.Common.{◌≡◌, ℕ, ◌≤◌, List, [], ◌∷◌, ◌++◌, length, Bool, true, Option, Some, refl, sym, ◌∙◌, ap, subst, append_assoc}
+use Rattle.std.proofs.Common.{◌≡◌, ℕ, ◌≤◌, List, [], ◌∷◌, ◌++◌, length, Bool, true, Option, Some, sym, ◌∙◌, ap, subst, append_assoc}
 use Rattle.std.specs.List.{AllByRecursion}
 use Rattle.nfc_base.specs.Signal.{Signal}
 use Rattle.nfc_base.specs.declared.event.Event.{Event}
@@ -14,7 +14,7 @@ use Rattle.dep_link.specs.Sizes.{limit}
 use Rattle.far_air.specs.FarEnds.{FarTable, first_far, later_fars, numbers_left}
 use Rattle.far_air.specs.FarWorld.{FarWorld, far_air, far_happens, reply_at}
 use Rattle.far_air.proofs.Meeting.{one_unasked}
-use Rattle.link_numbers.proofs.FarAlone.{AllAsk, Around, IsAmid, IsSilent, amid, alone, around_all, same_lit, same_note, turned}
+use Rattle.link_numbers.proofs.FarAlone.{AllAsk, Around, IsAmid, IsSilent, around_all, same_lit, same_note, turned}
 use Rattle.link_numbers.proofs.FarCourse.{Dues, Made, all_events, made_events, made_note, made_world, noted_all, noted_more, turn_back, turn_note}
 
 module _ {L F : Type 0} (m : Machine L) (linked : L → Bool) (t : FarTable F) where

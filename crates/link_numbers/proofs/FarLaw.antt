@@ -14,7 +14,7 @@ use Rattle.dep_link.specs.Target.{TargetState}
 use Rattle.far_air.specs.FarEnds.{FarTable}
 use Rattle.far_air.specs.FarWorld.{FarWorld, far_dark, far_air, with_numbers}
 use Rattle.link_numbers.specs.Shown.{answers_of}
-use Rattle.link_numbers.proofs.FarAlone.{Around, AreAround, AllAsk, IsAmid, IsSilent, all_same, amid, around_all, around_dark, darkened, dues_alone, is_placed, lit_amid, noted_alone, placed}
+use Rattle.link_numbers.proofs.FarAlone.{Around, AreAround, AllAsk, IsAmid, IsSilent, all_same, amid, around_all, around_dark, darkened, is_placed, lit_amid, noted_alone, placed}
 use Rattle.link_numbers.proofs.FarCourse.{AreMade, Dues, Made, all_events, all_known, all_replayed, all_turns, all_world, are_made, made_note, made_world, noted_all}
 use Rattle.link_numbers.proofs.FarFit.{AllFit, AllOut, DuesFit, RepliesFit, all_fit, all_out, dues_fit}
 use Rattle.link_numbers.proofs.FarRun as run

@@ -1,5 +1,5 @@
 -- The numbers that a peer's answers show are as good as the true ones while a walk carries payloads to it, whoever gives them.
-use Rattle.std.proofs.Common.{◌≡◌, ℕ, ◌≤◌, Bool, true, List, [], ◌∷◌, ◌++◌, length, Some, refl, ap, subst}
+use Rattle.std.proofs.Common.{◌≡◌, ℕ, ◌≤◌, Bool, true, List, [], ◌∷◌, ◌++◌, Some, refl, ap, subst}
 use Rattle.nfc_base.specs.Signal.{Signal}
 use Rattle.nfc_base.specs.declared.event.Event.{Event}
 use Rattle.nfc_base.specs.declared.event.Event.TheVariants.{Request}
@@ -8,16 +8,15 @@ use Rattle.air_core.specs.Conversation.{AirModel, AreTurns, EachDue, receptions,
 use Rattle.air_core.specs.World.{Machine}
 use Rattle.dep_link.specs.Exchange.{InStep}
 use Rattle.dep_link.specs.Initiator.{InitState}
-use Rattle.dep_link.specs.Sizes.{limit}
 use Rattle.dep_link.specs.Target.{TargetState}
 use Rattle.far_air.specs.FarEnds.{FarTable}
 use Rattle.far_air.specs.FarWorld.{FarWorld, far_air, with_numbers}
-use Rattle.link_calls.specs.Walk.{Course, Giver, Underway, Walk, walk_at, walk_due, walk_due_at, walk_noted, walk_stand}
+use Rattle.link_calls.specs.Walk.{Course, Giver, Walk, walk_at, walk_due, walk_due_at, walk_noted, walk_stand}
 use Rattle.link_numbers.specs.Shown.{answers_of, far_shown, numbers, pieces_of}
 use Rattle.dep_link.specs.Payloads.{begins}
 use Rattle.dep_link.specs.Replies.{cut_up}
 use Rattle.link_numbers.proofs.FarAlone.{Around, AreAround, IsSilent, amid}
-use Rattle.link_numbers.proofs.FarCourse.{Dues, Made}
+use Rattle.link_numbers.proofs.FarCourse.{Made}
 use Rattle.link_numbers.proofs.FarLaw.{IsWhole, far_law}
 use Rattle.link_numbers.proofs.FarFit.{DuesFit, RepliesFit}
 use Rattle.link_numbers.proofs.FarRun as run
