@@ -304,7 +304,8 @@ module _ {L F : Type 0} (m : Machine L) (linked : L → Bool) (t : FarTable F) w
         pub same_note : (x : Around L F) (w v : FarWorld L F) (q : Made) → Asks q.frame → IsAmid x w v → made_note (far_air m linked t) w q ≡ made_note (far_air m linked t) v q
         same_note x w v q k a = ap (λ j. note (heard_by q.fate (joint_back j q.back))) (same_joint x w v q.frame k a)
 
-        pub dues_alone : (qs : List Made) (x : Around L F) (w v : FarWorld L F) (c : C) → AllAsk qs → IsAmid x w v → Dues (far_air m linked t) due noted w c qs → Dues (far_air m linked t) due noted v c qs
+        pub dues_alone : (qs : List Made) (x : Around L F) (w v : FarWorld L F) (c : C) → AllAsk qs → IsAmid x w v → Dues (far_air m linked t) due noted w c qs
+            → Dues (far_air m linked t) due noted v c qs
         dues_alone [] x w v c k a d = tt
         dues_alone (q ∷ qs) x w v c k a d =
             let W : FarWorld L F = made_world (far_air m linked t) w q in
@@ -315,7 +316,8 @@ module _ {L F : Type 0} (m : Machine L) (linked : L → Bool) (t : FarTable F) w
                   (subst (λ n. Dues (far_air m linked t) due noted W (noted c n) qs) (same_note x w v q k.0 a) d.2),
             )
 
-        pub noted_alone : (qs : List Made) (x : Around L F) (w v : FarWorld L F) (c : C) → AllAsk qs → IsAmid x w v → all_noted (far_air m linked t) due noted w c qs ≡ all_noted (far_air m linked t) due noted v c qs
+        pub noted_alone : (qs : List Made) (x : Around L F) (w v : FarWorld L F) (c : C) → AllAsk qs → IsAmid x w v
+            → all_noted (far_air m linked t) due noted w c qs ≡ all_noted (far_air m linked t) due noted v c qs
         noted_alone [] x w v c k a = refl
         noted_alone (q ∷ qs) x w v c k a =
             let W : FarWorld L F = made_world (far_air m linked t) w q in

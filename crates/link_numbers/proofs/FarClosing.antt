@@ -101,7 +101,8 @@ outs_closing (Carries w s) h = h
 outs_closing (BrokenBy x) h = tt
 outs_closing Strays h = tt
 
-starts_closing : (c : Walk OnCall Step) (j : InitState) → ((out : List ℕ) × (walk.Outs by_client c → length out ≤ limit) × BusyWalk c (begun j out) (air_frame (request (begun j out).core))) ⊎ walk.Done by_client c j
+starts_closing : (c : Walk OnCall Step) (j : InitState) → ((out : List ℕ) × (walk.Outs by_client c
+    → length out ≤ limit) × BusyWalk c (begun j out) (air_frame (request (begun j out).core))) ⊎ walk.Done by_client c j
     → Starts (closing_at c) j
 starts_closing c j (inl (out, fits, b)) = inl (out, (λ h. fits (outs_closing c h)), busy_closing c (begun j out) (air_frame (request (begun j out).core)) b)
 starts_closing c j (inr (to, e)) = inr (subst (λ z. Done (closing_at z) j) (sym e) (come_done to j))
@@ -313,6 +314,6 @@ module _ {L F : Type 0} (m : Machine L) (linked : L → Bool) (t : FarTable F) (
         (starts_closing (call_at own from i) i (walk_starts by_client (next_of own from) i))
         (at_closing_whole (call_at own from i) (at_whole by_client (next_of own from) i)) (answers_of more) ks es (closing_due own from i)
         (λ hs. ap closing_due_at (closing_all (closing_at (call_at own from i)) hs)) turns each fit
-            (λ before f y rest e. subst Outs (closing_all (closing_at (call_at own from i)) (receptions before)) (outs before f y rest e))
+        (λ before f y rest e. subst Outs (closing_all (closing_at (call_at own from i)) (receptions before)) (outs before f y rest e))
         (ap (λ fs. numbers (cut_up (begins i.core.number) (pieces_of fs))) (answers_append es more)) in
         record { turns = k.turns; alike = k.alike; done = λ e. k.done (subst HasClosedAt (closing_all (closing_at (call_at own from i)) (receptions es)) e) }

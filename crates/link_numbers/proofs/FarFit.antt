@@ -75,7 +75,8 @@ module _ {L F : Type 0} (m : Machine L) (linked : L → Bool) (t : FarTable F) w
     AllOut w c (q ∷ qs) = Outs c × AllOut (made_world air w q) (noted c (made_note air w q)) qs
 
     -- where it is so before each request
-    pub all_out : (first : C) (es : List Event) → ((before : List Event) (f : Signal) (x : Fate) (rest : List Event) → es ≡ before ++ Request f x ∷ rest → Outs (noted_all noted first (receptions before)))
+    pub all_out : (first : C) (es : List Event) → ((before : List Event) (f : Signal) (x : Fate) (rest : List Event) → es ≡ before ++ Request f x ∷ rest
+        → Outs (noted_all noted first (receptions before)))
         → (qs : List Made) (w : W) (before : List Event) → es ≡ before ++ all_events air w qs → AllOut w (noted_all noted first (receptions before)) qs
     all_out first es outs [] w before e = tt
     all_out first es outs (q ∷ qs) w before e =
@@ -83,9 +84,10 @@ module _ {L F : Type 0} (m : Machine L) (linked : L → Bool) (t : FarTable F) w
         let rest : List Event = all_events air (made_world air w q) qs in
         let on : noted_all noted first (receptions (before ++ E)) ≡ noted (noted_all noted first (receptions before)) (made_note air w q) =
         ap (noted_all noted first) (receptions-append before E (turn_back air w q) ∙ ap (λ ns. receptions before ++ ns) (turn_note air w q.frame q.fate q.back))
-        ∙ noted_more noted first (receptions before) (made_note air w q) in
-        (outs before q.frame q.fate (by_fate q.fate (joint_events (air.joint w q.frame) q.back) [] [] ++ rest) e,
-          subst (λ c. AllOut (made_world air w q) c qs) on (all_out first es outs qs (made_world air w q) (before ++ E) (e ∙ sym (append_assoc before E rest))))
+        ∙ noted_more noted first (receptions before) (made_note air w q) in (
+          outs before q.frame q.fate (by_fate q.fate (joint_events (air.joint w q.frame) q.back) [] [] ++ rest) e,
+          subst (λ c. AllOut (made_world air w q) c qs) on (all_out first es outs qs (made_world air w q) (before ++ E) (e ∙ sym (append_assoc before E rest))),
+        )
 
     -- Each of these turns is made in light, what is carried and its replies are so, and its request is the one that is due.
     abbrev pub DuesFit : W → C → List Made → Type 0
@@ -116,12 +118,15 @@ module _ {L F : Type 0} (m : Machine L) (linked : L → Bool) (t : FarTable F) w
     fits_alone x w v Lose f k a h = tt
     fits_alone x w v Break f k a h = tt
 
-    pub dues_fit : {C : Type 0} (due : C → Next) (noted : C → Note → C) (Outs : C → Type 0) (qs : List Made) (x : Around L F) (w v : W) (c : C) → AllAsk m linked t Is Asked silent dark qs → AmidOf x w v
+    pub dues_fit : {C : Type 0} (due : C → Next) (noted : C → Note → C) (Outs : C → Type 0) (qs : List Made) (x : Around L F) (w v : W) (c : C) → AllAsk m linked t Is Asked silent dark qs
+        → AmidOf x w v
         → Dues air due noted w c qs → AllFit w qs → AllOut due noted Outs w c qs → DuesFit due noted Outs v c qs
     dues_fit due noted Outs [] x w v c k a d h o = tt
     dues_fit due noted Outs (q ∷ qs) x w v c k a d h o =
-        let V : W = made_world air v q in
-        ((sym (same_lit m linked t Is Asked silent dark x w v a) ∙ d.0, fits_alone x w v q.fate q.frame k.0 a h.0, o.0), d.1,
+        let V : W = made_world air v q in (
+          (sym (same_lit m linked t Is Asked silent dark x w v a) ∙ d.0, fits_alone x w v q.fate q.frame k.0 a h.0, o.0),
+          d.1,
           dues_fit due noted Outs qs (around_all m linked t x (made_events air v q)) (made_world air w q) V (noted c (made_note air v q)) k.1 (turned m linked t Is Asked silent dark x w v q k.0 a)
-          (subst (λ n. Dues air due noted (made_world air w q) (noted c n) qs) (same_note m linked t Is Asked silent dark due noted x w v q k.0 a) d.2) h.1
-          (subst (λ n. AllOut due noted Outs (made_world air w q) (noted c n) qs) (same_note m linked t Is Asked silent dark due noted x w v q k.0 a) o.1))
+              (subst (λ n. Dues air due noted (made_world air w q) (noted c n) qs) (same_note m linked t Is Asked silent dark due noted x w v q k.0 a) d.2) h.1
+              (subst (λ n. AllOut due noted Outs (made_world air w q) (noted c n) qs) (same_note m linked t Is Asked silent dark due noted x w v q k.0 a) o.1),
+        )

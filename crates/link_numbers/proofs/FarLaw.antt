@@ -86,7 +86,8 @@ module _ {L F : Type 0} (m : Machine L) (linked : L → Bool) (t : FarTable F) w
         amid_at : (ks : List ℕ) → AmidOf x (world ks) (apart ks)
         amid_at ks = record { lit = true; device = dev s; far = Some a; numbers = ks; here = refl; apart = refl; others = around }
 
-        module _ (ks : List ℕ) (qs : List Made) (d : Dues air due noted (world ns) c qs) (fit : AllFit m linked t (world ns) qs) (outs : AllOut m linked t due noted Outs (world ns) c qs) (shown : ks ≡ shows (begins i.core.number) (answers_of (all_events air (world ns) qs) ++ more)) where
+        module _ (ks : List ℕ) (qs : List Made) (d : Dues air due noted (world ns) c qs) (fit : AllFit m linked t (world ns) qs) (outs : AllOut m linked t due noted Outs (world ns) c qs)
+            (shown : ks ≡ shows (begins i.core.number) (answers_of (all_events air (world ns) qs) ++ more)) where
           whole : AllAsk m linked t Is IsWhole silent dark qs
           whole = all_whole qs (world ns) c starts d
 
@@ -115,19 +116,23 @@ module _ {L F : Type 0} (m : Machine L) (linked : L → Bool) (t : FarTable F) w
             turns = subst (AreTurns air (world ks)) same_events (all_turns air (world ks) qs (lit_amid m linked t Is IsWhole silent dark qs x (world ks) (apart ks) whole (amid_at ks) same.lit));
             alike = subst (λ z. SameDark m linked t z (replay air (world ks) (all_events air (world ns) qs))) (sym (all_replayed air (world ns) qs))
                 (subst (λ z. SameDark m linked t (all_world air (world ns) qs) z) (sym replayed)
-                (dark_amid (around_all m linked t x (all_events air (apart ns) qs)) (all_world air (world ns) qs) (all_world air (apart ns) qs) (all_world air (world ks) qs) (all_world air (apart ks) qs)
+                (dark_amid (around_all m linked t x (all_events air (apart ns) qs)) (all_world air (world ns) qs) (all_world air (apart ns) qs) (all_world air (world ks) qs) (all_world air
+                (apart ks) qs)
                 true_turns.1 other_amid same.alike));
             done = λ e.
                 ap (λ z. with_numbers z []) replayed
-                ∙ same_amid (around_all m linked t x (all_events air (apart ns) qs)) (all_world air (world ns) qs) (all_world air (apart ns) qs) (all_world air (world ks) qs) (all_world air (apart ks) qs)
-                true_turns.1 other_amid (same.done (subst End (all_known air due noted (world ns) c qs ∙ noted_alone m linked t Is IsWhole silent dark due noted qs x (world ns) (apart ns) c whole (amid_at ns)) e))
+                ∙ same_amid (around_all m linked t x (all_events air (apart ns) qs)) (all_world air (world ns) qs) (all_world air (apart ns) qs) (all_world air (world ks) qs) (all_world air
+                (apart ks) qs)
+                true_turns.1 other_amid (same.done (subst End (all_known air due noted (world ns) c qs
+                ∙ noted_alone m linked t Is IsWhole silent dark due noted qs x (world ns) (apart ns) c whole (amid_at ns)) e))
                 ∙ sym (ap (λ z. with_numbers z []) (all_replayed air (world ns) qs));
           }
             where
               replayed : replay air (world ks) (all_events air (world ns) qs) ≡ all_world air (world ks) qs
               replayed = ap (replay air (world ks)) (sym same_events) ∙ all_replayed air (world ks) qs
 
-        pub far_law : (ks : List ℕ) (es : List Event) (next : List Note → Next) → ((hs : List Note) → next hs ≡ due (noted_all noted c hs)) → AreTurns air (world ns) es → EachDue next [] es → RepliesFit m linked t (world ns) es
+        pub far_law : (ks : List ℕ) (es : List Event) (next : List Note → Next) → ((hs : List Note) → next hs ≡ due (noted_all noted c hs)) → AreTurns air (world ns) es → EachDue next [] es
+            → RepliesFit m linked t (world ns) es
             → ((before : List Event) (f : Signal) (x : Fate) (rest : List Event) → es ≡ before ++ Request f x ∷ rest → Outs (noted_all noted c (receptions before)))
             → ks ≡ shows (begins i.core.number) (answers_of es ++ more) → ShowsWell (world ns) ks c es
         far_law ks es next is turns each fit outs shown =

@@ -73,7 +73,8 @@ stays_within a p n ok = subst (λ k. k ≤ 2176) (sym (after_has serving a.far_m
 further : (a : PeerState) (p : List ℕ) (n : ℕ) (xs b : List ℕ) → reads a p ≡ true → 2 ≤ length xs → IsFront xs (peer_ends.reply a p n) → IsFront xs b → IsFront xs (peer_ends.reply a p (number b))
 further a p n xs b e two f z =
     subst (λ c. IsFront xs (peer_ends.reply a p (number c))) (sym z.is)
-    (as_front xs (given serving (number (xs ++ z.byte ∷ z.more)) (taken_from serving a p)) (later_shown serving (taken_from serving a p) n xs z.byte z.more e two (of_front xs (peer_ends.reply a p n) f)))
+    (as_front xs (given serving (number (xs ++ z.byte ∷ z.more)) (taken_from serving a p)) (later_shown serving (taken_from serving a p) n xs z.byte z.more e two (of_front xs
+    (peer_ends.reply a p n) f)))
 
 cuts : (a : PeerState) (p : List ℕ) (n : ℕ) (xs ys : List ℕ) → reads a p ≡ true → 2 ≤ length xs → IsFront xs (peer_ends.reply a p n)
     → IsFront xs (peer_ends.reply a p (first_number (cut_off (xs ++ ys))))

@@ -185,7 +185,8 @@ module _ {L F : Type 0} (m : Machine L) (linked : L → Bool) (t : FarTable F) (
           let step : Stepped m linked t dev (solo s a ns) f (solo s' a ns) g = step_says m linked t dev does s a ns f whole g at in
           let fs : List Signal = answers (back (solo s' a ns) y) qs in
           let V : Cut = cut_up U (before_frames (spelled g) []) in
-          let said : answers (solo s a ns) (made_of f Pass y ∷ qs) ≡ g ∷ fs = ap answers_of (run.step_all m linked t dev does due noted Busy Done Off Outs laws (solo s a ns) (solo s' a ns) f g y qs step) in
+          let said : answers (solo s a ns) (made_of f Pass y ∷ qs) ≡ g ∷ fs = ap answers_of (run.step_all m linked t dev does due noted Busy Done Off Outs laws (solo s a ns)
+          (solo s' a ns) f g y qs step) in
           let pieces : pieces_of (answers (solo s a ns) (made_of f Pass y ∷ qs)) ≡ before_frames (spelled g) (pieces_of fs) =
           ap pieces_of said ∙ pieces_first g fs (answer_pieces i g s' V [] (Some r) q some) in
           let next = begun_turn i f s u U [] r g (pieces_of fs) p (subst (λ vs. Begun vs s u U []) pieces h) at in
@@ -194,10 +195,12 @@ module _ {L F : Type 0} (m : Machine L) (linked : L → Bool) (t : FarTable F) (
       go (hands x at none q) = absurd (let z : Some r ≡ None = none in cc)
   cuts_turn qs more Damage y c i f s u U r a b ns ks o p some h e k =
       (shown_missed (solo s a ns) (solo u b ks) c f y qs refl
-      (cuts_on qs more (carrying.noted (Waits i f) (Got heards.Silent)) (noted c (Got heards.Silent)) s u U r a b ns ks (laws.goes c i f o (Got heards.Silent)) (unheard i f s U [] (Some r) p) some h e k)).0
+      (cuts_on qs more (carrying.noted (Waits i f) (Got heards.Silent)) (noted c (Got heards.Silent)) s u U r a b ns ks (laws.goes c i f o (Got heards.Silent)) (unheard i f s U []
+      (Some r) p) some h e k)).0
   cuts_turn qs more Lose y c i f s u U r a b ns ks o p some h e k =
       (shown_missed (solo s a ns) (solo u b ks) c f y qs refl
-      (cuts_on qs more (carrying.noted (Waits i f) (Got heards.Silent)) (noted c (Got heards.Silent)) s u U r a b ns ks (laws.goes c i f o (Got heards.Silent)) (unheard i f s U [] (Some r) p) some h e k)).1
+      (cuts_on qs more (carrying.noted (Waits i f) (Got heards.Silent)) (noted c (Got heards.Silent)) s u U r a b ns ks (laws.goes c i f o (Got heards.Silent)) (unheard i f s U []
+      (Some r) p) some h e k)).1
   cuts_turn qs more Break y c i f s u U r a b ns ks o p some h e k =
       shown_broken (solo s a ns) (solo u b ks) c f y qs refl
       (shown_off qs (far_dark m linked t (solo s a ns)) (far_dark m linked t (solo u b ks)) (noted c Lost) (laws.goes c i f o Lost) k
@@ -218,7 +221,8 @@ module _ {L F : Type 0} (m : Machine L) (linked : L → Bool) (t : FarTable F) (
     gave : (r : List ℕ) → given ≡ Some r → 0 < length r → ks ≡ later_numbers (shows U ahead) → Aligned given U a ks ahead
 
   -- one answer more
-  aligned_more : (i : InitState) (g : Signal) (s : TargetState) (U : Cut) (given : Option (List ℕ)) (a : F) (ks : List ℕ) (fs : List Signal) → Answering i g s (cut_up U (before_frames (spelled g) [])) [] given
+  aligned_more : (i : InitState) (g : Signal) (s : TargetState) (U : Cut) (given : Option (List ℕ)) (a : F) (ks : List ℕ) (fs : List Signal)
+      → Answering i g s (cut_up U (before_frames (spelled g) [])) [] given
       → Aligned given U a ks (g ∷ fs) → Aligned given (cut_up U (before_frames (spelled g) [])) a ks fs
   aligned_more i g s U given a ks fs h (mute none) = mute none
   aligned_more i g s U given a ks fs h (asked e shown) =
@@ -235,7 +239,8 @@ module _ {L F : Type 0} (m : Machine L) (linked : L → Bool) (t : FarTable F) (
   aligned_rests U n reply given a ks fs e is (gave r z some shown) =
       asked refl (shown ∙ ap (λ c. later_numbers (shows c fs)) is ∙ ap later_numbers (shows_behind n reply fs))
 
-  module _ (tail : (d : C) (j : InitState) (qs : List Made) (s : TargetState) (a : F) (ns ks : List ℕ) → Done d j → InStep j s → DuesOf (solo s a ns) d qs → ShownOf (solo s a ns) (solo s a ks) d qs) where
+  module _ (tail : (d : C) (j : InitState) (qs : List Made) (s : TargetState) (a : F) (ns ks : List ℕ) → Done d j → InStep j s → DuesOf (solo s a ns) d qs
+      → ShownOf (solo s a ns) (solo s a ks) d qs) where
     -- The peer stands the same in both worlds.
     abbrev Sames : List Made → Type 0
     Sames qs =
@@ -254,10 +259,12 @@ module _ {L F : Type 0} (m : Machine L) (linked : L → Bool) (t : FarTable F) (
         same d (begun j out) (air_frame (request (begun j out).core)) s (begins j.core.number) None a ns ks more busy
         (begins_paired j s out [] (begins j.core.number) (short k.0.2) step refl) most ok l k
 
-    sames_on : (qs : List Made) → Sames qs → (S : Standing) (d : C) (s : TargetState) (U : Cut) (given : Option (List ℕ)) (a : F) (ns ks : List ℕ) (more : List Signal) → GoesTo S d → Comes S s U [] given
+    sames_on : (qs : List Made) → Sames qs → (S : Standing) (d : C) (s : TargetState) (U : Cut) (given : Option (List ℕ)) (a : F) (ns ks : List ℕ) (more : List Signal) → GoesTo S d
+        → Comes S s U [] given
         → 2 ≤ s.most → Good a → Aligned given U a ks (answers (solo s a ns) qs ++ more) → DuesOf (solo s a ns) d qs → ShownOf (solo s a ns) (solo s a ks) d qs
     sames_on qs same (Waits j g) d s U given a ns ks more o p most ok l k = same d j g s U given a ns ks more o p most ok l k
-    sames_on qs same (Rests j reply) d s U given a ns ks more o p most ok l k = sames_begin qs same d j s a ns ks more o p.1 most ok (aligned_rests U j.core.number reply given a ks (answers (solo s a ns) qs ++ more) p.0 p.2 l) k
+    sames_on qs same (Rests j reply) d s U given a ns ks more o p most ok l k = sames_begin qs same d j s a ns ks more o p.1 most ok (aligned_rests U j.core.number reply given a ks (answers
+        (solo s a ns) qs ++ more) p.0 p.2 l) k
     sames_on qs same (Broken x) d s U given a ns ks more o p most ok l k = shown_off qs (solo s a ns) (solo s a ks) d o k (same_dark m linked t dev does s a ns ks)
     sames_on qs same Astray d s U given a ns ks more o p most ok l k = absurd p
 
@@ -279,7 +286,8 @@ module _ {L F : Type 0} (m : Machine L) (linked : L → Bool) (t : FarTable F) (
 
     -- the payload is handed over
     module _ (qs : List Made) (same : Sames qs) (y : Fate) (c : C) (i : InitState) (f : Signal) (s : TargetState) (U : Cut) (given : Option (List ℕ)) (a : F) (ns ks : List ℕ) (more : List Signal)
-        (o : Busy c i f) (p : Paired i f s U [] given) (most : 2 ≤ s.most) (ok : Good a) (fit : FitsAt m linked t Pass f (solo s a ns)) (l : Aligned given U a ks (answers (solo s a ns) (made_of f Pass y ∷ qs) ++ more))
+        (o : Busy c i f) (p : Paired i f s U [] given) (most : 2 ≤ s.most) (ok : Good a) (fit : FitsAt m linked t Pass f (solo s a ns)) (l : Aligned given U a ks (answers (solo s a ns)
+        (made_of f Pass y ∷ qs) ++ more))
         (k : DuesOf (made_world air (solo s a ns) (made_of f Pass y)) (noted c (made_note air (solo s a ns) (made_of f Pass y))) qs)
         (x : ArrayVec ℕ) (at : (target_table s f).does ≡ steps.Deliver x) (none : given ≡ None)
         (h : (r : List ℕ) → length r ≤ limit → Answering i (air_frame (reply_frame (target_table s f).state r)) (replied (target_table s f).state r)
@@ -390,7 +398,8 @@ module _ {L F : Type 0} (m : Machine L) (linked : L → Bool) (t : FarTable F) (
             let b = begun_given i f s U [] pair x at r q fits (pieces_of fs) (ap (λ (v : Cut). length v.payloads) cut_now ∙ ap length z)
             D.chain first.0 second.0 (ap (λ (v : Cut). v.chain) cut_now) first.1 second.1 (λ v. first.2) (λ v. second.2) in
             let twin : Stepped m linked t dev (solo s a ks) f (solo (replied d1 q) (t.left a x.items kn) (later_numbers ks)) g =
-            subst (λ v. Stepped m linked t dev (solo s a ks) f (solo (replied d1 q) (t.left a x.items kn) (later_numbers ks)) (air_frame v)) (sym b.0) (step_hands m linked t dev does s a ks f whole x q at refl) in
+            subst (λ v. Stepped m linked t dev (solo s a ks) f (solo (replied d1 q) (t.left a x.items kn) (later_numbers ks)) (air_frame v)) (sym b.0)
+            (step_hands m linked t dev does s a ks f whole x q at refl) in
             shown_step (solo s a ns) (solo s a ks) (solo s' a' (later_numbers ns)) (solo (replied d1 q) (t.left a x.items kn) (later_numbers ks)) c f g y qs refl step twin
             (cuts_back qs (cuts qs) y c i f g s' (replied d1 q) V r a' (t.left a x.items kn) (later_numbers ns) (later_numbers ks) o here_now some b.1 (numbered.rests a x.items n kn) dues)
 
@@ -400,7 +409,8 @@ module _ {L F : Type 0} (m : Machine L) (linked : L → Bool) (t : FarTable F) (
 
         read : ShownOf (solo s a ns) (solo s a ks) c (made_of f Pass y ∷ qs)
         read =
-            by_outcome (run.outs_back m linked t dev does due noted Busy Done Off Outs laws qs (run.outcome m linked t dev does due noted Busy Done Off Outs laws qs) y c i f g s' V r a' (later_numbers ns)
+            by_outcome (run.outs_back m linked t dev does due noted Busy Done Off Outs laws qs (run.outcome m linked t dev does due noted Busy Done Off Outs laws qs) y c i f g s' V r a'
+            (later_numbers ns)
             o here_now most_now some dues)
 
       by_aligned : reads a x.items ≡ true → Aligned given U a ks (answers (solo s a ns) (made_of f Pass y ∷ qs) ++ more) → ShownOf (solo s a ns) (solo s a ks) c (made_of f Pass y ∷ qs)
@@ -426,7 +436,8 @@ module _ {L F : Type 0} (m : Machine L) (linked : L → Bool) (t : FarTable F) (
             let whole : f ≡ whole_a f.bytes = asks_whole i f s U given p in
             let step : Stepped m linked t dev (solo s a ns) f (solo s' a ns) g = step_says m linked t dev does s a ns f whole g at in
             let fs : List Signal = answers (back (solo s' a ns) y) qs in
-            let said : answers (solo s a ns) (made_of f Pass y ∷ qs) ≡ g ∷ fs = ap answers_of (run.step_all m linked t dev does due noted Busy Done Off Outs laws (solo s a ns) (solo s' a ns) f g y qs step) in
+            let said : answers (solo s a ns) (made_of f Pass y ∷ qs) ≡ g ∷ fs = ap answers_of (run.step_all m linked t dev does due noted Busy Done Off Outs laws (solo s a ns)
+            (solo s' a ns) f g y qs step) in
             shown_step (solo s a ns) (solo s a ks) (solo s' a ns) (solo s' a ks) c f g y qs refl step (step_says m linked t dev does s a ks f whole g at)
             (sames_back qs same y c i f g s' (cut_up U (before_frames (spelled g) [])) given a ns ks more o h (subst (λ z. 2 ≤ z) (sym (most_stays i f s U given p)) most) ok
             (aligned_more i g s' U given a ks (fs ++ more) h (subst (λ z. Aligned given U a ks (z ++ more)) said l))
@@ -434,10 +445,12 @@ module _ {L F : Type 0} (m : Machine L) (linked : L → Bool) (t : FarTable F) (
         go (hands x at none h) = handed qs same y c i f s U given a ns ks more o p most ok fit l k x at none h
     sames_turn qs same Damage y c i f s U given a ns ks more o p most ok fit l k =
         (shown_missed (solo s a ns) (solo s a ks) c f y qs refl
-        (sames_on qs same (carrying.noted (Waits i f) (Got heards.Silent)) (noted c (Got heards.Silent)) s U given a ns ks more (laws.goes c i f o (Got heards.Silent)) (unheard i f s U [] given p) most ok l k)).0
+        (sames_on qs same (carrying.noted (Waits i f) (Got heards.Silent)) (noted c (Got heards.Silent)) s U given a ns ks more (laws.goes c i f o (Got heards.Silent))
+        (unheard i f s U [] given p) most ok l k)).0
     sames_turn qs same Lose y c i f s U given a ns ks more o p most ok fit l k =
         (shown_missed (solo s a ns) (solo s a ks) c f y qs refl
-        (sames_on qs same (carrying.noted (Waits i f) (Got heards.Silent)) (noted c (Got heards.Silent)) s U given a ns ks more (laws.goes c i f o (Got heards.Silent)) (unheard i f s U [] given p) most ok l k)).1
+        (sames_on qs same (carrying.noted (Waits i f) (Got heards.Silent)) (noted c (Got heards.Silent)) s U given a ns ks more (laws.goes c i f o (Got heards.Silent))
+        (unheard i f s U [] given p) most ok l k)).1
     sames_turn qs same Break y c i f s U given a ns ks more o p most ok fit l k =
         shown_broken (solo s a ns) (solo s a ks) c f y qs refl
         (shown_off qs (far_dark m linked t (solo s a ns)) (far_dark m linked t (solo s a ks)) (noted c Lost) (laws.goes c i f o Lost) k

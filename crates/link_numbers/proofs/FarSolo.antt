@@ -90,9 +90,11 @@ module _ {L F : Type 0} (m : Machine L) (linked : L → Bool) (t : FarTable F) (
         let k = does.delivers s f p r whole e in
         let s' : TargetState = replied (target_table s f).state r in
         let b : F = t.left a p.items (first_number ns) in
-        let by_reply : List ℕ → AllMet L F = λ x. met_as (stepped_by m (dev s) f (Some x)) (by_link t (linked (stepped_by m (dev s) f (Some x))) (Some b)) (answered_by m (dev s) f (Some x)) (later_numbers ns) in
+        let by_reply : List ℕ → AllMet L F = λ x. met_as (stepped_by m (dev s) f (Some x)) (by_link t (linked (stepped_by m (dev s) f (Some x))) (Some b)) (answered_by m (dev s) f (Some x))
+        (later_numbers ns) in
         met_step (here s a ns) (here s' b (later_numbers ns)) f (air_frame (reply_frame (target_table s f).state r)) refl
-        (ap met_by (does.hands s f whole ∙ ap target_use e) ∙ ap by_reply (sym is) ∙ met_now (stepped_by m (dev s) f (Some r)) s' b (answered_by m (dev s) f (Some r)) (air_frame (reply_frame (target_table s f).state r)) (later_numbers ns) k.1 k.0)
+        (ap met_by (does.hands s f whole ∙ ap target_use e) ∙ ap by_reply (sym is)
+        ∙ met_now (stepped_by m (dev s) f (Some r)) s' b (answered_by m (dev s) f (Some r)) (air_frame (reply_frame (target_table s f).state r)) (later_numbers ns) k.1 k.0)
 
   -- the turn of a request that passes
   abbrev pub passing : Signal → Fate → Made

@@ -52,7 +52,8 @@ module _ {L F : Type 0} (m : Machine L) (linked : L → Bool) (t : FarTable F) (
   }
 
   -- nothing is due at its end
-  tail : (d : C) (j : InitState) (qs : List Made) (s : TargetState) (a : F) (ns ks : List ℕ) → DoneAt d j → InStep j s → DuesFit m linked t walk_due_at (walk_noted g) (Outs g) (here m linked t dev s a ns) d qs
+  tail : (d : C) (j : InitState) (qs : List Made) (s : TargetState) (a : F) (ns ks : List ℕ) → DoneAt d j → InStep j s
+      → DuesFit m linked t walk_due_at (walk_noted g) (Outs g) (here m linked t dev s a ns) d qs
       → Shown m linked t walk_due_at (walk_noted g) (HasCome g) (here m linked t dev s a ns) (here m linked t dev s a ks) d qs
   tail d j [] s a ns ks done step k =
       shown_none m linked t walk_due_at (walk_noted g) (HasCome g) (here m linked t dev s a ns) (here m linked t dev s a ks) d [] refl (same_dark m linked t dev does s a ns ks) (λ e. refl)
@@ -82,5 +83,6 @@ module _ {L F : Type 0} (m : Machine L) (linked : L → Bool) (t : FarTable F) (
         (λ c j f b e. busy_has_more g c j f b e) (λ c o e. off_has_more g c o e) (IsWholeWalk g) (λ c f w e. walk_asks g c f w e) (λ c n w. walk_whole g c n w)
         (λ c e. walk_never g c e) tail x around i s a ns step most ok (walk_at g from i) [] (walk_starts g from i) (at_whole g from i) (answers_of more) ks es (walk_due g from i)
         (λ hs. ap walk_due_at (walk_all g (walk_at g from i) hs)) turns each fit
-          (λ before f y rest e. subst (Outs g) (walk_all g (walk_at g from i) (receptions before)) (outs before f y rest e)) (ap (λ fs. numbers (cut_up (begins i.core.number) (pieces_of fs))) (answers_append es more)) in
+        (λ before f y rest e. subst (Outs g) (walk_all g (walk_at g from i) (receptions before)) (outs before f y rest e)) (ap (λ fs. numbers (cut_up (begins i.core.number) (pieces_of fs)))
+        (answers_append es more)) in
         record { turns = k.turns; alike = k.alike; done = λ e. k.done (subst (HasCome g) (walk_all g (walk_at g from i) (receptions es)) e) }
