@@ -21,7 +21,6 @@ pub mod Growing
 pub mod SameSo
 pub mod Begun
 pub mod Giving
-pub mod Showing
 pub mod FarCourse
 pub mod FarAlone
 pub mod FarShows
