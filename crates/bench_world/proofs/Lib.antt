@@ -128,10 +128,12 @@ pub mod SizedInitiator
 pub mod SizedCalls
 pub mod SizedDevices
 pub mod SizedStates
+pub mod FarDevices
 pub mod ShowingTurns
 pub mod ShowingSplits
 pub mod ShowingStep
 pub mod ShowingBegins
 pub mod ShowingOwn
+pub mod ShowingFar
 pub mod ShowingLink
 pub mod ShowingSteps
