@@ -51,10 +51,10 @@ module _ {W : Type 0} (m : AirModel W) where
   turns_first w (Ask f x y ∷ ks) = turn_first m w f x y (turns_of (replay m w (turn_events m w f x y)) ks)
 
   -- the events of a turn, by the fates that are first
-  abbrev fated : List Fate → W → Signal → List Event
+  abbrev pub fated : List Fate → W → Signal → List Event
   fated q w f = turn_events m w f (first_fate q) (first_fate (later_fates q))
 
-  turn_fated : (q : List Fate) (w : W) (f : Signal) (x y : Fate) (t : List Event) → FatesFrom q (turn_events m w f x y ++ t)
+  pub turn_fated : (q : List Fate) (w : W) (f : Signal) (x y : Fate) (t : List Event) → FatesFrom q (turn_events m w f x y ++ t)
       → (turn_events m w f x y ≡ fated q w f) × FatesFrom (queue_after q (turn_events m w f x y)) t
   turn_fated q w f Pass y t p =
       let back = joint_fated (later_fates q) (m.joint w f) y t p.1 in
