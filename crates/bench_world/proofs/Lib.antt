@@ -137,3 +137,9 @@ pub mod ShowingOwn
 pub mod ShowingFar
 pub mod ShowingLink
 pub mod ShowingSteps
+pub mod ShowingWalk
+pub mod ShowingPayless
+pub mod ShowingAtr
+pub mod ShowingSelected
+pub mod ShowingCourse
+pub mod ShowingForge

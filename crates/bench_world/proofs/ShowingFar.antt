@@ -44,12 +44,12 @@ shown_there (d ∷ ds) [] place a linked e = absurd cc
 shown_there (d ∷ ds) (o ∷ os) zero a linked e = ap (λ v. by_link peer_ends v o) linked ∙ e
 shown_there (d ∷ ds) (o ∷ os) (suc place) a linked e = shown_there ds os place a linked e
 
-all_at : (P : Option FarEnd → Type 0) (os : List (Option FarEnd)) (place : ℕ) (a : FarEnd) → AllByRecursion P os → get_or os place None ≡ Some a → P (Some a)
+pub all_at : (P : Option FarEnd → Type 0) (os : List (Option FarEnd)) (place : ℕ) (a : FarEnd) → AllByRecursion P os → get_or os place None ≡ Some a → P (Some a)
 all_at P [] place a all e = absurd cc
 all_at P (o ∷ os) zero a all e = subst P e all.0
 all_at P (o ∷ os) (suc place) a all e = all_at P os place a all.1 e
 
-all_split : (P : Device → Type 0) (before : List Device) (d : Device) (behind : List Device) → AllByRecursion P (before ++ d ∷ behind) → P d
+pub all_split : (P : Device → Type 0) (before : List Device) (d : Device) (behind : List Device) → AllByRecursion P (before ++ d ∷ behind) → P d
 all_split P [] d behind all = all.0
 all_split P (x ∷ before) d behind all = all_split P before d behind all.1
 
@@ -67,7 +67,7 @@ fits_at Break f w h = tt
 later_short : (w : WholeWorld) (e : Event) (es : List Event) → FarShort w (e ∷ es) → FarShort (far_happens devices device_linked peer_ends w e) es
 later_short w e es h before f x rest is = h (e ∷ before) f x rest (ap (λ t. e ∷ t) is)
 
-replies_fit : (es : List Event) (w : WholeWorld) → FarShort w es → RepliesFit devices device_linked peer_ends w es
+pub replies_fit : (es : List Event) (w : WholeWorld) → FarShort w es → RepliesFit devices device_linked peer_ends w es
 replies_fit [] w h = tt
 replies_fit (Reset ∷ es) w h = replies_fit es (far_happens devices device_linked peer_ends w Reset) (later_short w Reset es h)
 replies_fit (Request f x ∷ es) w h =

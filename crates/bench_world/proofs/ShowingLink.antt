@@ -61,7 +61,7 @@ changes_none s Unlink asked e = refl
 own_front : (asked : LinkAsking) (l : OpenLink) (own : List ℕ) (a b : List Event) → OwnShort asked l own (a ++ b) → OwnShort asked l own a
 own_front asked l own a b h before f x rest is = h before f x (rest ++ b) (ap (λ t. t ++ b) is ∙ append_assoc before (Request f x ∷ rest) b)
 
-far_front : (w : WholeWorld) (a b : List Event) → FarShort w (a ++ b) → FarShort w a
+pub far_front : (w : WholeWorld) (a b : List Event) → FarShort w (a ++ b) → FarShort w a
 far_front w a b h before f x rest is = h before f x (rest ++ b) (ap (λ t. t ++ b) is ∙ append_assoc before (Request f x ∷ rest) b)
 
 module _ (s : State) (c : Command) (asked : LinkAsking) (on : asked_on_link c ≡ Some asked) where
