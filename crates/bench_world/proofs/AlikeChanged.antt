@@ -1,6 +1,6 @@
 -- Two states in which no link is open, and whose worlds the dark leaves the same: a command is accepted in both or in none, asks the
 -- same of its tag, and what it changes itself, and its end, leaves both so.
-use Rattle.std.proofs.Common.{◌≡◌, ◌⊎◌, inl, inr, ℕ, ◌*◌, List, [], ◌∷◌, map, Bool, true, false, if◌then◌else◌, Option, Some, None, IsSome, refl, sym, ◌∙◌, ap, subst}
+use Rattle.std.proofs.Common.{◌≡◌, ℕ, ◌*◌, List, [], Bool, true, false, Option, Some, None, refl, sym, ◌∙◌, ap}
 use Rattle.std.specs.Prelude.{option_map}
 use Rattle.nfc_base.specs.Signal.{Signal}
 use Rattle.nfc_base.specs.declared.event.Event.{Event}
@@ -9,14 +9,14 @@ use Rattle.dep_link.specs.Target.{TargetState}
 use Rattle.t4t_tag.specs.Store.{file_size}
 use Rattle.link_calls.specs.Asking.{LinkAsking, Call, Does, Closes}
 use Rattle.bench_script.specs.declared.command.Command.{Command}
-use Rattle.bench_script.specs.declared.command.Command.TheVariants.{Fates, PlaceT2, PlaceT3, PlaceT4, PlaceT5, PlacePeer, Lock, Busy, Offer, Remove, Read, Read3, Write, Write3, Link, Forge, Raw, Put, Get, Lookup, OnPut, OnGet, Puts, Unlink}
+use Rattle.bench_script.specs.declared.command.Command.TheVariants.{Fates, PlaceT2, PlaceT3, PlaceT4, PlaceT5, PlacePeer, Lock, Busy, Offer, Remove, Read, Read3, Write, Write3, Link, Forge, Raw}
 use Rattle.bench_script.specs.declared.command.DeviceId.{DeviceId}
-use Rattle.bench_script.specs.declared.command.DeviceId.TheVariants.{A, V}
+use Rattle.bench_script.specs.declared.command.DeviceId.TheVariants.{A}
 use Rattle.bench_script.specs.DeviceIds.{bytes_of}
 use Rattle.bench_script.specs.Messages.{message_of}
 use Rattle.bench_devices.specs.declared.device.Device.{Device}
 use Rattle.bench_devices.specs.declared.device.Device.TheVariants.{T2, T4, Peer, T5, T3}
-use Rattle.bench_devices.specs.Device.{device_busy, device_darkened, device_locked, device_target, new_t2, new_t3, new_t4, new_t5, new_peer, t2_machine}
+use Rattle.bench_devices.specs.Device.{device_busy, device_darkened, device_locked, device_target, new_t2, new_t3, new_t4, new_t5, new_peer}
 use Rattle.bench_devices.specs.Keeping.{Kept}
 use Rattle.bench_devices.specs.Placed.{device_with}
 use Rattle.bench_devices.proofs.SelectingCards.{carded}
@@ -34,8 +34,8 @@ use Rattle.bench_world.specs.Reading.{ReadAsks}
 use Rattle.bench_world.specs.Threes.{ReadAsks3, WriteAsks3}
 use Rattle.bench_world.specs.World.{FarEnd, WholeWorld}
 use Rattle.bench_world.specs.Writing.{WriteAsks}
-use Rattle.bench_world.proofs.Shapes.{Shape, shape, accepts_too}
-use Rattle.bench_world.proofs.AlikeDevices.{SameDevice, SameDevices, busy_dark, if_same, left_two, locked_dark, same_changed, same_each, same_kept, same_removed, same_with}
+use Rattle.bench_world.proofs.Shapes.{shape, accepts_too}
+use Rattle.bench_world.proofs.AlikeDevices.{SameDevice, busy_dark, if_same, left_two, locked_dark, same_changed, same_each, same_kept, same_removed, same_with}
 use Rattle.bench_world.proofs.AlikeEnds.{SameEnds, same_accepted, same_ends_offered, same_ends_without, same_placed, same_range, same_removal}
 use Rattle.bench_world.proofs.AlikeTells.{reads3_same, reads_same, writes3_same, writes_same}
 use Rattle.bench_world.proofs.AlikeWorlds.{SameWorld, one_more}

@@ -1,16 +1,16 @@
 -- The law of an answer holds in a state in which no link is open as in any state that is alike.
-use Rattle.std.proofs.Common.{◌≡◌, ◌⊎◌, inl, inr, ℕ, ◌+◌, List, [], ◌∷◌, length, Bool, true, false, Option, Some, None, IsSome, refl, sym, ◌∙◌, ap, subst}
+use Rattle.std.proofs.Common.{◌≡◌, ℕ, ◌+◌, List, [], length, Bool, true, false, Option, Some, None, IsSome, refl, sym, ◌∙◌, ap, subst}
 use Rattle.std.specs.Prelude.{option_map}
 use Rattle.std.specs.List.{AllByRecursion}
 use Rattle.nfc_base.specs.declared.event.Event.{Event}
 use Rattle.nfc_base.specs.declared.event.Fate.{Fate}
-use Rattle.air_core.specs.Conversation.{Over, LightUp, receptions}
+use Rattle.air_core.specs.Conversation.{Over, receptions}
 use Rattle.llcp_link.specs.State.{restarted}
 use Rattle.snep_core.specs.Server.{serving}
 use Rattle.link_calls.specs.Arriving.{Arrives}
 use Rattle.tag_writer.specs.Law.{Ending, WriteLaw}
 use Rattle.bench_script.specs.declared.command.Command.{Command}
-use Rattle.bench_script.specs.declared.command.Command.TheVariants.{Skip, Dump, Inbox, Find, Crowd, Poll3, Read, Read3, Write, Write3, Link, Forge, Raw}
+use Rattle.bench_script.specs.declared.command.Command.TheVariants.{Dump, Inbox, Find, Crowd, Poll3, Read, Read3, Write, Write3, Link, Forge, Raw}
 use Rattle.bench_script.specs.declared.command.DeviceId.{DeviceId}
 use Rattle.bench_script.specs.declared.command.DeviceId.TheVariants.{A, V}
 use Rattle.bench_script.specs.declared.message.Msg.{Msg}
@@ -20,14 +20,14 @@ use Rattle.bench_devices.specs.declared.device.Device.{Device}
 use Rattle.bench_devices.specs.Device.{device_id, device_darkened, device_store, how_of, is_tag, kind_of, memory_in, size_of}
 use Rattle.bench_devices.specs.Keeping.{AllKeepBut, images_of}
 use Rattle.bench_devices.specs.Kinds.{IfRead}
-use Rattle.bench_devices.specs.Placed.{device_with, OfPlaced, IfPlaced}
+use Rattle.bench_devices.specs.Placed.{device_with}
 use Rattle.bench_devices.specs.Threes.{Write3Law}
 use Rattle.bench_world.specs.declared.entry.Answer.{Answer}
 use Rattle.bench_world.specs.declared.entry.Answer.TheVariants as answers
 use Rattle.bench_world.specs.Arriving.{ArrivesWithin, BeginsAt}
 use Rattle.bench_world.specs.Calls.{IfLinked, OfEnd, with_accepted}
 use Rattle.bench_world.specs.Forging.{forged_general, opens_link}
-use Rattle.bench_world.specs.Legal.{AnswerLaw, ForgeLeaves, Given, IsPeerPlaced, LeavesStable, State, Stores3Law, StoresLaw, changed, due, link_after, world_after}
+use Rattle.bench_world.specs.Legal.{AnswerLaw, ForgeLeaves, Given, LeavesStable, Stores3Law, StoresLaw, changed, due, link_after, world_after}
 use Rattle.bench_world.specs.Linking.{own_general}
 use Rattle.bench_world.specs.Links.{OpenLink, end_numbered}
 use Rattle.bench_world.specs.Peers.{Peers}

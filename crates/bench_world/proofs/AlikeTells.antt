@@ -1,45 +1,16 @@
 -- What a command asks of its tag, and what its answer tells of the devices that are placed, is the same by devices that the dark leaves the same.
-use Rattle.std.proofs.Common.{◌≡◌, ◌⊎◌, inl, inr, ℕ, List, Bool, Option, Result, Ok, Err, refl, sym, ◌∙◌, ap, subst}
+use Rattle.std.proofs.Common.{◌≡◌, ◌⊎◌, inl, inr, ℕ, List, Result, Ok, Err, ◌∙◌, ap, subst}
+use Rattle.std.specs.List.{filter_map}
+use Rattle.std.specs.Prelude.{◌≤◌, [], Some}
 use Rattle.nfc_base.specs.Signal.{Signal}
 use Rattle.nfc_base.specs.declared.event.Event.{Event}
-use Rattle.nfc_base.specs.declared.tag_link.AskFault.{AskFault}
-use Rattle.air_core.specs.Conversation.{Note}
+use Rattle.nfc_base.specs.Trace.{turns}
+use Rattle.nfc_base.specs.TagLinks.{TagState, TagStep, plain_state}
 use Rattle.nfca_poll.specs.declared.fault.Picked.{Picked}
 use Rattle.nfca_poll.specs.declared.fault.PollFault.{PollFault}
 use Rattle.nfca_poll.specs.declared.fault.PollFault.TheVariants as faults
 use Rattle.nfca_poll.specs.declared.inventory.Vcrowd.{Vcrowd}
 use Rattle.nfca_poll.specs.RoundEnds.{IsFrontOf}
-use Rattle.nfca_poll.specs.Crowd.{crowd}
-use Rattle.std.specs.List.{filter_map, AllByRecursion}
-use Rattle.bench_script.specs.declared.command.DeviceId.{DeviceId}
-use Rattle.bench_script.specs.declared.command.DeviceId.TheVariants.{A, V}
-use Rattle.bench_script.specs.DeviceIds.{bytes_of}
-use Rattle.bench_devices.specs.declared.device.Device.{Device}
-use Rattle.bench_devices.specs.declared.polling.SeenKind.{SeenKind}
-use Rattle.bench_devices.specs.declared.polling.SeenKind.TheVariants as seen
-use Rattle.bench_devices.specs.Answering.{AreOthers, FindEnds, FindTells, HasPollCause, InventoryEnds, IsAbsent, IsNamed}
-use Rattle.bench_devices.specs.Crowded.{card_if, v_if, crowd_of, others_of, inventory_of}
-use Rattle.bench_devices.specs.Device.{device_commands, device_id}
-use Rattle.bench_devices.specs.Keeping.{Kept, kept}
-use Rattle.bench_devices.specs.Kinds.{IfRead}
-use Rattle.bench_devices.specs.Placed.{device_with, OfPlaced}
-use Rattle.bench_devices.specs.Reading.{AsksOf}
-use Rattle.bench_devices.specs.Sensing.{HasSensed, HasSought, IsNoThree, IsThree, found_if, has_three, sensed}
-use Rattle.bench_devices.specs.Threes.{ReadAsksThree, WriteAsksThree}
-use Rattle.bench_world.specs.declared.entry.Answer.{Answer}
-use Rattle.bench_world.specs.declared.entry.Answer.TheVariants as answers
-use Rattle.bench_world.specs.Answering.{TagEnds, TagTells, TagsTell, TellsFault, TellsFound, ThreesTell}
-use Rattle.bench_world.specs.Forging.{ForgeTells}
-use Rattle.bench_world.specs.Linking.{LinkTells}
-use Rattle.bench_world.specs.Rawing.{RawTells}
-use Rattle.bench_world.specs.Reading.{ReadAsks, Tells, TellsOf}
-use Rattle.bench_world.specs.Threes.{IfThree, ReadAsks3, TellsForm3, TellsEnd3, TellsRead3, TellsWrite3, ThreeEnds, ThreeTells, WriteAsks3}
-use Rattle.bench_world.specs.Writing.{TellsWrite, WriteAsks}
-use Rattle.bench_world.proofs.Telling.{tells_as}
-use Rattle.bench_world.proofs.AlikeDevices.{SameDevice, SameDevices, same_kept, same_commands, same_tech, same_crowd, same_vs, same_fs, same_threes, same_with, of_same, each_same}
-use Rattle.std.specs.Prelude.{◌≤◌, [], Some}
-use Rattle.nfc_base.specs.Trace.{turns}
-use Rattle.nfc_base.specs.TagLinks.{TagState, TagStep, plain_state}
 use Rattle.nfca_poll.specs.declared.inventory.Vcrowd.TheVariants.{Nobody}
 use Rattle.nfca_poll.specs.Inventory.{tries, inventory_all}
 use Rattle.nfcv_poll.specs.Tags.{FoundIf}
@@ -48,9 +19,33 @@ use Rattle.t3t_access.specs.declared.polling.Fcrowd.{Fcrowd}
 use Rattle.tag_reader.specs.Asked.{IsAsked}
 use Rattle.tag_writer.specs.Outcome.{IsOutcome}
 use Rattle.tag_writer.specs.WriteAsked.{IsWriteAsked}
+use Rattle.bench_script.specs.declared.command.DeviceId.{DeviceId}
+use Rattle.bench_script.specs.declared.command.DeviceId.TheVariants.{A, V}
+use Rattle.bench_script.specs.DeviceIds.{bytes_of}
+use Rattle.bench_devices.specs.declared.device.Device.{Device}
+use Rattle.bench_devices.specs.declared.polling.SeenKind.{SeenKind}
+use Rattle.bench_devices.specs.declared.polling.SeenKind.TheVariants as seen
+use Rattle.bench_devices.specs.Answering.{FindEnds, FindTells, HasPollCause, InventoryEnds, IsAbsent, IsNamed}
+use Rattle.bench_devices.specs.Crowded.{v_if, crowd_of, others_of, inventory_of}
+use Rattle.bench_devices.specs.Device.{device_commands, device_id}
+use Rattle.bench_devices.specs.Keeping.{Kept, kept}
+use Rattle.bench_devices.specs.Kinds.{IfRead}
+use Rattle.bench_devices.specs.Placed.{device_with, OfPlaced}
+use Rattle.bench_devices.specs.Sensing.{HasSensed, HasSought, IsThree, found_if, has_three, sensed}
+use Rattle.bench_devices.specs.Threes.{ReadAsksThree, WriteAsksThree}
 use Rattle.bench_devices.specs.Noise.{noisy_tries, MissedRound}
 use Rattle.bench_devices.specs.Phases.{WriteEnd}
-use Rattle.bench_world.specs.Answering.{written_by}
+use Rattle.bench_world.specs.declared.entry.Answer.{Answer}
+use Rattle.bench_world.specs.declared.entry.Answer.TheVariants as answers
+use Rattle.bench_world.specs.Answering.{TagEnds, TagTells, TagsTell, TellsFault, TellsFound, ThreesTell, written_by}
+use Rattle.bench_world.specs.Forging.{ForgeTells}
+use Rattle.bench_world.specs.Linking.{LinkTells}
+use Rattle.bench_world.specs.Rawing.{RawTells}
+use Rattle.bench_world.specs.Reading.{ReadAsks, Tells, TellsOf}
+use Rattle.bench_world.specs.Threes.{IfThree, ReadAsks3, TellsForm3, TellsEnd3, TellsRead3, TellsWrite3, ThreeEnds, ThreeTells, WriteAsks3}
+use Rattle.bench_world.specs.Writing.{TellsWrite, WriteAsks}
+use Rattle.bench_world.proofs.Telling.{tells_as}
+use Rattle.bench_world.proofs.AlikeDevices.{SameDevice, SameDevices, same_kept, same_commands, same_tech, same_crowd, same_vs, same_fs, same_threes, same_with, of_same, each_same}
 
 -- What is asked and told of one device is so of another that the dark leaves the same.
 module _ (d e : Device) (same : SameDevice d e) where

@@ -4,19 +4,17 @@ use Rattle.std.specs.Prelude.{option_map}
 use Rattle.std.proofs.lemmas.List.{map-append}
 use Rattle.nfc_base.specs.declared.event.Event.{Event}
 use Rattle.nfc_base.specs.declared.event.Event.TheVariants.{Reset, Request, Answer, Clash}
-use Rattle.nfc_base.specs.declared.event.Fate.{Fate}
 use Rattle.nfc_base.specs.Signal.{Signal}
 use Rattle.nfc_base.specs.Trace.{back_of}
 use Rattle.nfc_base.specs.Trace as backs
 use Rattle.air_core.specs.World.{reset_by}
-use Rattle.air_core.specs.Conversation.{Note, Next, LightUp, Asks, AreTurns, EachDue, Move, Light, Ask, replay, trace_of, turn_events}
+use Rattle.air_core.specs.Conversation.{Note, Next, Asks, AreTurns, EachDue, Move, Light, Ask, replay, trace_of, turn_events}
 use Rattle.air_core.proofs.Following.{trace_first}
-use Rattle.far_air.specs.FarEnds.{rests}
 use Rattle.far_air.specs.FarWorld.{far_dark, far_reset, with_numbers}
 use Rattle.peer_air.specs.PeerFars.{peer_ends}
 use Rattle.bench_devices.specs.declared.device.Device.{Device}
-use Rattle.bench_devices.specs.Device.{BenchWorld, StablePart, air, devices, device_darkened, device_id, device_linked, device_store, device_woken, stable_of}
-use Rattle.bench_devices.specs.Keeping.{Kept, kept, held_by, images_of}
+use Rattle.bench_devices.specs.Device.{StablePart, devices, device_darkened, device_linked, device_woken, stable_of}
+use Rattle.bench_devices.specs.Keeping.{Kept, held_by, images_of}
 use Rattle.bench_devices.specs.Placed.{device_with}
 use Rattle.bench_devices.proofs.SelectingKept.{kept_dark}
 use Rattle.bench_world.specs.World.{FarEnd, WholeWorld, Stable, bench_air, stable, with_one_more}

@@ -38,7 +38,6 @@ use Rattle.snep_core.specs.Talk.{client_sap, sap_of_slot}
 use Rattle.bench_script.specs.declared.command.DeviceId.TheVariants.{A}
 use Rattle.link_calls.specs.Asking.{LinkAsking, Does, Closes, Finding, Getting, put_from, Putting}
 use Rattle.bench_world.specs.Calls.{IsTold, told_asked}
-use Rattle.bench_world.specs.Links.{OpenLink}
 use Rattle.bench_world.specs.Linking.{own_general}
 use Rattle.bench_world.specs.World.{bench_air}
 use Rattle.bench_world.specs.Journal.{NumberedLine, AreEntriesOf, asking_lines, LeadsTo}

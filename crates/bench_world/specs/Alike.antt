@@ -1,6 +1,6 @@
 -- What doesn't show decides nothing later: states that differ only in what the dark takes, while no link is open, have
 -- the same legal steps, and what happened in a step decides what it answers.
-use Rattle.std.specs.Prelude.{◌≡◌, List, Option, Some, None, IsSome}
+use Rattle.std.specs.Prelude.{◌≡◌, List, Some, None, IsSome}
 use Rattle.nfc_base.specs.declared.event.Event.{Event}
 use Rattle.far_air.specs.FarWorld.{far_dark}
 use Rattle.peer_air.specs.PeerFars.{peer_ends}
