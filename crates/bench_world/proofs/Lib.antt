@@ -120,3 +120,11 @@ pub mod RawStories
 pub mod RawStores
 pub mod CompleteRaws
 pub mod RawSends
+pub mod AlikeDevices
+pub mod AlikeEnds
+pub mod AlikeWorlds
+pub mod AlikeTells
+pub mod AlikeChanged
+pub mod AlikeFronts
+pub mod AlikeLaws
+pub mod AlikeStates
