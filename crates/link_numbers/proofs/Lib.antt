@@ -13,3 +13,4 @@ pub mod CallTurns
 pub mod Own
 pub mod Alike
 pub mod OwnShown
+pub mod Resting

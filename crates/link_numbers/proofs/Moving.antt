@@ -1,6 +1,6 @@
 -- What an initiator does at something heard while it carries a payload: where pieces follow the one that is under way it depends on no byte
 -- of the payload; where none does, the payload is whole.
-use Rattle.std.proofs.Common.{◌≡◌, ◌<◌, ◌≤◌, ℕ, ◌+◌, ◌==◌, nat_lt, Bool, true, false, not, List, [], ◌∷◌, ◌++◌, length, drop, Option, Some, None, if◌then◌else◌, refl, sym, ap, ◌∙◌}
+use Rattle.std.proofs.Common.{◌≡◌, ◌≤◌, ℕ, ◌+◌, ◌==◌, nat_lt, Bool, true, false, List, [], ◌++◌, drop, Option, Some, None, if◌then◌else◌, refl, ap, ◌∙◌}
 use Rattle.std.proofs.lemmas.Bool.{ltb-true, ltb-false}
 use Rattle.std.specs.Prelude.{IfSome}
 use Rattle.nfc_base.specs.Signal.{Signal}
@@ -14,7 +14,7 @@ use Rattle.dep_pdu.specs.declared.frame.DepFrame.TheVariants.{AtrReq, AtrRes, In
 use Rattle.dep_link.specs.declared.initiator.Phase.{Phase}
 use Rattle.dep_link.specs.declared.initiator.Phase.TheVariants.{Asked, Nacked, Attending, Free, EndedSixBad, EndedProtocol}
 use Rattle.dep_link.specs.Frames.{air_frame, spelled}
-use Rattle.dep_link.specs.Initiator.{Core, InitState, InitMove, Asks, Gives, GivesUp, Refuses, acked, answered, attended, attending, bad, brought, damaged, extended, framed_next, heard_next, is_refused, longest_extension, may_extend, more_follows, most_bads, most_extensions, received, refuses, request, sends, sent, silent, turned, waited, whole}
+use Rattle.dep_link.specs.Initiator.{Core, InitState, InitMove, GivesUp, acked, attending, bad, brought, damaged, extended, framed_next, is_refused, longest_extension, may_extend, more_follows, most_bads, most_extensions, received, refuses, sends, sent, silent, turned, waited, whole}
 use Rattle.dep_link.specs.Asking.{Standing, Waits, Rests, Broken, Astray, goes_by, noted}
 
 -- the frame that is due where an initiator stands so
@@ -223,7 +223,8 @@ may_times c times e = go c.drawing (more_follows c) (nat_lt 0 times) (nat_lt lon
 
 -- What is heard where no piece follows: it waits for the reply again, or asks for the next piece of it; the reply came; or the exchange ends.
 pub data Behind (i : InitState) (s : Standing) : Type 0 where
-  waits : (j : InitState) → s ≡ Waits j (frame_due j) → j.core.number ≡ i.core.number → j.core.most ≡ i.core.most → more_follows j.core ≡ false → InTimes j.core.extension → Behind i s
+  waits : (j : InitState) → s ≡ Waits j (frame_due j) → j.core.number ≡ i.core.number → j.core.most ≡ i.core.most
+      → more_follows j.core ≡ false → InTimes j.core.extension → Behind i s
   draws : (j : InitState) (xs : List ℕ) → s ≡ Waits j (frame_due j) → j.core ≡ turned i.core [] true xs → j.phase ≡ Asked → Behind i s
   rests : (j : InitState) (reply : List ℕ) → s ≡ Rests j reply → j.core ≡ turned i.core [] false [] → Behind i s
   fails : (cause : EndCause) → s ≡ Broken cause → Behind i s

@@ -1,21 +1,19 @@
 -- The numbers that a call's own frames show are as good as the true ones, whatever stands behind them: the same is due by them, and what the call
 -- comes to is the same. And so they are for a closing.
-use Rattle.std.proofs.Common.{◌≡◌, ◌⊎◌, inl, inr, ℕ, List, [], ◌∷◌, ◌++◌, append_assoc, append-nil, refl, sym, ap, subst, ◌∙◌}
+use Rattle.std.proofs.Common.{◌≡◌, ◌⊎◌, inl, inr, ℕ, List, [], ◌∷◌, ◌++◌, append_assoc, refl, sym, ap, subst, ◌∙◌}
 use Rattle.nfc_base.specs.Signal.{Signal}
 use Rattle.nfc_base.specs.declared.event.Event.{Event}
-use Rattle.nfc_base.specs.declared.carrier.EndCause.{EndCause}
-use Rattle.air_core.specs.Conversation.{Note, Lit, Got, Lost, Next, LightUp, Over, Asks, IsDemand, EachDue}
+use Rattle.air_core.specs.Conversation.{Note, Next, LightUp, Over, Asks, EachDue}
 use Rattle.air_core.specs.Turning.{due_weaker}
 use Rattle.dep_link.specs.Initiator.{InitState}
 use Rattle.dep_link.specs.Asking.{Standing, Waits, Rests, Broken, Astray, due_at}
-use Rattle.dep_link.specs.Releasing.{rls_frame}
-use Rattle.snep_core.specs.Talk.{Ends, GivesUp, Goes, Step}
+use Rattle.snep_core.specs.Talk.{Step}
 use Rattle.link_calls.specs.Walk.{Carries, Comes, BrokenBy, Strays, walk_due_at, walk_noted}
 use Rattle.link_calls.specs.CallDue.{CallStanding, by_client, call_at, call_due, call_on, call_stand}
 use Rattle.link_calls.specs.ClosingDue.{Calls, ClosingStanding, Released, Releasing, closing_at, closing_due, closing_due_at, closing_noted, closing_on, closing_stand}
 use Rattle.link_numbers.specs.Shown.{numbers, own_shown, requests_of}
 use Rattle.link_numbers.proofs.Cuts.{at, cuts}
-use Rattle.link_numbers.proofs.Turns.{Along, Turn, asked_in, heard_in, on}
+use Rattle.link_numbers.proofs.Turns.{Along, Turn, asked_in, heard_in}
 use Rattle.link_numbers.proofs.Alike.{EndAlike, GoAlike, asked_more, both_go, both_over, end_self, go_alike, past}
 use Rattle.link_numbers.proofs.CallTurns.{Alike, BothEnd, CallAlong, call_past}
 use Rattle.link_numbers.proofs.CallTurns as ends
@@ -62,7 +60,8 @@ abbrev ClosingGoes : (List Note → ClosingStanding) → (List Note → ClosingS
 ClosingGoes first second turned more = GoAlike closing_noted closing_due_at first second turned more
 
 -- what stands pointwise the same goes alike
-module _ {C : Type 0} (moves : C → Note → C) (due : C → Next) (first second third fourth : List Note → C) (one : (ns : List Note) → third ns ≡ first ns) (two : (ns : List Note) → fourth ns ≡ second ns) where
+module _ {C : Type 0} (moves : C → Note → C) (due : C → Next) (first second third fourth : List Note → C)
+    (one : (ns : List Note) → third ns ≡ first ns) (two : (ns : List Note) → fourth ns ≡ second ns) where
   each_same : (es : List Event) → EachDue (λ ns. due (third ns)) [] es → EachDue (λ ns. due (first ns)) [] es
   each_same es each = due_weaker (λ ns. due (first ns)) (λ ns. due (third ns)) (λ ns n e demand. ap due (sym (one ns)) ∙ e) [] es each
 
@@ -114,7 +113,8 @@ closing_joined [] later d call rest = (rest, refl)
 closing_joined (t ∷ calls) later d call rest =
     let more = closing_joined calls later (walk_noted by_client d t.heard) call.1 rest in
     let is : closing_at d ≡ Calls d = closing_going d t.request call.0 in
-    subst (λ (q : ClosingStanding). ClosingAlong q (t ∷ calls ++ later) × (closing_past q (heard_in (t ∷ calls ++ later)) ≡ closing_past (closing_at (call_past d (heard_in (t ∷ calls)))) (heard_in later)))
+    subst (λ (q : ClosingStanding). ClosingAlong q (t ∷ calls ++ later)
+    × (closing_past q (heard_in (t ∷ calls ++ later)) ≡ closing_past (closing_at (call_past d (heard_in (t ∷ calls)))) (heard_in later)))
     (sym is) ((call.0, more.0), more.1)
 
 abbrev ClosingEnd : ClosingStanding → ClosingStanding → Type 0
@@ -158,8 +158,8 @@ module _ (ns : List ℕ) (from : Step) (i : InitState) (rested : Rested i.core) 
       go_same (walk_noted by_client) walk_due_at (call_past true_call) (call_past shown_call) (call_stand ns from i) (call_stand shown from i)
       (λ ms. call_is true_call ms) (λ ms. call_is shown_call ms) turned more
       (go_alike (walk_noted by_client) walk_due_at call_dark true_call shown_call turned more call_law
-          (each_same (walk_noted by_client) walk_due_at (call_past true_call) (call_past shown_call) (call_stand ns from i) (call_stand shown from i)
-              (λ ms. call_is true_call ms) (λ ms. call_is shown_call ms) turned each))
+      (each_same (walk_noted by_client) walk_due_at (call_past true_call) (call_past shown_call) (call_stand ns from i) (call_stand shown from i)
+      (λ ms. call_is true_call ms) (λ ms. call_is shown_call ms) turned each))
 
   -- a closing
   split_law : (ts : List Turn) (tail : List Signal) → asked_in ts ++ tail ≡ requests_of (turned ++ more) → Split true_call ts
@@ -183,5 +183,5 @@ module _ (ns : List ℕ) (from : Step) (i : InitState) (rested : Rested i.core) 
       go_same closing_noted closing_due_at (closing_past (closing_at true_call)) (closing_past (closing_at shown_call)) (closing_stand ns from i) (closing_stand shown from i)
       (λ ms. closing_is (closing_at true_call) ms) (λ ms. closing_is (closing_at shown_call) ms) turned more
       (go_alike closing_noted closing_due_at closing_dark (closing_at true_call) (closing_at shown_call) turned more closing_law
-          (each_same closing_noted closing_due_at (closing_past (closing_at true_call)) (closing_past (closing_at shown_call)) (closing_stand ns from i) (closing_stand shown from i)
-              (λ ms. closing_is (closing_at true_call) ms) (λ ms. closing_is (closing_at shown_call) ms) turned each))
+      (each_same closing_noted closing_due_at (closing_past (closing_at true_call)) (closing_past (closing_at shown_call)) (closing_stand ns from i) (closing_stand shown from i)
+      (λ ms. closing_is (closing_at true_call) ms) (λ ms. closing_is (closing_at shown_call) ms) turned each))

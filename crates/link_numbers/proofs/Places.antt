@@ -8,8 +8,7 @@ use Rattle.nfc_base.specs.Signal.{Signal}
 use Rattle.nfc_base.specs.declared.carrier.EndCause.{EndCause}
 use Rattle.air_core.specs.Conversation.{Note}
 use Rattle.dep_pdu.specs.Spelling.{IsDepFrame}
-use Rattle.dep_pdu.specs.declared.frame.DepFrame.{DepFrame}
-use Rattle.dep_pdu.specs.declared.frame.DepFrame.TheVariants.{Ack, Extend}
+use Rattle.dep_pdu.specs.declared.frame.DepFrame.TheVariants.{Ack}
 use Rattle.dep_link.specs.declared.initiator.Phase.{Phase}
 use Rattle.dep_link.specs.declared.initiator.Phase.TheVariants.{Asked, Nacked, Attending, Free, EndedSixBad, EndedProtocol}
 use Rattle.dep_link.specs.Frames.{after, information, piece, spelled}
