@@ -53,10 +53,10 @@ closing_dark (Calls c) e = call_dark c e
 closing_dark (Releasing to) e = cc
 closing_dark (Released to) e = cc
 
-abbrev CallGoes : (List Note → CallStanding) → (List Note → CallStanding) → List Event → List Event → Type 0
+abbrev pub CallGoes : (List Note → CallStanding) → (List Note → CallStanding) → List Event → List Event → Type 0
 CallGoes first second turned more = GoAlike (walk_noted by_client) walk_due_at first second turned more
 
-abbrev ClosingGoes : (List Note → ClosingStanding) → (List Note → ClosingStanding) → List Event → List Event → Type 0
+abbrev pub ClosingGoes : (List Note → ClosingStanding) → (List Note → ClosingStanding) → List Event → List Event → Type 0
 ClosingGoes first second turned more = GoAlike closing_noted closing_due_at first second turned more
 
 -- what stands pointwise the same goes alike
@@ -132,7 +132,7 @@ later_alike c d later (ends.both_go f g e k) (inl none) rest =
     (tt, both_go f g (ap closing_due_at (closing_going c f e) ∙ e) (ap closing_due_at (closing_going d g k) ∙ k))
 
 module _ (ns : List ℕ) (from : Step) (i : InitState) (rested : Rested i.core) (within : AtEnd IsWithin from) (turned more : List Event) where
-  abbrev shown : List ℕ
+  abbrev pub shown : List ℕ
   shown = own_shown i.core.number (turned ++ more)
 
   abbrev true_call : CallStanding
