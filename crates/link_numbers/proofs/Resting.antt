@@ -5,7 +5,7 @@ use Rattle.air_core.specs.Conversation.{Note}
 use Rattle.dep_link.specs.Initiator.{Core, InitState, more_follows, turned, waiting}
 use Rattle.dep_link.specs.Asking.{Standing, Waits, Rests, Broken, Astray, noted}
 use Rattle.dep_link.proofs.Standing.{after_small}
-use Rattle.snep_core.specs.Talk.{EndState, Ends, Finds, Gets, GivesUp, Goes, Step, Working, client_sap, replied}
+use Rattle.snep_core.specs.Talk.{EndState, Ends, Finds, Gets, GivesUp, Goes, Step, Working, client_sap, client_saps, closes, leave_from, replied}
 use Rattle.link_calls.specs.Asking.{Call, Finding, Getting, Putting, call_begins}
 use Rattle.link_calls.specs.AtOnce.{puts_at_once}
 use Rattle.link_calls.specs.Walk.{Carries, Comes, BrokenBy, Strays, walk_at, walk_carried, walk_noted}
@@ -63,40 +63,74 @@ fit_noted (Rests i reply) n h = tt
 fit_noted (Broken cause) n h = tt
 fit_noted Astray n h = tt
 
+-- where a call stands, its initiator is fit
 abbrev CallFits : CallStanding → Type 0
-CallFits (Carries w s) = FitAt s × IsWithin w.0.llc
-CallFits (Comes to i) = Rested i.core × AtEnd IsWithin to
+CallFits (Carries w s) = FitAt s
+CallFits (Comes to i) = Rested i.core
 CallFits (BrokenBy cause) = Unit {0}
 CallFits Strays = Unit {0}
 
-starts_fit : (to : Step) (ns : List ℕ) (i : InitState) → Rested i.core → AtEnd IsWithin to → CallFits (walk_at by_client (next_of ns to) i)
-starts_fit (Goes w) ns i r h = (record { number = r.number; some = r.some; fits = r.fits; times = tt }, h)
-starts_fit (Ends jobs l) ns i r h = (r, h)
-starts_fit (GivesUp g) ns i r h = (r, h)
+starts_fit : (to : Step) (ns : List ℕ) (i : InitState) → Rested i.core → CallFits (walk_at by_client (next_of ns to) i)
+starts_fit (Goes w) ns i r = record { number = r.number; some = r.some; fits = r.fits; times = tt }
+starts_fit (Ends jobs l) ns i r = r
+starts_fit (GivesUp g) ns i r = r
 
-carried_fit : (w : Working) (ns : List ℕ) (s : Standing) → FitAt s → IsWithin w.llc → CallFits (walk_carried by_client (w, ns) s)
-carried_fit w ns (Waits i f) fit h = (fit, h)
-carried_fit w ns (Rests i reply) r h = starts_fit (replied (first_number ns) w reply) (later_numbers ns) i r (reply_within (first_number ns) w reply h)
-carried_fit w ns (Broken cause) fit h = tt
-carried_fit w ns Astray fit h = tt
-
-noted_fit : (c : CallStanding) (n : Note) → CallFits c → CallFits (walk_noted by_client c n)
-noted_fit (Carries w s) n h = carried_fit w.0 w.1 (noted s n) (fit_noted s n h.0) h.1
-noted_fit (Comes to i) n h = tt
-noted_fit (BrokenBy cause) n h = tt
-noted_fit Strays n h = tt
+carried_fit : (w : Working) (ns : List ℕ) (s : Standing) → FitAt s → CallFits (walk_carried by_client (w, ns) s)
+carried_fit w ns (Waits i f) fit = fit
+carried_fit w ns (Rests i reply) r = starts_fit (replied (first_number ns) w reply) (later_numbers ns) i r
+carried_fit w ns (Broken cause) fit = tt
+carried_fit w ns Astray fit = tt
 
 call_fits : (c : CallStanding) (ns : List Note) → CallFits c → CallFits (call_on c ns)
 call_fits c [] h = h
-call_fits c (n ∷ ns) h = call_fits (walk_noted by_client c n) ns (noted_fit c n h)
+call_fits c (n ∷ ns) h = call_fits (walk_noted by_client c n) ns (noted_fit c h)
+  where
+    noted_fit : (c : CallStanding) → CallFits c → CallFits (walk_noted by_client c n)
+    noted_fit (Carries w s) h = carried_fit w.0 w.1 (noted s n) (fit_noted s n h)
+    noted_fit (Comes to i) h = tt
+    noted_fit (BrokenBy cause) h = tt
+    noted_fit Strays h = tt
 
--- So the initiator rests behind a call, and the end is within the same bound.
-pub comes_rested : (ns : List ℕ) (from to : Step) (i j : InitState) (notes : List Note) → Rested i.core → AtEnd IsWithin from → call_stand ns from i notes ≡ Comes to j
-    → Rested j.core × AtEnd IsWithin to
-comes_rested ns from to i j notes r h e = subst CallFits e (call_fits (call_at ns from i) notes (starts_fit from ns i r h))
+-- So the initiator rests behind a call as before it.
+pub comes_rested : (ns : List ℕ) (from to : Step) (i j : InitState) (notes : List Note) → Rested i.core → call_stand ns from i notes ≡ Comes to j → Rested j.core
+comes_rested ns from to i j notes r e = subst CallFits e (call_fits (call_at ns from i) notes (starts_fit from ns i r))
 
--- a call begins within it, whatever it is
+-- and its end is within the bound
+abbrev CallWithin : CallStanding → Type 0
+CallWithin (Carries w s) = IsWithin w.0.llc
+CallWithin (Comes to i) = AtEnd IsWithin to
+CallWithin (BrokenBy cause) = Unit {0}
+CallWithin Strays = Unit {0}
+
+starts_within : (to : Step) (ns : List ℕ) (i : InitState) → AtEnd IsWithin to → CallWithin (walk_at by_client (next_of ns to) i)
+starts_within (Goes w) ns i h = h
+starts_within (Ends jobs l) ns i h = h
+starts_within (GivesUp g) ns i h = h
+
+carried_within : (w : Working) (ns : List ℕ) (s : Standing) → IsWithin w.llc → CallWithin (walk_carried by_client (w, ns) s)
+carried_within w ns (Waits i f) h = h
+carried_within w ns (Rests i reply) h = starts_within (replied (first_number ns) w reply) (later_numbers ns) i (reply_within (first_number ns) w reply h)
+carried_within w ns (Broken cause) h = tt
+carried_within w ns Astray h = tt
+
+all_within : (c : CallStanding) (ns : List Note) → CallWithin c → CallWithin (call_on c ns)
+all_within c [] h = h
+all_within c (n ∷ ns) h = all_within (walk_noted by_client c n) ns (noted_within c h)
+  where
+    noted_within : (c : CallStanding) → CallWithin c → CallWithin (walk_noted by_client c n)
+    noted_within (Carries w s) h = carried_within w.0 w.1 (noted s n) h
+    noted_within (Comes to i) h = tt
+    noted_within (BrokenBy cause) h = tt
+    noted_within Strays h = tt
+
+pub comes_within : (ns : List ℕ) (from to : Step) (i j : InitState) (notes : List Note) → AtEnd IsWithin from → call_stand ns from i notes ≡ Comes to j → AtEnd IsWithin to
+comes_within ns from to i j notes h e = subst CallWithin e (all_within (call_at ns from i) notes (starts_within from ns i h))
+
+-- A call begins within it, whatever it is, and so does the end of all connections.
 pub call_within : (l : EndState) (call : Call) → IsWithin l → AtEnd IsWithin (call_begins l call)
 call_within l (Putting ws) h = begins_within l (puts_at_once ws) h
 call_within l (Getting sap most key) h = begins_within l (record { sap = sap; task = Gets most key } ∷ []) h
 call_within l (Finding name) h = begins_within l (record { sap = client_sap; task = Finds name } ∷ []) h
+
+pub closes_within : (l : EndState) → IsWithin l → AtEnd IsWithin (closes l)
+closes_within l h = begins_within l (leave_from client_saps) h
