@@ -16,6 +16,7 @@ pub mod AreaSurveys
 pub mod Grounds
 pub mod Accesses
 pub mod Surveys
+pub mod Needing
 pub mod Lists
 pub mod SomeList
 pub mod Files

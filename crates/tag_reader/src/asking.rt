@@ -5,7 +5,7 @@ ghost use Rattle.nfc_base.specs.TagLinks.{LinkView};
 ghost use Rattle.nfc_base.specs.declared.tag_link.AskFault.{AskFault};
 ghost use Rattle.tag_reader.specs.declared.how.How.TheVariants as hows;
 ghost use Rattle.tag_reader.specs.Heard.{IsOf};
-ghost use Rattle.tag_reader.specs.HeardSteps.{Under, OrFault, Gains};
+ghost use Rattle.tag_reader.specs.HeardSteps.{IsCut, Under, OrFault, Gains};
 ghost use Rattle.tag_reader.specs.Steps.{of_link, AsksNextOf};
 
 use crate::fault::ReadFault;
@@ -39,6 +39,7 @@ pub fn ask_next<T: TagLink>(
     // whatever the tag does
     ensures gains { (a : LinkView) (ps : List (List ℕ)) → Under hows.T2 a (T.seen link.old) ps → length ps ≡ index →
         OrFault (λ done. Gains a (T.seen link.new) ps known.old.items known.new.items) hows.T2 a (T.seen link.new) result }
+    ensures cut { IsCut (T.seen link.old) (T.seen link.new) }
     ensures ready { T.ready link.new }
     ensures same { T.lenders link.new ≡ T.lenders link.old }
     ensures moves { T.moves link.old link.new }

@@ -1,6 +1,6 @@
 //! Where the message of a Type 5 tag lies, by as few commands as its container allows.
 
-ghost use Rattle.std.specs.Prelude.{◌≡◌, ◌<◌, ◌≤◌, Bool, [], length, false, IfOk};
+ghost use Rattle.std.specs.Prelude.{◌≡◌, ◌<◌, ◌≤◌, Bool, [], length, false, IfOk, OnErr};
 ghost use Rattle.tlv_area.specs.Containers.{T5Area, t5_is_open};
 ghost use Rattle.tlv_area.specs.Form.{NeedsMore};
 ghost use Rattle.tlv_area.specs.Layout.{IsArea};
@@ -11,6 +11,7 @@ ghost use Rattle.tag_reader.specs.Heard.{IsOf};
 ghost use Rattle.tag_reader.specs.HeardSteps.{OrFault, SeesMap};
 ghost use Rattle.tag_reader.specs.BlockSteps.{Names, LooksBlocks, Opens, FindsMap};
 ghost use Rattle.tag_reader.specs.Steps.{IsCutFault};
+ghost use Rattle.tag_reader.specs.SurveyHeard.{AsksWhatItNeeds};
 
 use crate::blocks::ask_blocks;
 use crate::fault::ReadFault;
@@ -60,6 +61,7 @@ pub fn open_area<T: TagLink>(
     ensures sees { OrFault (λ space. LooksBlocks id (T.seen link.old) (T.seen link.new) known.new) (hows.T5 id)
         (T.seen link.old) (T.seen link.new) result }
     ensures opens { (aim : Aim) → Opens aim id (T.seen link.old) (T.seen link.new) known.new result }
+    ensures needs { OnErr result (AsksWhatItNeeds (hows.T5 id) (T.seen link.old) (T.seen link.new)) }
     ensures ready { T.ready link.new }
     ensures same { T.lenders link.new ≡ T.lenders link.old }
     ensures moves { T.moves link.old link.new }

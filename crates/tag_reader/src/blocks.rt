@@ -5,7 +5,7 @@ ghost use Rattle.nfc_base.specs.TagLinks.{LinkView};
 ghost use Rattle.tag_reader.specs.declared.how.How.TheVariants as hows;
 ghost use Rattle.tag_reader.specs.Asked.{Aim, IsDueFor};
 ghost use Rattle.tag_reader.specs.Heard.{IsOf};
-ghost use Rattle.tag_reader.specs.HeardSteps.{Under, OrFault};
+ghost use Rattle.tag_reader.specs.HeardSteps.{IsCut, Under, OrFault};
 ghost use Rattle.tag_reader.specs.BlockSteps.{CanAsk, Grows, IsKnown, SeesBlocks, IsReading, NextBlocks};
 
 use crate::ask::next_ask;
@@ -34,6 +34,7 @@ pub fn ask_blocks<T: TagLink>(
     ensures next { (aim : Aim) (size n : ℕ) (a : LinkView) → IsReading aim id size a (T.seen link.old) known.old n →
         IsDueFor aim (hows.T5 id) size a.state.store n →
         NextBlocks aim id size a (T.seen link.new) known.old known.new n result }
+    ensures cut { IsCut (T.seen link.old) (T.seen link.new) }
     ensures ready { T.ready link.new }
     ensures same { T.lenders link.new ≡ T.lenders link.old }
     ensures moves { T.moves link.old link.new }

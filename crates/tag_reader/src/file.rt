@@ -1,6 +1,6 @@
 //! The file of a Type 4 tag (NFC Forum Type 4 Tag; ISO/IEC 7816-4).
 
-ghost use Rattle.std.specs.Prelude.{◌≡◌, ◌↔◌, ℕ, suc, ◌≤◌, min, List, [], ◌∷◌, ◌++◌, length, true, IfOk};
+ghost use Rattle.std.specs.Prelude.{◌≡◌, ◌↔◌, ℕ, suc, ◌≤◌, min, List, [], ◌∷◌, ◌++◌, length, true, IfOk, OnErr};
 ghost use Rattle.nfc_base.specs.TagLinks.{LinkView};
 ghost use Rattle.tlv_area.specs.declared.container.FileMap.{FileMap as Map};
 ghost use Rattle.tlv_area.specs.Containers.{t4_container};
@@ -9,8 +9,9 @@ ghost use Rattle.tag_reader.specs.Asked.{Aim, ToRead, IsNextFor};
 ghost use Rattle.tag_reader.specs.Files.{file_command, message_length, most_asked};
 ghost use Rattle.t4t_tag.specs.Spelling.{IsT4Command};
 ghost use Rattle.tag_reader.specs.Heard.{IsOf, HasSize, IsToldBy, file_next};
-ghost use Rattle.tag_reader.specs.HeardSteps.{Under, OrFault, HasSelected, Opened, Measured, ReadAll};
+ghost use Rattle.tag_reader.specs.HeardSteps.{IsCut, Under, OrFault, HasSelected, Opened, Measured, ReadAll};
 ghost use Rattle.tag_reader.specs.Kinds.{OfTag};
+ghost use Rattle.tag_reader.specs.SurveyHeard.{AsksWhatItNeeds};
 ghost use Rattle.tag_reader.specs.Steps.{ReadsTag};
 ghost use Rattle.tag_reader.specs.FileSteps.{IsUnder, BringsNext, OrEnds, IsOpen, IsMeasured, IsWhole};
 
@@ -89,6 +90,7 @@ fn ask_file<T: TagLink>(
     ensures next { (aim : Aim) (size n : ℕ) (a : LinkView) → IsUnder aim size a (T.seen link.old) n →
         IsNextFor aim hows.T4 size a.state.store n → command.now ≡ file_command a.state.store n →
         OrEnds aim (λ bytes. BringsNext aim size a (T.seen link.new) n bytes.items) size a (T.seen link.new) result }
+    ensures cut { IsCut (T.seen link.old) (T.seen link.new) }
     ensures ready { T.ready link.new }
     ensures same { T.lenders link.new ≡ T.lenders link.old }
     ensures moves { T.moves link.old link.new }
@@ -129,6 +131,7 @@ fn select_container<T: TagLink>(alloc: Global, link: &mut T) -> Result<(), ReadF
     ensures selects { (aim : Aim) → OfTag hows.T4 (T.seen link.old) (λ size.
         OrEnds aim (λ done. IsUnder aim size (T.seen link.old) (T.seen link.new) 2)
         size (T.seen link.old) (T.seen link.new) result) }
+    ensures needs { OnErr result (AsksWhatItNeeds hows.T4 (T.seen link.old) (T.seen link.new)) }
     ensures ready { T.ready link.new }
     ensures same { T.lenders link.new ≡ T.lenders link.old }
     ensures moves { T.moves link.old link.new }
@@ -147,6 +150,7 @@ pub fn read_container<T: TagLink>(alloc: Global, link: &mut T) -> Result<FileMap
     ensures opens { (aim : Aim) → OfTag hows.T4 (T.seen link.old) (λ size.
         OrEnds aim (IsOpen aim size (T.seen link.old) (T.seen link.new))
         size (T.seen link.old) (T.seen link.new) result) }
+    ensures needs { OnErr result (AsksWhatItNeeds hows.T4 (T.seen link.old) (T.seen link.new)) }
     ensures ready { T.ready link.new }
     ensures same { T.lenders link.new ≡ T.lenders link.old }
     ensures moves { T.moves link.old link.new }
@@ -180,6 +184,8 @@ pub fn read_length<T: TagLink>(alloc: Global, link: &mut T, map: FileMap) -> Res
         OrFault (Measured a (T.seen link.new) map) hows.T4 a (T.seen link.new) result }
     ensures measures { (aim : Aim) (size : ℕ) (a : LinkView) → IsOpen aim size a (T.seen link.old) map →
         OrEnds aim (IsMeasured aim size a (T.seen link.new) map) size a (T.seen link.new) result }
+    ensures needs { (a : LinkView) → Opened a (T.seen link.old) map →
+        OnErr result (AsksWhatItNeeds hows.T4 a (T.seen link.new)) }
     ensures ready { T.ready link.new }
     ensures same { T.lenders link.new ≡ T.lenders link.old }
     ensures moves { T.moves link.old link.new }

@@ -1,6 +1,6 @@
 //! Where the message of a Type 2 tag lies, by as many READs as it takes to tell.
 
-ghost use Rattle.std.specs.Prelude.{◌≡◌, ℕ, ◌<◌, ◌≤◌, length, take, [], IfOk, IfErr, Ok, Err};
+ghost use Rattle.std.specs.Prelude.{◌≡◌, ℕ, ◌<◌, ◌≤◌, length, take, [], IfOk, IfErr, OnErr, Ok, Err};
 ghost use Rattle.tlv_area.specs.declared.container.ContainerFault.{ContainerFault};
 ghost use Rattle.tlv_area.specs.Layout.{IsArea};
 ghost use Rattle.tag_reader.specs.declared.how.How.TheVariants as hows;
@@ -8,6 +8,7 @@ ghost use Rattle.tag_reader.specs.Asked.{Aim};
 ghost use Rattle.tag_reader.specs.Kinds.{area_of};
 ghost use Rattle.tag_reader.specs.Heard.{IsOf};
 ghost use Rattle.tag_reader.specs.HeardSteps.{OrFault, Looks, SeesMap};
+ghost use Rattle.tag_reader.specs.SurveyHeard.{AsksWhatItNeeds};
 ghost use Rattle.tag_reader.specs.Steps.{of_container, OpensArea, ReadsMap};
 
 use crate::asking::ask_next;
@@ -62,6 +63,7 @@ pub fn open_area<T: TagLink>(
     ensures sees { OrFault (λ space. Looks (T.seen link.old) (T.seen link.new) known.new.items space 0) hows.T2
         (T.seen link.old) (T.seen link.new) result }
     ensures opens { (aim : Aim) → OpensArea aim (T.seen link.old) (T.seen link.new) known.new.items result }
+    ensures needs { OnErr result (AsksWhatItNeeds hows.T2 (T.seen link.old) (T.seen link.new)) }
     ensures ready { T.ready link.new }
     ensures same { T.lenders link.new ≡ T.lenders link.old }
     ensures moves { T.moves link.old link.new }

@@ -95,3 +95,5 @@ returns-in-Ok-extend_from_slice-clause-gains g c a ps u count =
           c.in-Ok.ensures.obeys c.in-Ok.ensures.rises c.in-Ok.ensures.ok (record { content = c.in-Ok-tell_t2.ensures.tells; piece = tt });
       grown = c.in-Ok-extend_from_slice.ensures.items;
     }
+
+

@@ -6,6 +6,7 @@ use Rattle.tag_reader.specs.Heard.{IsFaultBy}
 use Rattle.tag_reader.specs.Steps.{Reads}
 use Rattle.tag_reader.specs.BlockSteps.{LooksBlocks, SeesBlocks, NextBlocks, GainsBlocks, EndsBlocks, HasRunOut, Opens}
 use Rattle.tag_reader.proofs.BlockEndings.{known_size, closed_sized, some_known, open_due, names_ready, names_area, later, short_blocks, reads_short, faulty_blocks, reads_faulty}
+use Rattle.tag_reader.proofs.Needing.{on_err, open_needs, none_needs, container_needs}
 use Rattle.tag_reader.proofs.block_finding.open_area.Goals as goal
 
 pub returns-then-not-goes_on-clause-sees : goal.returns-then-not-goes_on-clause-sees
@@ -95,3 +96,18 @@ returns-in-Err-clause-opens g c aim size is =
     let l = later c.args.id size r.0 a b c.open.known r.1 closed in
     subst (λ e. Reads aim (T5 c.args.id) size a b [] (Err e)) (sym c.of_container.ensures)
     (reads_faulty aim c.args.id size l.0 a b c.open.known c.in-Err.fault l.1 (λ more. ap (λ xs. t5_front (xs ++ more)) (sym c.as_slice-2.ensures.value) ∙ c.in-Err.ensures.front more (λ e. cc)))
+
+-- it asks for what it needs
+pub returns-in_err-goes_on-clause-needs : goal.returns-in_err-goes_on-clause-needs
+returns-in_err-goes_on-clause-needs g c =
+    let open' : t5_is_open c.open.known.bytes.items ≡ true = sym (c.is_open.ensures ∙ ap t5_is_open c.as_slice.ensures.value) ∙ c.open-test.true in
+    on_err _ c.from_residual.result
+    (open_needs c.args.id (g.T.TagLink.seen c.args.link.now) (g.T.TagLink.seen c.open.link) (g.T.TagLink.seen c.ask_blocks.new.link) c.open.known c.open.invariant.looks open' c.in_err-goes_on.ensures.cut)
+
+pub returns-then-not-goes_on-clause-needs : goal.returns-then-not-goes_on-clause-needs
+returns-then-not-goes_on-clause-needs g c =
+    none_needs (T5 c.args.id) (g.T.TagLink.seen c.args.link.now) (g.T.TagLink.seen c.ask_blocks.new.link) _ (returns-then-not-goes_on-clause-sees g c)
+
+pub returns-in-Err-clause-needs : goal.returns-in-Err-clause-needs
+returns-in-Err-clause-needs g c =
+    container_needs (T5 c.args.id) (g.T.TagLink.seen c.args.link.now) (g.T.TagLink.seen c.open.link) c.in-Err.fault c.of_container.result c.of_container.ensures (returns-in-Err-clause-sees g c)

@@ -6,6 +6,7 @@ use Rattle.tag_reader.specs.declared.how.How.TheVariants.{T4}
 use Rattle.tag_reader.specs.Heard.{IsFaultBy}
 use Rattle.tag_reader.proofs.Looking.{of_under}
 use Rattle.tag_reader.proofs.Filing.{opens, no_file}
+use Rattle.tag_reader.proofs.Needing.{on_err, few_needs, container_needs}
 use Rattle.tag_reader.proofs.file.read_container.Goals as goal
 
 pub returns-in_err-select_container-clause-opens : goal.returns-in_err-select_container-clause-opens
@@ -67,3 +68,18 @@ returns-in-Ok-clause-brings g c =
     let sel = c.in_ok-select_container.ensures.brings in
     opens a (g.T.TagLink.seen c.ask_file.new.link) sel.application sel.container c.in_ok-bytes.bytes.items c.as_slice.result.now c.in-Ok.map
     (c.in_ok-bytes.ensures.brings a (sel.application ∷ sel.container ∷ []) sel.under refl) c.as_slice.ensures.value c.in-Ok.ensures
+
+-- it asks for what it needs
+pub returns-in_err-select_container-clause-needs : goal.returns-in_err-select_container-clause-needs
+returns-in_err-select_container-clause-needs g c = on_err _ c.from_residual.result c.in_err-select_container.ensures.needs
+
+pub returns-in_err-bytes-clause-needs : goal.returns-in_err-bytes-clause-needs
+returns-in_err-bytes-clause-needs g c =
+    let sel = c.in_ok-select_container.ensures.brings in
+    on_err _ c.from_residual-in_err-bytes.result
+    (few_needs (g.T.TagLink.seen c.args.link.now) (g.T.TagLink.seen c.select_container.new.link) (g.T.TagLink.seen c.ask_file.new.link) (sel.application ∷ sel.container ∷ []) sel.under (omega arith)
+    c.in_err-bytes.ensures.cut)
+
+pub returns-in-Err-clause-needs : goal.returns-in-Err-clause-needs
+returns-in-Err-clause-needs g c =
+    container_needs T4 (g.T.TagLink.seen c.args.link.now) (g.T.TagLink.seen c.ask_file.new.link) c.in-Err.fault c.of_container.result c.of_container.ensures (returns-in-Err-clause-brings g c)

@@ -7,6 +7,7 @@ use Rattle.tag_reader.proofs.Bringing.{under_none}
 use Rattle.tag_reader.proofs.Looking.{first_holds, first_looks, first_faulty}
 use Rattle.tag_reader.proofs.Endings.{ends_first}
 use Rattle.tag_reader.proofs.Turns.{first_reach, begun, first_fault, first_walk}
+use Rattle.tag_reader.proofs.Needing.{on_err, cut_needs, nothing_unsaid, container_needs}
 use Rattle.tag_reader.proofs.finding.open_area.Goals as goal
 
 pub returns-in_err-ask_next-clause-opens : goal.returns-in_err-ask_next-clause-opens
@@ -55,3 +56,13 @@ returns-in-Ok-clause-sees g c =
     let a : LinkView = g.T.TagLink.seen c.args.link.now in
     first_looks a (g.T.TagLink.seen c.ask_next.new.link) c.args.known.now.items c.ask_next.new.known.items c.as_slice.result.now c.in-Ok.space c.requires.begun
     (c.in_ok-ask_next.ensures.gains a [] (under_none T2 a) refl) c.as_slice.ensures.value c.in-Ok.ensures.exact
+
+-- it asks for what it needs
+pub returns-in_err-ask_next-clause-needs : goal.returns-in_err-ask_next-clause-needs
+returns-in_err-ask_next-clause-needs g c =
+    let a : LinkView = g.T.TagLink.seen c.args.link.now in
+    on_err _ c.from_residual.result (cut_needs T2 a a (g.T.TagLink.seen c.ask_next.new.link) [] (under_none T2 a) nothing_unsaid c.in_err-ask_next.ensures.cut)
+
+pub returns-in-Err-clause-needs : goal.returns-in-Err-clause-needs
+returns-in-Err-clause-needs g c =
+    container_needs T2 (g.T.TagLink.seen c.args.link.now) (g.T.TagLink.seen c.ask_next.new.link) c.in-Err.fault c.of_container.result c.of_container.ensures (returns-in-Err-clause-sees g c)
