@@ -31,3 +31,4 @@ pub mod BlockEndings
 pub mod BlockSingles
 pub mod BlockSeldom
 pub mod BlockCounts
+pub mod Exits

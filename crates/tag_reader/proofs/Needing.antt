@@ -11,7 +11,6 @@ use Rattle.tlv_area.specs.Containers.{t5_is_open}
 use Rattle.tlv_area.specs.Form.{Form}
 use Rattle.tag_reader.specs.declared.how.How.{How}
 use Rattle.tag_reader.specs.declared.how.How.TheVariants.{T2, T4, T5}
-use Rattle.tag_reader.specs.declared.fault.ReadFault.{ReadFault}
 use Rattle.tag_reader.specs.declared.ground.Ground.{Ground}
 use Rattle.tag_reader.specs.declared.ground.Ground.TheVariants.{Area, File}
 use Rattle.tag_reader.specs.declared.known.Known.{Known}
@@ -39,15 +38,12 @@ cut_needs how a b c ps u none (inr same) qs brought says =
 pub none_needs : (how : How) (a b : LinkView) (f : Form) → IsNone how a b f → AsksWhatItNeeds how a b
 none_needs how a b f is ps brought says = none_over how a b f is
 
-pub container_needs : (how : How) (a b : LinkView) (f : ContainerFault) (e : ReadFault) → e ≡ of_container f → IsFaultBy how a b e → AsksWhatItNeeds how a b
-container_needs how a b f e told is = by_fault f (subst (λ x. IsFaultBy how a b x) told is)
-  where
-    by_fault : (g : ContainerFault) → IsFaultBy how a b (of_container g) → AsksWhatItNeeds how a b
-    by_fault container.NotNdef none = none_needs how a b _ none
-    by_fault container.Version none = none_needs how a b _ none
-    by_fault container.NoRead none = none_needs how a b _ none
-    by_fault container.Sectors none = none_needs how a b _ none
-    by_fault container.BadSize none = none_needs how a b _ none
+pub container_needs : (how : How) (a b : LinkView) (f : ContainerFault) → IsFaultBy how a b (of_container f) → AsksWhatItNeeds how a b
+container_needs how a b container.NotNdef none = none_needs how a b _ none
+container_needs how a b container.Version none = none_needs how a b _ none
+container_needs how a b container.NoRead none = none_needs how a b _ none
+container_needs how a b container.Sectors none = none_needs how a b _ none
+container_needs how a b container.BadSize none = none_needs how a b _ none
 
 -- before the first piece nothing is said
 pub nothing_unsaid : SaysGround T2 [] → ⊥

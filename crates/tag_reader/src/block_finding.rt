@@ -15,7 +15,7 @@ ghost use Rattle.tag_reader.specs.SurveyHeard.{AsksWhatItNeeds};
 
 use crate::blocks::ask_blocks;
 use crate::fault::ReadFault;
-use crate::finding::{front, of_container};
+use crate::finding::front;
 use crate::known::Known;
 use nfc_base::TagLink;
 use std::alloc::Global;
@@ -72,16 +72,13 @@ pub fn open_area<T: TagLink>(
             return Err(ReadFault::BadSize);
         }
     }
-    match container_t5(known.bytes.as_slice()) {
-        Ok(
-            T5Container::Ready {
-                space,
-                wide,
-                many: _,
-            },
-        ) => Ok(reach(space, wide, known.size)),
-        Ok(T5Container::More) => unreachable!(),
-        Err(fault) => Err(of_container(fault)),
+    match container_t5(known.bytes.as_slice())? {
+        T5Container::Ready {
+            space,
+            wide,
+            many: _,
+        } => Ok(reach(space, wide, known.size)),
+        T5Container::More => unreachable!(),
     }
 }
 

@@ -9,7 +9,6 @@ ghost use Rattle.tag_reader.specs.HeardSteps.{IsCut, Under, OrFault};
 ghost use Rattle.tag_reader.specs.BlockSteps.{CanAsk, Grows, IsKnown, SeesBlocks, IsReading, NextBlocks};
 
 use crate::ask::next_ask;
-use crate::asking::of_link;
 use crate::fault::ReadFault;
 use crate::known::Known;
 use crate::told::{BlocksTold, tell_blocks};
@@ -41,19 +40,16 @@ pub fn ask_blocks<T: TagLink>(
 {
     let ask = next_ask(known);
     let command = ask.frame(id);
-    match link.ask(alloc, &command) {
-        Err(fault) => Err(of_link(fault)),
-        Ok(answer) => match tell_blocks(&ask, known.size, &answer) {
-            Err(fault) => Err(fault),
-            Ok(BlocksTold::Ended) => Ok(false),
-            Ok(BlocksTold::Single) => {
-                known.single = true;
-                Ok(true)
-            }
-            Ok(BlocksTold::Bytes(content)) => match known.learn(&content) {
-                Err(_) => Err(ReadFault::Memory),
-                Ok(()) => Ok(true),
-            },
-        },
+    let answer = link.ask(alloc, &command)?;
+    match tell_blocks(&ask, known.size, &answer)? {
+        BlocksTold::Ended => Ok(false),
+        BlocksTold::Single => {
+            known.single = true;
+            Ok(true)
+        }
+        BlocksTold::Bytes(content) => {
+            known.learn(&content)?;
+            Ok(true)
+        }
     }
 }

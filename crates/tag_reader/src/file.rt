@@ -15,9 +15,7 @@ ghost use Rattle.tag_reader.specs.SurveyHeard.{AsksWhatItNeeds};
 ghost use Rattle.tag_reader.specs.Steps.{ReadsTag};
 ghost use Rattle.tag_reader.specs.FileSteps.{IsUnder, BringsNext, OrEnds, IsOpen, IsMeasured, IsWhole};
 
-use crate::asking::of_link;
 use crate::fault::ReadFault;
-use crate::finding::of_container;
 use crate::found::{Found, Site};
 use crate::told::tell_t4;
 use arrayvec::ArrayVec;
@@ -95,21 +93,14 @@ fn ask_file<T: TagLink>(
     ensures same { T.lenders link.new ≡ T.lenders link.old }
     ensures moves { T.moves link.old link.new }
 {
-    let bytes = command.to_bytes();
-    let frame = Frame::whole(Tech::A, bytes.as_slice()).unwrap();
-    match link.ask(alloc, &frame) {
-        Err(fault) => Err(of_link(fault)),
-        Ok(answer) => match tell_t4(&answer) {
-            Err(fault) => Err(fault),
-            Ok(bytes) => {
-                if has_size(command, bytes.as_slice()) {
-                    Ok(bytes)
-                } else {
-                    Err(ReadFault::Protocol)
-                }
-            }
-        },
+    let spelled = command.to_bytes();
+    let frame = Frame::whole(Tech::A, spelled.as_slice()).unwrap();
+    let answer = link.ask(alloc, &frame)?;
+    let bytes = tell_t4(&answer)?;
+    if !has_size(command, bytes.as_slice()) {
+        return Err(ReadFault::Protocol);
     }
+    Ok(bytes)
 }
 
 /// The file that the first bytes of a container name.
@@ -161,10 +152,7 @@ pub fn read_container<T: TagLink>(alloc: Global, link: &mut T) -> Result<FileMap
         count: CONTAINER_SIZE as u8,
     };
     let bytes = ask_file(alloc, link, &read)?;
-    match file_named(bytes.as_slice()) {
-        Err(fault) => Err(of_container(fault)),
-        Ok(map) => Ok(map),
-    }
+    Ok(file_named(bytes.as_slice())?)
 }
 
 /// The number that two bytes are, high first.
@@ -231,10 +219,7 @@ fn read_message<T: TagLink>(
             count: most.min(length - taken) as u8,
         };
         let piece = ask_file(alloc, link, &read)?;
-        match message.extend_from_slice(&piece) {
-            Err(_) => return Err(ReadFault::Memory),
-            Ok(()) => {}
-        }
+        message.extend_from_slice(&piece)?;
     }
     Ok(message)
 }

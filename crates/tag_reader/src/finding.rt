@@ -9,25 +9,13 @@ ghost use Rattle.tag_reader.specs.Kinds.{area_of};
 ghost use Rattle.tag_reader.specs.Heard.{IsOf};
 ghost use Rattle.tag_reader.specs.HeardSteps.{OrFault, Looks, SeesMap};
 ghost use Rattle.tag_reader.specs.SurveyHeard.{AsksWhatItNeeds};
-ghost use Rattle.tag_reader.specs.Steps.{of_container, OpensArea, ReadsMap};
+ghost use Rattle.tag_reader.specs.Steps.{OpensArea, ReadsMap};
 
 use crate::asking::ask_next;
 use crate::fault::ReadFault;
 use nfc_base::TagLink;
 use std::alloc::Global;
 use tlv_area::{AreaMap, ContainerFault, Space, Walk, Walker, container_t2};
-
-pub fn of_container(fault: ContainerFault) -> ReadFault
-    ensures { result ≡ of_container fault }
-{
-    match fault {
-        ContainerFault::NotNdef => ReadFault::NotNdef,
-        ContainerFault::Version => ReadFault::Version,
-        ContainerFault::NoRead => ReadFault::NoRead,
-        ContainerFault::Sectors => ReadFault::Sectors,
-        ContainerFault::BadSize => ReadFault::BadSize,
-    }
-}
 
 /// The area that the container in the answer to the first READ names.
 pub fn space_of(first: &[u8]) -> Result<Space, ContainerFault>
@@ -69,10 +57,7 @@ pub fn open_area<T: TagLink>(
     ensures moves { T.moves link.old link.new }
 {
     ask_next(alloc, link, 0, known)?;
-    match space_of(known.as_slice()) {
-        Err(fault) => Err(of_container(fault)),
-        Ok(space) => Ok(space),
-    }
+    Ok(space_of(known.as_slice())?)
 }
 
 /// Asks a Type 2 tag for bytes until they tell where the message lies. What it learns is known then.
