@@ -60,10 +60,10 @@ module _ (how : How) (message : List ℕ) (t : Tag) (turns : List Turn) (used : 
   by_read u = elim u.by [
     | inl odd ↦ odd_so (inl odd)
     | inr e ↦ (
-      let d : Differs turns used last = differs e.ends'.0 in
-      let asked : last ≡ Some (next_command how e.ps) = asked_last over (last ≡ Some (next_command how e.ps)) e.ends'.0 (e.asked refl) in
-      let next = as_sent e u.needs d.turn.command (sent.reads used e.ps d.turn d.low d.there e.brought.pieces e.brought.answered) in
-      absurd (d.other (next ∙ sym (one_some last d.command (next_command how e.ps) d.asked asked))))
+        let d : Differs turns used last = differs e.ends'.0 in
+        let asked : last ≡ Some (next_command how e.ps) = asked_last over (last ≡ Some (next_command how e.ps)) e.ends'.0 (e.asked refl) in
+        let next = as_sent e u.needs d.turn.command (sent.reads used e.ps d.turn d.low d.there e.brought.pieces e.brought.answered) in
+        absurd (d.other (next ∙ sym (one_some last d.command (next_command how e.ps) d.asked asked))))
   ]
 
   by_write : (v : LinkView) (w : Work) → IsPlannedBy how message w first v → (s : StopsAmong how v behind (all_commands w) fault.Protocol)

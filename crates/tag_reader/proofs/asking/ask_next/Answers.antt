@@ -28,7 +28,8 @@ returns-in_err-answer-clause-next g c size is low =
     let read : Signal = command T2 size a.state.store c.args.index in
     subst (λ x. AsksNext size c.args.index a b c.args.known.now.items c.args.known.now.items x) (sym (exit_is c.from_residual.result (of_link c.in_err-answer.field-0.0) c.from_residual.ensures.1))
     (asked_err a b read (reply a.state.store c.args.index) c.to_frame-read.result a.state c.in_err-answer.field-0.0 c.to_frame-read.ensures.frame (keeps size a c.args.index is low)
-    c.in_err-answer.ensures.rises c.in_err-answer.ensures.obeys c.in_err-answer.ensures.last c.in_err-answer.ensures.err c.in_err-answer.ensures.cause c.in_err-answer.ensures.ended c.in_err-answer.ensures.calm)
+    c.in_err-answer.ensures.rises c.in_err-answer.ensures.obeys c.in_err-answer.ensures.last c.in_err-answer.ensures.err c.in_err-answer.ensures.cause c.in_err-answer.ensures.ended
+    c.in_err-answer.ensures.calm)
 
 pub returns-in_err-content-clause-next : goal.returns-in_err-content-clause-next
 returns-in_err-content-clause-next g c size is low =
@@ -37,7 +38,8 @@ returns-in_err-content-clause-next g c size is low =
     let read : Signal = command T2 size a.state.store c.args.index in
     let told = asked_ok a b read (reply a.state.store c.args.index) c.in_ok-answer.answer c.to_frame-read.result a.state c.to_frame-read.ensures.frame (keeps size a c.args.index is low)
     c.in_ok-answer.ensures.rises c.in_ok-answer.ensures.obeys c.in_ok-answer.ensures.last c.in_ok-answer.ensures.ok in
-    let whole : Err c.in_err-content.field-0.0 ≡ Ok (four_blocks a.state.store (4 * c.args.index)) = c.in_err-content.ensures.content _ (four_long size c.args.index a.state.store is.store low) told.1 in
+    let whole : Err c.in_err-content.field-0.0 ≡ Ok (four_blocks a.state.store (4 * c.args.index)) = c.in_err-content.ensures.content _ (four_long size c.args.index a.state.store is.store low)
+    told.1 in
     absurd (fault_brings c.in_err-content.field-0.0 _ whole)
 
 pub returns-in_err-extend_from_slice-clause-next : goal.returns-in_err-extend_from_slice-clause-next
@@ -47,7 +49,9 @@ returns-in_err-extend_from_slice-clause-next g c size is low =
     let read : Signal = command T2 size a.state.store c.args.index in
     let told = asked_ok a b read (reply a.state.store c.args.index) c.in_ok-answer.answer c.to_frame-read.result a.state c.to_frame-read.ensures.frame (keeps size a c.args.index is low)
     c.in_ok-answer.ensures.rises c.in_ok-answer.ensures.obeys c.in_ok-answer.ensures.last c.in_ok-answer.ensures.ok in
-    subst (λ x. AsksNext size c.args.index a b c.args.known.now.items c.extend_from_slice.new.self.items x) (sym (exit_is c.from_residual-in_err-extend_from_slice.result fault.Memory c.from_residual-in_err-extend_from_slice.ensures.1))
+    let exit : c.from_residual-in_err-extend_from_slice.result ≡ Err fault.Memory =
+    exit_is c.from_residual-in_err-extend_from_slice.result fault.Memory c.from_residual-in_err-extend_from_slice.ensures.1 in
+    subst (λ x. AsksNext size c.args.index a b c.args.known.now.items c.extend_from_slice.new.self.items x) (sym exit)
     (answer_lost read a b told.0)
 
 pub returns-clause-next : goal.returns-clause-next
@@ -73,7 +77,8 @@ returns-in_err-answer-clause-gains g c a ps u count =
     let b : LinkView = g.T.TagLink.seen c.ask.new.self in
     let due : c.to_frame-read.result ≡ next_command T2 ps = c.to_frame-read.ensures.frame ∙ ap (λ n. command T2 16 [] n) (sym count) in
     or_fault _ T2 a b c.from_residual.result (of_link c.in_err-answer.field-0.0) (exit_is c.from_residual.result (of_link c.in_err-answer.field-0.0) c.from_residual.ensures.1)
-    (under_fault T2 a (g.T.TagLink.seen c.args.link.now) b ps c.to_frame-read.result c.in_err-answer.field-0.0 u due c.in_err-answer.ensures.err c.in_err-answer.ensures.cause c.in_err-answer.ensures.ended c.in_err-answer.ensures.last)
+    (under_fault T2 a (g.T.TagLink.seen c.args.link.now) b ps c.to_frame-read.result c.in_err-answer.field-0.0 u due c.in_err-answer.ensures.err c.in_err-answer.ensures.cause
+    c.in_err-answer.ensures.ended c.in_err-answer.ensures.last)
 
 pub returns-in_err-content-clause-gains : goal.returns-in_err-content-clause-gains
 returns-in_err-content-clause-gains g c a ps u count =

@@ -86,7 +86,9 @@ returns-in_err-space-clause-sees g c =
     let closed : t5_is_open c.open.known.bytes.items ≡ false = sym (c.is_open.ensures ∙ ap t5_is_open c.as_slice.ensures.value) ∙ c.open-test.false in
     let sized = closed_sized c.open.known (known_size c.args.id a b looks.ps c.open.known looks.under looks.known') closed in
     let front : t5_front c.open.known.bytes.items ≡ Err c.in_err-space.field-0.0 = ap t5_front (sym c.as_slice-2.ensures.value) ∙ sym c.in_err-space.ensures.exact in
-    or_fault _ (T5 c.args.id) a b c.from_residual-in_err-space.result (of_container c.in_err-space.field-0.0) (exit_is c.from_residual-in_err-space.result (of_container c.in_err-space.field-0.0) c.from_residual-in_err-space.ensures.1)
+    let exit : c.from_residual-in_err-space.result ≡ Err (of_container c.in_err-space.field-0.0) =
+    exit_is c.from_residual-in_err-space.result (of_container c.in_err-space.field-0.0) c.from_residual-in_err-space.ensures.1 in
+    or_fault _ (T5 c.args.id) a b c.from_residual-in_err-space.result (of_container c.in_err-space.field-0.0) exit
     (faulty_blocks c.args.id a b looks.ps c.open.known c.in_err-space.field-0.0 looks.under looks.known' (some_known looks.ps c.open.known looks.known' sized.0) closed front)
 
 pub returns-in_err-space-clause-opens : goal.returns-in_err-space-clause-opens
@@ -97,14 +99,16 @@ returns-in_err-space-clause-opens g c aim =
     subst (λ x. Opens aim c.args.id a b c.open.known x) (sym (exit_is c.from_residual-in_err-space.result (of_container c.in_err-space.field-0.0) c.from_residual-in_err-space.ensures.1)) (λ size is.
     (let r = c.open.invariant.reading aim size is in
     let l = later c.args.id size r.0 a b c.open.known r.1 closed in
-    reads_faulty aim c.args.id size l.0 a b c.open.known c.in_err-space.field-0.0 l.1 (λ more. ap (λ xs. t5_front (xs ++ more)) (sym c.as_slice-2.ensures.value) ∙ c.in_err-space.ensures.front more (λ e. cc))))
+    reads_faulty aim c.args.id size l.0 a b c.open.known c.in_err-space.field-0.0 l.1 (λ more. ap (λ xs. t5_front (xs ++ more)) (sym c.as_slice-2.ensures.value) ∙ c.in_err-space.ensures.front
+    more (λ e. cc))))
 
 -- it asks for what it needs
 pub returns-in_err-goes_on-clause-needs : goal.returns-in_err-goes_on-clause-needs
 returns-in_err-goes_on-clause-needs g c =
     let open' : t5_is_open c.open.known.bytes.items ≡ true = sym (c.is_open.ensures ∙ ap t5_is_open c.as_slice.ensures.value) ∙ c.open-test.true in
     on_err _ c.from_residual.result
-    (open_needs c.args.id (g.T.TagLink.seen c.args.link.now) (g.T.TagLink.seen c.open.link) (g.T.TagLink.seen c.ask_blocks.new.link) c.open.known c.open.invariant.looks open' c.in_err-goes_on.ensures.cut)
+    (open_needs c.args.id (g.T.TagLink.seen c.args.link.now) (g.T.TagLink.seen c.open.link) (g.T.TagLink.seen c.ask_blocks.new.link) c.open.known c.open.invariant.looks open'
+    c.in_err-goes_on.ensures.cut)
 
 pub returns-then-not-goes_on-clause-needs : goal.returns-then-not-goes_on-clause-needs
 returns-then-not-goes_on-clause-needs g c =

@@ -25,8 +25,10 @@ returns-in_err-answer-clause-next g c aim size n a u due same =
     let reply : Signal = whole_a (content_at a.state.store n ++ done) in
     let frame : c.unwrap-frame.result ≡ whole_a (command_bytes c.args.command.now) =
     (rw c.unwrap-frame.ensures at c.whole.ensures.ok) ∙ ap (λ xs. whole_a xs) (c.as_slice.ensures.value ∙ c.to_bytes-spelled.ensures) in
-    let fails = asked_err old new command reply c.unwrap-frame.result (state_at a.state (suc n)) c.in_err-answer.field-0.0 (frame ∙ ap file_frame same) (keeps_at size n a old u (file_due aim size a.state.store n due))
-    c.in_err-answer.ensures.rises c.in_err-answer.ensures.obeys c.in_err-answer.ensures.last c.in_err-answer.ensures.err c.in_err-answer.ensures.cause c.in_err-answer.ensures.ended c.in_err-answer.ensures.calm in
+    let fails = asked_err old new command reply c.unwrap-frame.result (state_at a.state (suc n)) c.in_err-answer.field-0.0 (frame ∙ ap file_frame same) (keeps_at size n a old u (file_due aim
+    size a.state.store n due))
+    c.in_err-answer.ensures.rises c.in_err-answer.ensures.obeys c.in_err-answer.ensures.last c.in_err-answer.ensures.err c.in_err-answer.ensures.cause c.in_err-answer.ensures.ended
+    c.in_err-answer.ensures.calm in
     or_ends aim _ size a new c.from_residual.result (of_link c.in_err-answer.field-0.0) (exit_is c.from_residual.result (of_link c.in_err-answer.field-0.0) c.from_residual.ensures.1)
     (under_fails aim size n a old new _ u due fails)
 
@@ -38,7 +40,8 @@ returns-in_err-bytes-clause-next g c aim size n a u due same =
     let reply : Signal = whole_a (content_at a.state.store n ++ done) in
     let frame : c.unwrap-frame.result ≡ whole_a (command_bytes c.args.command.now) =
     (rw c.unwrap-frame.ensures at c.whole.ensures.ok) ∙ ap (λ xs. whole_a xs) (c.as_slice.ensures.value ∙ c.to_bytes-spelled.ensures) in
-    let told = asked_ok old new command reply c.in_ok-answer.answer c.unwrap-frame.result (state_at a.state (suc n)) (frame ∙ ap file_frame same) (keeps_at size n a old u (file_due aim size a.state.store n due))
+    let told = asked_ok old new command reply c.in_ok-answer.answer c.unwrap-frame.result (state_at a.state (suc n)) (frame ∙ ap file_frame same) (keeps_at size n a old u (file_due aim size
+    a.state.store n due))
     c.in_ok-answer.ensures.rises c.in_ok-answer.ensures.obeys c.in_ok-answer.ensures.last c.in_ok-answer.ensures.ok in
     let small = content_small u.tag.steps.0 a.state.store n (tag_store size a u.tag) (file_due aim size a.state.store n due) in
     absurd (fault_brings c.in_err-bytes.field-0.0 (record { items = content_at a.state.store n }) (c.in_err-bytes.ensures.content (content_at a.state.store n) (omega (arith, small)) told.1))
@@ -51,7 +54,8 @@ returns-clause-next g c aim size n a u due same =
     let reply : Signal = whole_a (content_at a.state.store n ++ done) in
     let frame : c.unwrap-frame.result ≡ whole_a (command_bytes c.args.command.now) =
     (rw c.unwrap-frame.ensures at c.whole.ensures.ok) ∙ ap (λ xs. whole_a xs) (c.as_slice.ensures.value ∙ c.to_bytes-spelled.ensures) in
-    let told = asked_ok old new command reply c.in_ok-answer.answer c.unwrap-frame.result (state_at a.state (suc n)) (frame ∙ ap file_frame same) (keeps_at size n a old u (file_due aim size a.state.store n due))
+    let told = asked_ok old new command reply c.in_ok-answer.answer c.unwrap-frame.result (state_at a.state (suc n)) (frame ∙ ap file_frame same) (keeps_at size n a old u (file_due aim size
+    a.state.store n due))
     c.in_ok-answer.ensures.rises c.in_ok-answer.ensures.obeys c.in_ok-answer.ensures.last c.in_ok-answer.ensures.ok in
     let small = content_small u.tag.steps.0 a.state.store n (tag_store size a u.tag) (file_due aim size a.state.store n due) in
     let brings : Ok c.in_ok-bytes.bytes ≡ Ok (record { items = content_at a.state.store n }) = c.in_ok-bytes.ensures.content (content_at a.state.store n) (omega (arith, small)) told.1 in
@@ -65,7 +69,8 @@ returns-then-not-has_size-clause-next g c aim size n a u due same =
     let reply : Signal = whole_a (content_at a.state.store n ++ done) in
     let frame : c.unwrap-frame.result ≡ whole_a (command_bytes c.args.command.now) =
     (rw c.unwrap-frame.ensures at c.whole.ensures.ok) ∙ ap (λ xs. whole_a xs) (c.as_slice.ensures.value ∙ c.to_bytes-spelled.ensures) in
-    let told = asked_ok old new command reply c.in_ok-answer.answer c.unwrap-frame.result (state_at a.state (suc n)) (frame ∙ ap file_frame same) (keeps_at size n a old u (file_due aim size a.state.store n due))
+    let told = asked_ok old new command reply c.in_ok-answer.answer c.unwrap-frame.result (state_at a.state (suc n)) (frame ∙ ap file_frame same) (keeps_at size n a old u (file_due aim size
+    a.state.store n due))
     c.in_ok-answer.ensures.rises c.in_ok-answer.ensures.obeys c.in_ok-answer.ensures.last c.in_ok-answer.ensures.ok in
     let small = content_small u.tag.steps.0 a.state.store n (tag_store size a u.tag) (file_due aim size a.state.store n due) in
     let brings : Ok c.in_ok-bytes.bytes ≡ Ok (record { items = content_at a.state.store n }) = c.in_ok-bytes.ensures.content (content_at a.state.store n) (omega (arith, small)) told.1 in
@@ -118,7 +123,8 @@ returns-in_err-answer-clause-brings g c a ps u same =
     (rw c.unwrap-frame.ensures at c.whole.ensures.ok) ∙ ap (λ xs. whole_a xs) (c.as_slice.ensures.value ∙ c.to_bytes-spelled.ensures) in
     let due : c.unwrap-frame.result ≡ next_command T4 ps = frame ∙ ap file_frame same in
     or_fault _ T4 a new c.from_residual.result (of_link c.in_err-answer.field-0.0) (exit_is c.from_residual.result (of_link c.in_err-answer.field-0.0) c.from_residual.ensures.1)
-    (under_fault T4 a old new ps c.unwrap-frame.result c.in_err-answer.field-0.0 u due c.in_err-answer.ensures.err c.in_err-answer.ensures.cause c.in_err-answer.ensures.ended c.in_err-answer.ensures.last)
+    (under_fault T4 a old new ps c.unwrap-frame.result c.in_err-answer.field-0.0 u due c.in_err-answer.ensures.err c.in_err-answer.ensures.cause c.in_err-answer.ensures.ended
+    c.in_err-answer.ensures.last)
 
 pub returns-in_err-bytes-clause-brings : goal.returns-in_err-bytes-clause-brings
 returns-in_err-bytes-clause-brings g c a ps u same =

@@ -13,7 +13,8 @@ use Rattle.tag_reader.proofs.file.read_container.Goals as goal
 
 pub returns-in_err-select_container-clause-opens : goal.returns-in_err-select_container-clause-opens
 returns-in_err-select_container-clause-opens g c aim size is =
-    let h : EndsBy aim size (g.T.TagLink.seen c.args.link.now) (g.T.TagLink.seen c.select_container.new.link) c.in_err-select_container.field-0.0 = c.in_err-select_container.ensures.selects aim size is in
+    let h : EndsBy aim size (g.T.TagLink.seen c.args.link.now) (g.T.TagLink.seen c.select_container.new.link) c.in_err-select_container.field-0.0 = c.in_err-select_container.ensures.selects aim
+    size is in
     search rules
 
 pub returns-in_err-bytes-clause-opens : goal.returns-in_err-bytes-clause-opens
@@ -27,7 +28,9 @@ pub returns-in_err-file_named-clause-opens : goal.returns-in_err-file_named-clau
 returns-in_err-file_named-clause-opens g c aim size is =
     let a : LinkView = g.T.TagLink.seen c.args.link.now in
     let next = c.in_ok-bytes.ensures.next aim size 2 a (c.in_ok-select_container.ensures.selects aim size is) (head_due aim size a.state.store 2 (omega arith) tt) refl in
-    or_ends aim _ size a (g.T.TagLink.seen c.ask_file.new.link) c.from_residual-in_err-file_named.result (of_container c.in_err-file_named.field-0.0) (exit_is c.from_residual-in_err-file_named.result (of_container c.in_err-file_named.field-0.0) c.from_residual-in_err-file_named.ensures.1)
+    let exit : c.from_residual-in_err-file_named.result ≡ Err (of_container c.in_err-file_named.field-0.0) =
+    exit_is c.from_residual-in_err-file_named.result (of_container c.in_err-file_named.field-0.0) c.from_residual-in_err-file_named.ensures.1 in
+    or_ends aim _ size a (g.T.TagLink.seen c.ask_file.new.link) c.from_residual-in_err-file_named.result (of_container c.in_err-file_named.field-0.0) exit
     (no_file_by size a _ c.as_slice.result.now c.in_err-file_named.field-0.0 next.0 (c.as_slice.ensures.value ∙ next.1) c.in_err-file_named.ensures)
 
 pub returns-clause-opens : goal.returns-clause-opens
@@ -61,8 +64,11 @@ pub returns-in_err-file_named-clause-brings : goal.returns-in_err-file_named-cla
 returns-in_err-file_named-clause-brings g c =
     let a : LinkView = g.T.TagLink.seen c.args.link.now in
     let sel = c.in_ok-select_container.ensures.brings in
-    or_fault _ T4 a (g.T.TagLink.seen c.ask_file.new.link) c.from_residual-in_err-file_named.result (of_container c.in_err-file_named.field-0.0) (exit_is c.from_residual-in_err-file_named.result (of_container c.in_err-file_named.field-0.0) c.from_residual-in_err-file_named.ensures.1)
-    (no_file a (g.T.TagLink.seen c.ask_file.new.link) sel.application sel.container c.in_ok-bytes.bytes.items c.as_slice.result.now c.in_err-file_named.field-0.0 (of_container c.in_err-file_named.field-0.0)
+    let exit : c.from_residual-in_err-file_named.result ≡ Err (of_container c.in_err-file_named.field-0.0) =
+    exit_is c.from_residual-in_err-file_named.result (of_container c.in_err-file_named.field-0.0) c.from_residual-in_err-file_named.ensures.1 in
+    or_fault _ T4 a (g.T.TagLink.seen c.ask_file.new.link) c.from_residual-in_err-file_named.result (of_container c.in_err-file_named.field-0.0) exit
+    (no_file a (g.T.TagLink.seen c.ask_file.new.link) sel.application sel.container c.in_ok-bytes.bytes.items c.as_slice.result.now c.in_err-file_named.field-0.0 (of_container
+    c.in_err-file_named.field-0.0)
     (c.in_ok-bytes.ensures.brings a (sel.application ∷ sel.container ∷ []) sel.under refl) c.as_slice.ensures.value c.in_err-file_named.ensures refl)
 
 pub returns-clause-brings : goal.returns-clause-brings
@@ -88,5 +94,6 @@ returns-in_err-file_named-clause-needs g c =
     let a : LinkView = g.T.TagLink.seen c.args.link.now in
     let sel = c.in_ok-select_container.ensures.brings in
     on_err _ c.from_residual-in_err-file_named.result (container_needs T4 a (g.T.TagLink.seen c.ask_file.new.link) c.in_err-file_named.field-0.0
-    (no_file a (g.T.TagLink.seen c.ask_file.new.link) sel.application sel.container c.in_ok-bytes.bytes.items c.as_slice.result.now c.in_err-file_named.field-0.0 (of_container c.in_err-file_named.field-0.0)
+    (no_file a (g.T.TagLink.seen c.ask_file.new.link) sel.application sel.container c.in_ok-bytes.bytes.items c.as_slice.result.now c.in_err-file_named.field-0.0 (of_container
+    c.in_err-file_named.field-0.0)
     (c.in_ok-bytes.ensures.brings a (sel.application ∷ sel.container ∷ []) sel.under refl) c.as_slice.ensures.value c.in_err-file_named.ensures refl))

@@ -26,7 +26,8 @@ returns-in_err-piece-clause-whole g c size a m is same =
     let k = c.loop-index.index in
     let due = piece_due size a old m c.args.length c.args.most c.div_ceil-pieces.result k is same c.div_ceil-pieces.ensures c.loop-index-test.true in
     let pieces = c.loop-index.invariant.pieces size a m is same in
-    or_ends ToRead (λ message. IsWhole size a (g.T.TagLink.seen c.ask_file.new.link) message.items) size a (g.T.TagLink.seen c.ask_file.new.link) c.from_residual.result c.in_err-piece.field-0.0 (search rules)
+    or_ends ToRead (λ message. IsWhole size a (g.T.TagLink.seen c.ask_file.new.link) message.items) size a (g.T.TagLink.seen c.ask_file.new.link) c.from_residual.result c.in_err-piece.field-0.0
+    (search rules)
     (c.in_err-piece.ensures.next ToRead size (piece_at k) a pieces.under due (piece_command size a old m c.args.length c.args.most k c.min.result is same c.min.ensures))
 
 pub returns-in_err-piece-clause-moves : goal.returns-in_err-piece-clause-moves
@@ -39,8 +40,11 @@ returns-in_err-extend_from_slice-clause-whole g c size a m is same =
     let due = piece_due size a old m c.args.length c.args.most c.div_ceil-pieces.result k is same c.div_ceil-pieces.ensures c.loop-index-test.true in
     let pieces = c.loop-index.invariant.pieces size a m is same in
     let next = c.in_ok-piece.ensures.next ToRead size (piece_at k) a pieces.under due (piece_command size a old m c.args.length c.args.most k c.min.result is same c.min.ensures) in
-    or_ends ToRead (λ message. IsWhole size a (g.T.TagLink.seen c.ask_file.new.link) message.items) size a (g.T.TagLink.seen c.ask_file.new.link) c.from_residual-in_err-extend_from_slice.result fault.Memory
-    (exit_is c.from_residual-in_err-extend_from_slice.result fault.Memory c.from_residual-in_err-extend_from_slice.ensures.1) (under_lost size (piece_at k) a (g.T.TagLink.seen c.ask_file.new.link) next.0)
+    or_ends ToRead (λ message. IsWhole size a (g.T.TagLink.seen c.ask_file.new.link) message.items) size a (g.T.TagLink.seen c.ask_file.new.link) c.from_residual-in_err-extend_from_slice.result
+    fault.Memory
+    let exit : c.from_residual-in_err-extend_from_slice.result ≡ Err fault.Memory =
+    exit_is c.from_residual-in_err-extend_from_slice.result fault.Memory c.from_residual-in_err-extend_from_slice.ensures.1 in
+    exit (under_lost size (piece_at k) a (g.T.TagLink.seen c.ask_file.new.link) next.0)
 
 pub returns-in_err-extend_from_slice-clause-moves : goal.returns-in_err-extend_from_slice-clause-moves
 returns-in_err-extend_from_slice-clause-moves g c = g.met.T.TagLink.goes_on c.args.link.now c.loop-index.link c.ask_file.new.link c.loop-index.invariant.moves c.in_ok-piece.ensures.moves
@@ -141,7 +145,8 @@ returns-in_err-extend_from_slice-clause-brings g c a m is same =
     let h = c.loop-index.invariant.brings a m is same in
     let k = c.loop-index.index in
     let command = part_command a (g.T.TagLink.seen c.loop-index.link) m c.args.length c.args.most k c.min.result c.loop-index.message.items h same c.min.ensures in
-    or_fault (λ message. ReadAll a (g.T.TagLink.seen c.ask_file.new.link) m c.args.length message.items) T4 a (g.T.TagLink.seen c.ask_file.new.link) c.from_residual-in_err-extend_from_slice.result fault.Memory
+    or_fault (λ message. ReadAll a (g.T.TagLink.seen c.ask_file.new.link) m c.args.length message.items) T4 a (g.T.TagLink.seen c.ask_file.new.link)
+    c.from_residual-in_err-extend_from_slice.result fault.Memory
     (exit_is c.from_residual-in_err-extend_from_slice.result fault.Memory c.from_residual-in_err-extend_from_slice.ensures.1)
     (read_lost a (g.T.TagLink.seen c.loop-index.link) (g.T.TagLink.seen c.ask_file.new.link) m c.args.length c.args.most k c.loop-index.message.items c.in_ok-piece.piece.items h
     (c.in_ok-piece.ensures.brings a h.has.ps h.has.under command))

@@ -24,9 +24,12 @@ pub returns-in_err-space_of-clause-opens : goal.returns-in_err-space_of-clause-o
 returns-in_err-space_of-clause-opens g c aim =
     let a : LinkView = g.T.TagLink.seen c.args.link.now in
     let new : LinkView = g.T.TagLink.seen c.ask_next.new.link in
-    subst (λ x. OpensArea aim a new c.ask_next.new.known.items x) (sym (exit_is c.from_residual-in_err-space_of.result (of_container c.in_err-space_of.field-0.0) c.from_residual-in_err-space_of.ensures.1)) (λ size is.
+    let exit : c.from_residual-in_err-space_of.result ≡ Err (of_container c.in_err-space_of.field-0.0) =
+    exit_is c.from_residual-in_err-space_of.result (of_container c.in_err-space_of.field-0.0) c.from_residual-in_err-space_of.ensures.1 in
+    subst (λ x. OpensArea aim a new c.ask_next.new.known.items x) (sym exit) (λ size is.
     (let knows = begun aim size a new c.args.known.now.items c.ask_next.new.known.items is c.requires.begun (c.in_ok-ask_next.ensures.next size is (first_reach size a.state.store is.store)) in
-    first_fault aim size a new c.ask_next.new.known.items c.as_slice.result.now c.in_err-space_of.field-0.0 (of_container c.in_err-space_of.field-0.0) is.store knows c.as_slice.ensures.value c.in_err-space_of.ensures.exact refl))
+    first_fault aim size a new c.ask_next.new.known.items c.as_slice.result.now c.in_err-space_of.field-0.0 (of_container c.in_err-space_of.field-0.0) is.store knows c.as_slice.ensures.value
+    c.in_err-space_of.ensures.exact refl))
 
 pub returns-clause-opens : goal.returns-clause-opens
 returns-clause-opens g c aim size is =
@@ -52,7 +55,9 @@ pub returns-in_err-space_of-clause-sees : goal.returns-in_err-space_of-clause-se
 returns-in_err-space_of-clause-sees g c =
     let a : LinkView = g.T.TagLink.seen c.args.link.now in
     let new : LinkView = g.T.TagLink.seen c.ask_next.new.link in
-    or_fault _ T2 a new c.from_residual-in_err-space_of.result (of_container c.in_err-space_of.field-0.0) (exit_is c.from_residual-in_err-space_of.result (of_container c.in_err-space_of.field-0.0) c.from_residual-in_err-space_of.ensures.1)
+    let exit : c.from_residual-in_err-space_of.result ≡ Err (of_container c.in_err-space_of.field-0.0) =
+    exit_is c.from_residual-in_err-space_of.result (of_container c.in_err-space_of.field-0.0) c.from_residual-in_err-space_of.ensures.1 in
+    or_fault _ T2 a new c.from_residual-in_err-space_of.result (of_container c.in_err-space_of.field-0.0) exit
     (first_faulty a new c.args.known.now.items c.ask_next.new.known.items c.as_slice.result.now c.in_err-space_of.field-0.0 (of_container c.in_err-space_of.field-0.0) c.requires.begun
     (c.in_ok-ask_next.ensures.gains a [] (under_none T2 a) refl) c.as_slice.ensures.value c.in_err-space_of.ensures.exact refl)
 
