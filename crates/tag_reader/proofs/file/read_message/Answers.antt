@@ -40,11 +40,10 @@ returns-in_err-extend_from_slice-clause-whole g c size a m is same =
     let due = piece_due size a old m c.args.length c.args.most c.div_ceil-pieces.result k is same c.div_ceil-pieces.ensures c.loop-index-test.true in
     let pieces = c.loop-index.invariant.pieces size a m is same in
     let next = c.in_ok-piece.ensures.next ToRead size (piece_at k) a pieces.under due (piece_command size a old m c.args.length c.args.most k c.min.result is same c.min.ensures) in
-    or_ends ToRead (λ message. IsWhole size a (g.T.TagLink.seen c.ask_file.new.link) message.items) size a (g.T.TagLink.seen c.ask_file.new.link) c.from_residual-in_err-extend_from_slice.result
-    fault.Memory
     let exit : c.from_residual-in_err-extend_from_slice.result ≡ Err fault.Memory =
     exit_is c.from_residual-in_err-extend_from_slice.result fault.Memory c.from_residual-in_err-extend_from_slice.ensures.1 in
-    exit (under_lost size (piece_at k) a (g.T.TagLink.seen c.ask_file.new.link) next.0)
+    or_ends ToRead (λ message. IsWhole size a (g.T.TagLink.seen c.ask_file.new.link) message.items) size a (g.T.TagLink.seen c.ask_file.new.link) c.from_residual-in_err-extend_from_slice.result
+    fault.Memory exit (under_lost size (piece_at k) a (g.T.TagLink.seen c.ask_file.new.link) next.0)
 
 pub returns-in_err-extend_from_slice-clause-moves : goal.returns-in_err-extend_from_slice-clause-moves
 returns-in_err-extend_from_slice-clause-moves g c = g.met.T.TagLink.goes_on c.args.link.now c.loop-index.link c.ask_file.new.link c.loop-index.invariant.moves c.in_ok-piece.ensures.moves
