@@ -13,7 +13,6 @@ pub mod CallTurns
 pub mod Own
 pub mod OwnAlike
 pub mod OwnShown
-pub mod Resting
 pub mod Spoken
 pub mod Moving
 pub mod Paired
@@ -22,3 +21,18 @@ pub mod Growing
 pub mod SameSo
 pub mod Begun
 pub mod Giving
+pub mod FarCourse
+pub mod FarAlone
+pub mod FarShows
+pub mod FarSolo
+pub mod FarFit
+pub mod FarRun
+pub mod FarShown
+pub mod FarSame
+pub mod FarLaw
+pub mod FarWalk
+pub mod FarPayloads
+pub mod FarWalked
+pub mod FarClosing
+pub mod FarFree
+pub mod FarMost
