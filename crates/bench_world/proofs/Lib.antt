@@ -122,6 +122,9 @@ pub mod CompleteRaws
 pub mod RawSends
 pub mod SizedTargets
 pub mod SizedEnds
+pub mod SizedItems
+pub mod SizedGives
+pub mod SizedServer
 pub mod SizedWorld
 pub mod SizedFronts
 pub mod SizedInitiator

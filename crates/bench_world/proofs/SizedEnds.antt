@@ -16,7 +16,7 @@ use Rattle.link_numbers.proofs.EndTakes.{after_has, taken_has}
 use Rattle.bench_world.specs.Cutting.{IsShort}
 
 -- a MIUX is less than 2,048
-abbrev IsLess : ℕ → Type 0
+abbrev pub IsLess : ℕ → Type 0
 IsLess n = n < miux_end
 
 abbrev IsSmall : Param → Type 0
@@ -54,7 +54,7 @@ param_small k v =
     (if_small (k == 9) _ _ (two_small SdRes (λ x y. tt) v) tt))))))))
 
 -- so are all of a list that could be read
-abbrev AllSmall : {E : Type 0} → Result (List Param) E → Type 0
+abbrev pub AllSmall : {E : Type 0} → Result (List Param) E → Type 0
 AllSmall (Err e) = Unit {0}
 AllSmall (Ok ps) = IfSome (last_of miux_in ps) IsLess
 
@@ -71,7 +71,7 @@ taken_small (Some p) known at r h k = onto_small p r h k
 taken_small None true at r h k = tt
 taken_small None false at r h k = k
 
-params_small : (xs : List ℕ) (m at : ℕ) → AllSmall (params xs m at)
+pub params_small : (xs : List ℕ) (m at : ℕ) → AllSmall (params xs m at)
 params_small [] zero at = tt
 params_small [] (suc m) at = tt
 params_small (k ∷ []) zero at = tt
@@ -100,10 +100,6 @@ behind_fits (Some rest) = said_fits (params rest 0 magic_length) (params_small r
 pub general_fits : (b : List ℕ) → IsShort (miu_said (general b))
 general_fits b = behind_fits (unmasked b)
 
--- so it is of an end once it took a payload and gave one
-pub took_short : {S : Type 0} (m : Serving S) (l : LlcState S) (payload : List ℕ) (n : ℕ) → IsShort l.far_miu → IsShort (after_giving m n (taken_from m l payload)).far_miu
-took_short m l payload n h = subst IsShort (sym (after_has m l.far_miu n (taken_from m l payload) (taken_has m l.far_miu l payload refl))) h
-
--- and once it gave one and took one
+-- so it is of an end once it gave a payload and took one
 pub given_short : {S : Type 0} (m : Serving S) (l : LlcState S) (n : ℕ) (payload : List ℕ) → IsShort l.far_miu → IsShort (taken_from m (after_giving m n l) payload).far_miu
 given_short m l n payload h = subst IsShort (sym (taken_has m l.far_miu (after_giving m n l) payload (after_has m l.far_miu n l refl))) h

@@ -1,5 +1,5 @@
 -- Whatever a command does, both ends of a bench's links cut payloads as before, and have none that is too long.
-use Rattle.std.proofs.Common.{◌≤◌, ◌*◌, nat_eq, ℕ, List, [], ◌∷◌, Option, Some, None, sym, subst, arith}
+use Rattle.std.proofs.Common.{◌≤◌, ◌*◌, nat_eq, ℕ, List, [], ◌∷◌, Option, Some, None, sym, subst, arith, refl}
 use Rattle.std.specs.Prelude.{IfSome, option_map}
 use Rattle.std.specs.Cmp.Lexicographic.{pointwise}
 use Rattle.std.specs.List.{AllByRecursion}
@@ -23,7 +23,7 @@ use Rattle.bench_world.specs.declared.entry.Answer.{Answer}
 use Rattle.bench_world.specs.declared.entry.Answer.TheVariants as answers
 use Rattle.bench_world.specs.Asked.{asked_on_link}
 use Rattle.bench_world.specs.Calls.{IfLinked, asked_behind, link_behind, stands_on}
-use Rattle.bench_world.specs.Cutting.{CutsReplies, CutsWell, FirstCuts, FrontsCut, GivesShort, LinkCuts, MidstCuts, WorldCuts}
+use Rattle.bench_world.specs.Cutting.{CutsReplies, CutsWell, FirstCuts, FrontsCut, GivesShort, LinkCuts, MidstCuts, RepliesShort, WorldCuts}
 use Rattle.bench_world.specs.Legal.{Joins, State, begun, changed, is_linked_to, link_alone, link_left, memory_of, state_after}
 use Rattle.bench_world.specs.Linking.{link_if}
 use Rattle.bench_world.specs.Links.{OpenLink}
@@ -33,6 +33,7 @@ use Rattle.bench_world.specs.World.{FarEnd, WholeWorld, bench_air, with_listener
 use Rattle.bench_world.proofs.SizedCalls.{CallSized, call_sized}
 use Rattle.bench_world.proofs.SizedDevices.{both_keep, busy_sized, locked_sized}
 use Rattle.bench_world.proofs.SizedEnds.{general_fits}
+use Rattle.bench_world.proofs.SizedServer.{left_short, reply_short}
 use Rattle.bench_world.proofs.SizedTargets.{piece_fits}
 use Rattle.bench_world.proofs.SizedWorld.{all_more, first_so, later_so, replay_so}
 
@@ -73,7 +74,7 @@ less_end id (d ∷ ds) os h =
 
 offered_one : (key value : List ℕ) (o : Option FarEnd) → Above o → Above (option_map (end_offered key value) o)
 offered_one key value None h = tt
-offered_one key value (Some l) h = h
+offered_one key value (Some l) h = record { miu = h.miu; queue = h.queue; served = h.served; own = h.own }
 
 offered_end : (key value id : List ℕ) (ds : List Device) (os : List (Option FarEnd)) → AllByRecursion Above os → AllByRecursion Above (with_place_changed (end_offered key value) id ds os)
 offered_end key value id [] os h = h
@@ -90,7 +91,8 @@ changed_world s (PlaceT3 id blocks head) h = placed s.world (new_t3 id (memory_o
 changed_world s (PlaceT4 id code container head) h = placed s.world (new_t4 id code container (memory_of (file_size container) head)) None h (piece_fits initiator_lr) tt
 changed_world s (PlaceT5 id blocks size head) h = placed s.world (new_t5 id size (memory_of (size * blocks) head)) None h (piece_fits initiator_lr) tt
 changed_world s (PlacePeer id lr miu rw limit) h =
-    placed s.world (new_peer id lr miu) (Some (new_end miu rw limit)) h (piece_fits initiator_lr) (let z : 128 ≤ 2176 = omega arith in z)
+    placed s.world (new_peer id lr miu) (Some (new_end miu rw limit)) h (piece_fits initiator_lr)
+    (record { miu = (let z : 128 ≤ 2176 = omega arith in z); queue = tt; served = tt; own = refl })
 changed_world s (Lock id block) h = changed_one s.world (device_locked block) (locked_sized block) (bytes_of id) h
 changed_world s (Busy id count times) h = changed_one s.world (device_busy count times) (busy_sized count times) (bytes_of id) h
 changed_world s (Offer id key value) h = record { targets = h.targets; ends = offered_end key value (bytes_of id) s.world.field.listeners s.world.fars h.ends }
@@ -147,6 +149,9 @@ left_link (Some asked) s joins c es told h = asked_link asked told s.link joins.
 -- in the midst of a command, and behind it
 pub midst_cuts : MidstCuts
 midst_cuts s joins c es h = let k = changed_world s c h.world in happened (begun s joins c) es (record { targets = k.targets; ends = k.ends })
+
+pub replies_short : RepliesShort
+replies_short l payload n h = (reply_short l payload n h, left_short l payload n h)
 
 pub first_cuts : FirstCuts
 first_cuts = record { world = record { targets = tt; ends = tt }; link = tt }
