@@ -120,6 +120,14 @@ pub mod RawStories
 pub mod RawStores
 pub mod CompleteRaws
 pub mod RawSends
+pub mod AlikeDevices
+pub mod AlikeEnds
+pub mod AlikeWorlds
+pub mod AlikeTells
+pub mod AlikeChanged
+pub mod AlikeFronts
+pub mod AlikeLaws
+pub mod AlikeStates
 pub mod SizedTargets
 pub mod SizedEnds
 pub mod SizedItems
@@ -127,7 +135,5 @@ pub mod SizedGives
 pub mod SizedServer
 pub mod SizedWorld
 pub mod SizedFronts
-pub mod SizedInitiator
-pub mod SizedCalls
 pub mod SizedDevices
 pub mod SizedStates

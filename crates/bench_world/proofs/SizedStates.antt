@@ -1,5 +1,5 @@
 -- Whatever a command does, both ends of a bench's links cut payloads as before, and have none that is too long.
-use Rattle.std.proofs.Common.{◌≤◌, ◌*◌, nat_eq, ℕ, List, [], ◌∷◌, Option, Some, None, sym, subst, arith, refl}
+use Rattle.std.proofs.Common.{◌≡◌, ◌≤◌, ◌*◌, nat_eq, ℕ, List, [], ◌∷◌, Option, Some, None, sym, subst, arith, refl}
 use Rattle.std.specs.Prelude.{IfSome, option_map}
 use Rattle.std.specs.Cmp.Lexicographic.{pointwise}
 use Rattle.std.specs.List.{AllByRecursion}
@@ -10,8 +10,9 @@ use Rattle.far_air.specs.FarEnds.{first_far, later_fars}
 use Rattle.llcp_link.proofs.Ranged.{either}
 use Rattle.peer_air.specs.PeerFars.{peer_ends}
 use Rattle.snep_core.specs.Talk.{Ends}
-use Rattle.link_calls.specs.Asking.{Call, Closes, Does, LinkAsking}
+use Rattle.link_calls.specs.Asking.{Call, Closes, Does, LinkAsking, call_begins}
 use Rattle.link_calls.specs.CallDue.{CallStanding, Comes}
+use Rattle.link_numbers.proofs.Resting.{call_within, comes_rested, comes_within, waiting_rested}
 use Rattle.bench_script.specs.DeviceIds.{bytes_of}
 use Rattle.bench_script.specs.declared.command.Command.{Command}
 use Rattle.bench_script.specs.declared.command.Command.TheVariants.{PlaceT2, PlaceT3, PlaceT4, PlaceT5, PlacePeer, Lock, Busy, Offer, Remove, Find, Crowd, Poll3, Read, Read3, Write, Write3, Link, Forge, Raw}
@@ -30,7 +31,6 @@ use Rattle.bench_world.specs.Links.{OpenLink}
 use Rattle.bench_world.specs.Obeying.{Machines, ObeyedBy, state_at, untraced}
 use Rattle.bench_world.specs.Peers.{end_offered, new_end, placed_under, with_place_changed, without_place}
 use Rattle.bench_world.specs.World.{FarEnd, WholeWorld, bench_air, with_listeners, with_one_more}
-use Rattle.bench_world.proofs.SizedCalls.{CallSized, call_sized}
 use Rattle.bench_world.proofs.SizedDevices.{both_keep, busy_sized, locked_sized}
 use Rattle.bench_world.proofs.SizedEnds.{general_fits}
 use Rattle.bench_world.proofs.SizedServer.{left_short, reply_short}
@@ -121,7 +121,7 @@ changed_link s (Raw id frames) h = tt
 changed_link s c h = h
 
 opened_link : (number : Option ℕ) (d : Option Device) (miu rw : ℕ) → Linked (link_if number d miu rw)
-opened_link (Some peer) (Some d) miu rw = record { pieces = piece_fits (device_target d).lr; client = general_fits (device_target d).general }
+opened_link (Some peer) (Some d) miu rw = record { rests = waiting_rested (device_target d).lr; client = general_fits (device_target d).general }
 opened_link (Some peer) None miu rw = tt
 opened_link None d miu rw = tt
 
@@ -131,15 +131,17 @@ alone_link s (Link id miu rw) None h = tt
 alone_link s (Link id miu rw) (Some a) h = tt
 alone_link s c told h = changed_link s c h
 
-behind_link : (l : OpenLink) (call : Call) (x : CallStanding) → CallSized x → Linked (link_behind l call x)
-behind_link l call (Comes (Ends jobs client) i) h = record { pieces = h.1; client = h.0 }
-behind_link l call x h = tt
+behind_link : (l : OpenLink) (call : Call) (joins : List ℕ) (es : List Event) → LinkCuts l → (x : CallStanding) → stands_on l joins call es ≡ x → Linked (link_behind l call x)
+behind_link l call joins es h (Comes (Ends jobs client) i) e = record {
+  rests = comes_rested joins (call_begins l.client call) (Ends jobs client) l.initiator i (receptions es) h.rests e;
+  client = comes_within joins (call_begins l.client call) (Ends jobs client) l.initiator i (receptions es) (call_within l.client call h.client) e;
+}
+behind_link l call joins es h x e = tt
 
 asked_link : (asked : LinkAsking) (told : Option Answer) (o : Option OpenLink) (joins : List ℕ) (es : List Event) → Linked o → Linked (asked_behind asked told o joins es)
 asked_link (Does call) None o joins es h = tt
 asked_link (Does call) (Some a) None joins es h = tt
-asked_link (Does call) (Some a) (Some l) joins es h =
-    behind_link l call (stands_on l joins call es) (call_sized joins l.client call l.initiator (receptions es) h.client h.pieces)
+asked_link (Does call) (Some a) (Some l) joins es h = behind_link l call joins es h (stands_on l joins call es) refl
 asked_link Closes told o joins es h = tt
 
 left_link : (o : Option LinkAsking) (s : State) (joins : Joins) (c : Command) (es : List Event) (told : Option Answer) → Linked s.link → Linked (link_left o s joins c es told)

@@ -8,6 +8,7 @@ use Rattle.llcp_pdu.specs.Writing.{part_bytes}
 use Rattle.llcp_conn.specs.Conn.{ConnState}
 use Rattle.llcp_link.specs.State.{LlcState, Queued}
 use Rattle.peer_air.specs.PeerFars.{peer_ends}
+use Rattle.link_numbers.specs.OwnShows.{IsWithin, Rested}
 use Rattle.bench_script.specs.declared.command.Command.{Command}
 use Rattle.bench_devices.specs.declared.device.Device.{Device}
 use Rattle.bench_devices.specs.Device.{device_end}
@@ -50,10 +51,10 @@ pub record WorldCuts (w : WholeWorld) : Type 0 where
   pub targets : AllByRecursion CutsReplies w.field.listeners
   pub ends : AllByRecursion (λ (o : Option FarEnd). IfSome o GivesShort) w.fars
 
--- and so does the initiator of a link; its client knows an MIU that is short
+-- and so does the initiator of a link, as it rests; its client has no payload that is too long
 pub record LinkCuts (l : OpenLink) : Type 0 where
-  pub pieces : IsPiece l.initiator.core.most
-  pub client : IsShort l.client.far_miu
+  pub rests : Rested l.initiator.core
+  pub client : IsWithin l.client
 
 pub record CutsWell (s : State) : Type 0 where
   pub world : WorldCuts s.world

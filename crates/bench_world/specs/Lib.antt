@@ -44,3 +44,4 @@ pub mod Stories
 pub mod ByPayloads
 pub mod LinkLaw
 pub mod Gains
+pub mod Alike

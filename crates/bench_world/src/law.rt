@@ -1,6 +1,7 @@
 //! That a command answers what it is asked for where noise doesn't keep it from that. The calls do nothing: they stand
 //! for these laws.
 
+ghost use Rattle.bench_world.specs.Alike.{AlikeAccept, AlikeAnswers, AlikeFronts, AlikeSteps};
 ghost use Rattle.bench_world.specs.Behind.{WrittenIsRead, OneOfThreeIsRead, BrokenIsRead, FirstBrokenIsRead};
 ghost use Rattle.bench_world.specs.Completing.{ReadsComplete, WritesComplete, ShownIsWritten, ValidIsWritten, FindsComplete, TagsComplete, ThreesComplete};
 ghost use Rattle.bench_world.specs.CompletingLinks.{AskedComplete, PutsComplete, SeveralComplete, GetsComplete, LookupsComplete, UnlinksComplete, ValidIsOk, LinkingsComplete, KindsTold};
@@ -80,6 +81,18 @@ pub fn reads_behind()
 /// Which lines of a script are taken is decided by the lines alone, not by what was sent.
 pub fn lines_decide()
     ensures { LinesDecide }
+{}
+
+/// What doesn't show decides nothing later. Two states are alike where the same link is open, the field is as lit, the same
+/// fates are left, the peers and their links are the same, and so is all that the dark leaves of devices and far ends; and,
+/// where a link is open, all else too. Alike states accept the same commands, and a command that was cut off, or a legal
+/// step, of one is one of the other and leaves both alike. And what happened in a step of either decides its answer, as long
+/// as what was asked on the open link is told the same by the numbers of PDUs.
+pub fn alike_states()
+    ensures accept { AlikeAccept }
+    ensures fronts { AlikeFronts }
+    ensures steps { AlikeSteps }
+    ensures answers { AlikeAnswers }
 {}
 
 /// A stored report can be read back: two events of one technology have one line only where they are equal, and no

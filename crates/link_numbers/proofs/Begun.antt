@@ -1,249 +1,120 @@
--- Two initiators carry payloads that begin the same, under the same receptions: while the requests bring no more than that, they send the same.
-use Rattle.std.proofs.Common.{◌≡◌, ◌<◌, ◌≤◌, ◌⊎◌, inl, inr, ℕ, ◌+◌, nat_lt, Bool, true, false, List, [], ◌∷◌, ◌++◌, length, take, drop, Option, Some, None, if◌then◌else◌, refl, sym, ap, subst, ◌∙◌, arith, append_assoc, length-append}
-use Rattle.std.proofs.Math.Seq.{take-append_seam}
-use Rattle.std.proofs.lemmas.Bool.{cases_lt, lt-ltb}
-use Rattle.std.proofs.lemmas.List.{append_cancel_left, length-take}
+-- While of a reply only a front comes, a target with another reply of that front does the same.
+use Rattle.std.proofs.Common.{◌≡◌, ℕ, ◌<◌, ◌≤◌, nat_lt, true, false, List, [], ◌∷◌, ◌++◌, length, take, drop, Option, Some, None, refl, sym, ap, ◌∙◌, subst, arith, append_assoc, length-append}
+use Rattle.std.proofs.lemmas.Bool.{ltb-true}
+use Rattle.std.proofs.lemmas.List.{take-append-drop, length-take-le, append_cancel_left, append_cancel_right}
+use Rattle.std.proofs.Math.Seq.{drop-append_seam}
 use Rattle.nfc_base.specs.Signal.{Signal}
-use Rattle.nfc_base.specs.declared.carrier.EndCause.{EndCause}
-use Rattle.air_core.specs.Conversation.{Note, Asks}
-use Rattle.dep_pdu.specs.declared.frame.DepFrame.TheVariants.{Ack, Nack}
-use Rattle.dep_link.specs.declared.initiator.Phase.{Phase}
-use Rattle.dep_link.specs.declared.initiator.Phase.TheVariants.{Asked, Nacked, Attending, Free, EndedSixBad, EndedProtocol}
-use Rattle.dep_link.specs.Frames.{after, air_frame, information, piece}
+use Rattle.dep_pdu.specs.declared.frame.DepFrame.{DepFrame}
+use Rattle.dep_link.specs.declared.target.TargetStep.{TargetStep}
+use Rattle.dep_link.specs.declared.target.TargetStep.TheVariants as steps
+use Rattle.dep_link.specs.Exchange.{before_frames}
+use Rattle.dep_link.specs.Frames.{spelled}
+use Rattle.dep_link.specs.Initiator.{InitState}
 use Rattle.dep_link.specs.Payloads.{Cut}
-use Rattle.dep_link.specs.Initiator.{InitState, asked, sent}
-use Rattle.dep_link.specs.Asking.{Standing, Waits, Broken, Astray, due_at, noted}
-use Rattle.llcp_link.specs.Fronts.{IsFrontOf}
-use Rattle.link_numbers.proofs.Cuts.{Grows, open_, closed, at, behind, cuts, grown}
-use Rattle.link_numbers.proofs.Turns.{Along, Turn, asked_in, heard_in, on}
-use Rattle.link_numbers.proofs.Moving.{Again, Fails, InTimes, Kind, Onward, Wanders, again, frame_due, hears_more, kind_of, made, onward, same_kind}
-use Rattle.link_numbers.proofs.Places.{Fit, Follows, Midst, Unsent, again_midst, midst_follows, onward_fit, onward_rest, onward_unsent, sent_again, sent_last, sent_more}
+use Rattle.dep_link.specs.Replies.{cut_up}
+use Rattle.dep_link.specs.Target.{TargetState, target_table}
+use Rattle.link_numbers.proofs.Spoken.{Speaks, none_said, some_said, all_said}
+use Rattle.link_numbers.proofs.Paired.{Paired, Answering, Passed, passed}
+use Rattle.link_numbers.proofs.Growing.{chain_grows, payloads_grow}
+use Rattle.link_numbers.proofs.SameSo.{Alike, SameTurn, keeps, sends, anew, same_turn}
 
--- they differ at most in the bytes of the payload
-pub record Twins (i j : InitState) : Type 0 where
-  pub number : j.core.number ≡ i.core.number
-  pub most : j.core.most ≡ i.core.most
-  pub plain : j.core.extension ≡ i.core.extension
-  pub phase : j.phase ≡ i.phase
-  pub bads : j.bads ≡ i.bads
+-- Of the reply under way the frames vs that are ahead bring these bytes more and not all, and two targets have them alike.
+pub record Begun (vs : List DepFrame) (t u : TargetState) (U : Cut) (past : List (List ℕ)) : Type 0 where
+  pub none_whole : length (cut_up U vs).payloads ≡ length past
+  pub xs : List ℕ
+  pub ahead : (cut_up U vs).chain ≡ U.chain ++ xs
+  pub alike : Alike xs t u
 
-twin_fit : (i j : InitState) → Twins i j → Fit i.core → Fit j.core
-twin_fit i j w fit = record {
-  number = subst (λ n. n < 4) (sym w.number) fit.number;
-  some = subst (λ n. 2 ≤ n) (sym w.most) fit.some;
-  fits = subst (λ n. n ≤ 251) (sym w.most) fit.fits;
-  times = subst InTimes (sym w.plain) fit.times;
-}
+-- frames one after another
+pub cut_up_then : (c : Cut) (o : Option DepFrame) (vs : List DepFrame) → cut_up c (before_frames o vs) ≡ cut_up (cut_up c (before_frames o [])) vs
+cut_up_then c None vs = refl
+cut_up_then c (Some v) vs = refl
 
-again_twins : (i j : InitState) (phase : Phase) (bads : ℕ) → Twins i j → Twins (again i phase bads) (again j phase bads)
-again_twins i j phase bads w = record { number = w.number; most = w.most; plain = w.plain; phase = refl; bads = refl }
+-- What was said, and what is left, are the reply, unless all of it was said.
+pub said_left : (t : TargetState) (r : List ℕ) (past : List (List ℕ)) (U : Cut) → Speaks t r past U → t.unsent ≡ true → (r ≡ U.chain ++ t.left) × (U.payloads ≡ past)
+said_left t r past U (none_said due unsent left is) n = (sym left ∙ ap (λ (c : Cut). c.chain ++ t.left) (sym is), ap (λ (c : Cut). c.payloads) is)
+said_left t r past U (some_said due unsent xs whole size rest is) n = (whole ∙ ap (λ (c : Cut). c.chain ++ t.left) (sym is), ap (λ (c : Cut). c.payloads) is)
+said_left t r past U (all_said due unsent left is) n = absurd (let e : true ≡ false = sym n ∙ unsent in cc)
 
-onward_twins : (i j : InitState) → Twins i j → Twins (onward i) (onward j)
-onward_twins i j w = record { number = ap after w.number; most = w.most; plain = refl; phase = refl; bads = refl }
+-- not all was said where no payload more is whole, also of what comes
+pub not_all : (t : TargetState) (r : List ℕ) (past : List (List ℕ)) (U : Cut) (vs : List DepFrame) → Speaks t r past U → length (cut_up U vs).payloads ≡ length past → t.unsent ≡ true
+not_all t r past U vs (none_said due unsent left is) e = unsent
+not_all t r past U vs (some_said due unsent xs whole size rest is) e = unsent
+not_all t r past U vs (all_said due unsent left is) e =
+    let g = payloads_grow U vs in
+    let all : (cut_up U vs).payloads ≡ (past ++ r ∷ []) ++ g.0 = g.1 ∙ ap (λ (c : Cut). c.payloads ++ g.0) is in
+    let p = ap length all in
+    let q = length-append (past ++ r ∷ []) g.0 in
+    let s = length-append past (r ∷ []) in
+    absurd (omega (arith, e, p, q, s))
 
--- the piece that is under way, and the frame by which it is
-midst_asked : (i : InitState) (xs ys : List ℕ) → Midst i xs ys → asked i.core None ≡ information false true i.core.number xs
-midst_asked i xs ys m =
-    let l : length i.core.rest ≡ length xs + length ys = ap length m.is ∙ length-append xs ys in
-    let f = m.full in
-    let s = m.some in
-    let more : nat_lt i.core.most (length i.core.rest) ≡ true = lt-ltb i.core.most (length i.core.rest) (omega (arith, l, f, s)) in
-    let front : take i.core.most i.core.rest ≡ xs = ap (take i.core.most) m.is ∙ ap (λ n. take n (xs ++ ys)) (sym m.full) ∙ take-append_seam xs ys in
-    ap (λ (d : Bool). if d then Ack false i.core.number else piece false i.core.most i.core.number i.core.rest) m.sending
-    ∙ ap (λ t. information false t i.core.number (take i.core.most i.core.rest)) more ∙ ap (information false true i.core.number) front
+module _ (i : InitState) (f : Signal) (t u : TargetState) (U : Cut) (past : List (List ℕ)) (r : List ℕ) (a : Signal) (vs : List DepFrame) where
+  -- the cut with the answer
+  abbrev V : Cut
+  V = cut_up U (before_frames (spelled a) [])
 
-midst_due : (i j : InitState) (xs us vs : List ℕ) → Twins i j → Midst i xs us → Midst j xs vs → frame_due j ≡ frame_due i
-midst_due i j xs us vs w m l = ap (λ p. air_frame (sent p j.core)) w.phase ∙ ap air_frame (by i.phase)
-  where
-    plainly : (o : Option ℕ) → asked j.core o ≡ asked i.core o
-    plainly (Some times) = refl
-    plainly None = midst_asked j xs vs l ∙ ap (λ n. information false true n xs) w.number ∙ sym (midst_asked i xs us m)
+  ahead_is : cut_up U (before_frames (spelled a) vs) ≡ cut_up V vs
+  ahead_is = cut_up_then U (spelled a) vs
 
-    requests : asked j.core j.core.extension ≡ asked i.core i.core.extension
-    requests = ap (asked j.core) w.plain ∙ plainly i.core.extension
+  module _ (p : Paired i f t U past (Some r)) (b : Begun (before_frames (spelled a) vs) t u U past) (does : (target_table t f).does ≡ steps.Reply a) where
+    abbrev t1 : TargetState
+    t1 = (target_table t f).state
 
-    by : (phase : Phase) → sent phase j.core ≡ sent phase i.core
-    by Asked = requests
-    by Nacked = ap Nack w.number
-    by Attending = refl
-    by Free = refl
-    by EndedSixBad = requests
-    by EndedProtocol = requests
+    abbrev u1 : TargetState
+    u1 = (target_table u f).state
 
--- The piece was sent, and what these frames bring of the payload behind it both have, and more.
-pub record BothMidst (fs : List Signal) (i j : InitState) : Type 0 where
-  pub chain : List ℕ
-  pub piece : List ℕ
-  pub ahead : List ℕ
-  pub first : List ℕ
-  pub second : List ℕ
-  pub first_at : Midst i piece first
-  pub second_at : Midst j piece second
-  pub none : (cuts (at (after i.core.number) chain) fs).payloads ≡ []
-  pub brings : (cuts (at (after i.core.number) chain) fs).chain ≡ chain ++ ahead
-  pub first_has : IsFrontOf ahead first
-  pub second_has : IsFrontOf ahead second
+    answering : Answering i a t1 V past (Some r)
+    answering = subst (λ (d : TargetStep). Passed i t1 U past (Some r) d) does (passed i f t U past (Some r) p)
 
--- or the piece wasn't sent yet
-pub record BothUnsent (fs : List Signal) (i j : InitState) : Type 0 where
-  pub chain : List ℕ
-  pub ahead : List ℕ
-  pub first_at : Unsent i
-  pub second_at : Unsent j
-  pub none : (cuts (at i.core.number chain) fs).payloads ≡ []
-  pub brings : (cuts (at i.core.number chain) fs).chain ≡ chain ++ ahead
-  pub first_has : IsFrontOf ahead i.core.rest
-  pub second_has : IsFrontOf ahead j.core.rest
+    none_whole : length (cut_up V vs).payloads ≡ length past
+    none_whole = ap (λ (c : Cut). length c.payloads) (sym ahead_is) ∙ b.none_whole
 
-abbrev pub Both : List Signal → InitState → InitState → Type 0
-Both fs i j = BothUnsent fs i j ⊎ BothMidst fs i j
+    now : (r ≡ U.chain ++ t.left) × (U.payloads ≡ past)
+    now = said_left t r past U p.said b.alike.unsent
 
--- a piece that both have is sent by both
-at_piece : (i : InitState) (xs zs rest : List ℕ) (front : IsFrontOf (xs ++ zs) rest) → i.core.rest ≡ rest → i.core.drawing ≡ false → length xs ≡ i.core.most
-    → Midst i xs (zs ++ front.byte ∷ front.more)
-at_piece i xs zs rest front e sending full = record {
-  sending = sending;
-  is = e ∙ front.is ∙ append_assoc xs zs (front.byte ∷ front.more);
-  full = full;
-  some = let l = length-append zs (front.byte ∷ front.more) in omega (arith, l);
-}
+    unsent : t1.unsent ≡ true
+    unsent = not_all t1 r past V vs answering.said none_whole
 
-sent_both : (i j : InitState) (fs : List Signal) → Fit i.core → Twins i j → BothUnsent (frame_due i ∷ fs) i j → BothMidst fs i j
-sent_both i j fs fit w b = go (cases_lt i.core.most (length i.core.rest))
-  where
-    n : ℕ
-    n = i.core.number
+    next : (r ≡ V.chain ++ t1.left) × (V.payloads ≡ past)
+    next = said_left t1 r past V answering.said unsent
 
-    xs : List ℕ
-    xs = take i.core.most i.core.rest
+    ahead : (cut_up V vs).chain ≡ U.chain ++ b.xs
+    ahead = ap (λ (c : Cut). c.chain) (sym ahead_is) ∙ b.ahead
 
-    with_more : (c : Cut) → c ≡ cuts (at (after n) (b.chain ++ xs)) fs → Grows (b.chain ++ xs) c → c.payloads ≡ [] → c.chain ≡ b.chain ++ b.ahead → i.core.most < length i.core.rest
-        → BothMidst fs i j
-    with_more c is (open_ zs none more) empty brings h =
-        let ahead : b.ahead ≡ xs ++ zs = append_cancel_left b.chain b.ahead (xs ++ zs) (sym brings ∙ more ∙ append_assoc b.chain xs zs) in
-        let f : IsFrontOf (xs ++ zs) i.core.rest = subst (λ ys. IsFrontOf ys i.core.rest) ahead b.first_has in
-        let s : IsFrontOf (xs ++ zs) j.core.rest = subst (λ ys. IsFrontOf ys j.core.rest) ahead b.second_has in
-        let full : length xs ≡ i.core.most = let l = length-take i.core.most i.core.rest in omega (arith, h, l) in
-        record {
-          chain = b.chain ++ xs;
-          piece = xs;
-          ahead = zs;
-          first = zs ++ f.byte ∷ f.more;
-          second = zs ++ s.byte ∷ s.more;
-          first_at = at_piece i xs zs i.core.rest f refl b.first_at.sending full;
-          second_at = at_piece j xs zs j.core.rest s refl b.second_at.sending (full ∙ sym w.most);
-          none = ap (λ (d : Cut). d.payloads) (sym is) ∙ empty;
-          brings = ap (λ (d : Cut). d.chain) (sym is) ∙ more;
-          first_has = record { byte = f.byte; more = f.more; is = refl };
-          second_has = record { byte = s.byte; more = s.more; is = refl };
-        }
-    with_more c is (closed z zs ps e) empty brings h = absurd (let k : ((b.chain ++ xs) ++ z ∷ zs) ∷ ps ≡ [] = sym e ∙ empty in cc)
+    abbrev Next : Type 0
+    Next = ((target_table u f).does ≡ steps.Reply a) × Begun vs t1 u1 V past
 
-    go : (i.core.most < length i.core.rest) ⊎ (length i.core.rest ≤ i.core.most) → BothMidst fs i j
-    go (inl h) =
-        let c : Cut = cuts (at (after n) (b.chain ++ xs)) fs in
-        let e : cuts (at n b.chain) (frame_due i ∷ fs) ≡ c = sent_more i fit b.chain fs b.first_at h in
-        with_more c refl (grown (after n) (b.chain ++ xs) fs) (ap (λ (d : Cut). d.payloads) (sym e) ∙ b.none) (ap (λ (d : Cut). d.chain) (sym e) ∙ b.brings) h
-    go (inr h) =
-        let e : cuts (at n b.chain) (frame_due i ∷ fs) ≡ behind ((b.chain ++ i.core.rest) ∷ []) (cuts (at (after n) []) fs) = sent_last i fit b.chain fs b.first_at h in
-        absurd (let k : (b.chain ++ i.core.rest) ∷ (cuts (at (after n) []) fs).payloads ≡ [] = sym (ap (λ (d : Cut). d.payloads) e) ∙ b.none in cc)
+    -- nothing of the reply was sent
+    kept : (target_table t f).does ≡ (target_table u f).does → t1.left ≡ t.left → Alike b.xs t1 u1 → Next
+    kept e l h =
+        let chain : U.chain ≡ V.chain =
+        append_cancel_right U.chain V.chain t.left (sym now.0 ∙ next.0 ∙ ap (λ zs. V.chain ++ zs) l) in
+        (sym e ∙ does, record { none_whole = none_whole; xs = b.xs; ahead = ahead ∙ ap (λ zs. zs ++ b.xs) chain; alike = h })
 
-sent_still : (i j : InitState) (fs : List Signal) → Fit i.core → BothMidst (frame_due i ∷ fs) i j → BothMidst fs i j
-sent_still i j fs fit b =
-    let e : cuts (at (after i.core.number) b.chain) (frame_due i ∷ fs) ≡ cuts (at (after i.core.number) b.chain) fs = sent_again i fit b.chain fs in
-    record {
-      chain = b.chain;
-      piece = b.piece;
-      ahead = b.ahead;
-      first = b.first;
-      second = b.second;
-      first_at = b.first_at;
-      second_at = b.second_at;
-      none = ap (λ (d : Cut). d.payloads) (sym e) ∙ b.none;
-      brings = ap (λ (d : Cut). d.chain) (sym e) ∙ b.brings;
-      first_has = b.first_has;
-      second_has = b.second_has;
-    }
+    -- a piece of it was
+    more : t1.left ≡ drop t.most t.left → t1.unsent ≡ nat_lt t.most (length t.left)
+        → (t.most ≤ length b.xs → ((target_table t f).does ≡ (target_table u f).does) × Alike (drop t.most b.xs) t1 u1) → Next
+    more l n h =
+        let longer : t.most < length t.left = ltb-true t.most (length t.left) (sym n ∙ unsent) in
+        let size : length (take t.most t.left) ≡ t.most = length-take-le t.most t.left (omega (arith, longer)) in
+        let halves : r ≡ (U.chain ++ take t.most t.left) ++ t1.left =
+        now.0 ∙ ap (λ zs. U.chain ++ zs) (sym (take-append-drop t.most t.left)) ∙ sym (append_assoc U.chain (take t.most t.left) (drop t.most t.left))
+        ∙ ap (λ zs. (U.chain ++ take t.most t.left) ++ zs) (sym l) in
+        let chain : V.chain ≡ U.chain ++ take t.most t.left = append_cancel_right V.chain (U.chain ++ take t.most t.left) t1.left (sym next.0 ∙ halves) in
+        let ws = chain_grows V vs (none_whole ∙ ap length (sym next.1)) in
+        let both : U.chain ++ b.xs ≡ U.chain ++ (take t.most t.left ++ ws.0) = sym ahead ∙ ws.1 ∙ ap (λ zs. zs ++ ws.0) chain ∙ append_assoc U.chain (take t.most t.left) ws.0 in
+        let bytes : b.xs ≡ take t.most t.left ++ ws.0 = append_cancel_left U.chain b.xs (take t.most t.left ++ ws.0) both in
+        let long = ap length bytes in
+        let sum = length-append (take t.most t.left) ws.0 in
+        let g = h (omega (arith, long, sum, size)) in
+        let rest : drop t.most b.xs ≡ ws.0 = ap (drop t.most) bytes ∙ ap (λ k. drop k (take t.most t.left ++ ws.0)) (sym size) ∙ drop-append_seam (take t.most t.left) ws.0 in
+        (sym g.0 ∙ does, record { none_whole = none_whole; xs = ws.0; ahead = ws.1; alike = subst (λ zs. Alike zs t1 u1) rest g.1 })
 
-both_sent : (i j : InitState) (fs : List Signal) → Fit i.core → Twins i j → Both (frame_due i ∷ fs) i j → BothMidst fs i j
-both_sent i j fs fit w (inl b) = sent_both i j fs fit w b
-both_sent i j fs fit w (inr b) = sent_still i j fs fit b
+    by_turn : SameTurn b.xs t (target_table t f) (target_table u f) → Next
+    by_turn (keeps e l h) = kept e l h
+    by_turn (sends pni e l n h) = more l n h
+    by_turn (anew general g e h) = absurd (subst (λ (d : TargetStep). Passed i t1 U past (Some r) d) e (passed i f t U past (Some r) p))
 
--- what is heard leads both the same way
-both_again : (i j : InitState) (fs : List Signal) (phase : Phase) (bads : ℕ) → BothMidst fs i j → BothMidst fs (again i phase bads) (again j phase bads)
-both_again i j fs phase bads b = record {
-  chain = b.chain;
-  piece = b.piece;
-  ahead = b.ahead;
-  first = b.first;
-  second = b.second;
-  first_at = again_midst i b.piece b.first b.first_at phase bads;
-  second_at = again_midst j b.piece b.second b.second_at phase bads;
-  none = b.none;
-  brings = b.brings;
-  first_has = b.first_has;
-  second_has = b.second_has;
-}
-
-both_onward : (i j : InitState) (fs : List Signal) → BothMidst fs i j → BothUnsent fs (onward i) (onward j)
-both_onward i j fs b = record {
-  chain = b.chain;
-  ahead = b.ahead;
-  first_at = onward_unsent i b.piece b.first b.first_at;
-  second_at = onward_unsent j b.piece b.second b.second_at;
-  none = b.none;
-  brings = b.brings;
-  first_has = subst (IsFrontOf b.ahead) (sym (onward_rest i b.piece b.first b.first_at)) b.first_has;
-  second_has = subst (IsFrontOf b.ahead) (sym (onward_rest j b.piece b.second b.second_at)) b.second_has;
-}
-
--- both wait, or both ended by the same
-pub data Closes (s q : Standing) : Type 0 where
-  both_wait : (f g : Signal) → due_at s ≡ Asks f → due_at q ≡ Asks g → Closes s q
-  both_broken : (cause : EndCause) → s ≡ Broken cause → q ≡ Broken cause → Closes s q
-  both_astray : s ≡ Astray → q ≡ Astray → Closes s q
-
--- these turns were due at both
-pub record BothDue (s q : Standing) (ts : List Turn) : Type 0 where
-  pub first : Along noted due_at s ts
-  pub second : Along noted due_at q ts
-  pub ends : Closes (on noted due_at s (heard_in ts)) (on noted due_at q (heard_in ts))
-
-abbrev OfBoth : List Turn → Type 0
-OfBoth ts = (i j : InitState) → Fit i.core → Twins i j → Both (asked_in ts) i j → Follows (Waits i (frame_due i)) ts → BothDue (Waits i (frame_due i)) (Waits j (frame_due j)) ts
-
-both_stopped : (ts : List Turn) (s : Standing) → Closes s s → ((t : Turn) (us : List Turn) → Follows s (t ∷ us) → ⊥) → Follows s ts → BothDue s s ts
-both_stopped [] s c stops f = record { first = tt; second = tt; ends = c }
-both_stopped (t ∷ ts) s c stops f = absurd (stops t ts f)
-
-heard_both : (ts : List Turn) → OfBoth ts → (i j : InitState) → Fit i.core → Twins i j → BothMidst (asked_in ts) i j → (n : Note) → Follows (noted (Waits i (frame_due i)) n) ts
-    → BothDue (noted (Waits i (frame_due i)) n) (noted (Waits j (frame_due j)) n) ts
-heard_both ts both i j fit w b n f =
-    subst (λ s. BothDue s (noted (Waits j (frame_due j)) n) ts) (sym one)
-    (subst (λ q. BothDue (made i (kind_of i n)) q ts) (sym two) (go (kind_of i n) (subst (λ s. Follows s ts) one f)))
-  where
-    one : noted (Waits i (frame_due i)) n ≡ made i (kind_of i n)
-    one = hears_more i (midst_follows i b.piece b.first b.first_at) (frame_due i) n
-
-    two : noted (Waits j (frame_due j)) n ≡ made j (kind_of i n)
-    two = hears_more j (midst_follows j b.piece b.second b.second_at) (frame_due j) n ∙ ap (made j) (same_kind i j n w.phase w.number w.bads)
-
-    go : (k : Kind) → Follows (made i k) ts → BothDue (made i k) (made j k) ts
-    go (Again phase bads) f =
-        both (again i phase bads) (again j phase bads) (record { number = fit.number; some = fit.some; fits = fit.fits; times = fit.times }) (again_twins i j phase bads w)
-        (inr (both_again i j (asked_in ts) phase bads b)) f
-    go Onward f = both (onward i) (onward j) (onward_fit i fit) (onward_twins i j w) (inl (both_onward i j (asked_in ts) b)) f
-    go (Fails cause) f = both_stopped ts (Broken cause) (both_broken cause refl refl) (λ t us z. z) f
-    go Wanders f = both_stopped ts Astray (both_astray refl refl) (λ t us z. z) f
-
--- Where the requests of one exchange bring no more of its payload than two payloads have in common, they are due in the exchanges of both.
-pub both_due : (ts : List Turn) → OfBoth ts
-both_due [] i j fit w b f = record { first = tt; second = tt; ends = both_wait (frame_due i) (frame_due j) refl refl }
-both_due (t ∷ ts) i j fit w b f =
-    let m : BothMidst (asked_in ts) i j = both_sent i j (asked_in ts) fit w (subst (λ g. Both (g ∷ asked_in ts) i j) (sym f.0) b) in
-    let later = heard_both ts (both_due ts) i j fit w m t.heard f.1 in
-    record {
-      first = (ap Asks f.0, later.first);
-      second = (ap Asks (midst_due i j m.piece m.first m.second w m.first_at m.second_at ∙ f.0), later.second);
-      ends = later.ends;
-    }
+    -- A turn whose request passed, at which the target answers a: the other answers a too.
+    pub begun_turn : Next
+    begun_turn = by_turn (same_turn b.xs t u f b.alike)

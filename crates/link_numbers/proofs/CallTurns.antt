@@ -1,16 +1,13 @@
 -- A call's course turn by turn, beside that of the exchange that it has under way; and two courses that go on or end alike.
-use Rattle.std.proofs.Common.{◌≡◌, ℕ, List, [], ◌∷◌, refl, sym, ap, subst, ◌∙◌}
+use Rattle.std.proofs.Common.{◌≡◌, List, [], ◌∷◌, refl, sym, ap, subst, ◌∙◌}
 use Rattle.nfc_base.specs.Signal.{Signal}
-use Rattle.nfc_base.specs.declared.carrier.EndCause.{EndCause}
 use Rattle.air_core.specs.Conversation.{Note, Next, Over, Asks}
-use Rattle.dep_link.specs.Initiator.{InitState}
 use Rattle.dep_link.specs.Asking.{Standing, Waits, Rests, Broken, Astray, due_at, noted}
-use Rattle.snep_core.specs.Talk.{Step}
-use Rattle.link_calls.specs.Walk.{Carries, BrokenBy, Strays, walk_carried, walk_due_at, walk_noted}
+use Rattle.link_calls.specs.Walk.{walk_carried, walk_due_at, walk_noted}
 use Rattle.link_calls.specs.CallDue.{CallStanding, OnCall, by_client}
-use Rattle.link_numbers.proofs.Turns.{Along, Turn, heard_in, on}
-use Rattle.link_numbers.proofs.Begun.{BothDue, Closes, both_astray, both_broken, both_wait}
-use Rattle.link_numbers.proofs.Places.{Follows}
+use Rattle.link_numbers.proofs.OwnTurns.{Along, Turn, heard_in, on}
+use Rattle.link_numbers.proofs.OwnBegun.{BothDue, Closes, both_astray, both_broken, both_wait}
+use Rattle.link_numbers.proofs.OwnPlaces.{Follows}
 
 abbrev pub CallAlong : CallStanding → List Turn → Type 0
 CallAlong c ts = Along (walk_noted by_client) walk_due_at c ts

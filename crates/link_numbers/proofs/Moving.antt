@@ -1,340 +1,158 @@
--- What an initiator does at something heard while it carries a payload: where pieces follow the one that is under way it depends on no byte
--- of the payload; where none does, the payload is whole.
-use Rattle.std.proofs.Common.{◌≡◌, ◌<◌, ◌≤◌, ℕ, ◌+◌, ◌==◌, nat_lt, Bool, true, false, not, List, [], ◌∷◌, ◌++◌, length, drop, Option, Some, None, if◌then◌else◌, refl, sym, ap, ◌∙◌}
-use Rattle.std.proofs.lemmas.Bool.{ltb-true, ltb-false}
-use Rattle.std.specs.Prelude.{IfSome}
+-- Which move a target makes at each frame of an exchange.
+use Rattle.std.proofs.Common.{◌≡◌, ℕ, ◌<◌, ◌≤◌, nat_lt, Bool, true, false, List, ◌++◌, length, take, Option, Some, None, refl, ap, ◌∙◌, arith, take_all}
+use Rattle.std.proofs.lemmas.Bool.{lt-ltb, ltb-true}
 use Rattle.nfc_base.specs.Signal.{Signal}
-use Rattle.nfc_base.specs.declared.carrier.EndCause.{EndCause}
-use Rattle.nfc_base.specs.declared.carrier.EndCause.TheVariants.{FieldLost, SixBad, Protocol}
-use Rattle.nfc_base.specs.declared.event.Heard.{Heard}
-use Rattle.nfc_base.specs.declared.event.Heard.TheVariants.{Whole, Collided, Damaged, Silent}
-use Rattle.air_core.specs.Conversation.{Note, Lit, Got, Lost}
 use Rattle.dep_pdu.specs.declared.frame.DepFrame.{DepFrame}
-use Rattle.dep_pdu.specs.declared.frame.DepFrame.TheVariants.{AtrReq, AtrRes, Info, Ack, Nack, Attention, Extend, DslReq, DslRes, RlsReq, RlsRes}
-use Rattle.dep_link.specs.declared.initiator.Phase.{Phase}
-use Rattle.dep_link.specs.declared.initiator.Phase.TheVariants.{Asked, Nacked, Attending, Free, EndedSixBad, EndedProtocol}
-use Rattle.dep_link.specs.Frames.{air_frame, spelled}
-use Rattle.dep_link.specs.Initiator.{Core, InitState, InitMove, Asks, Gives, GivesUp, Refuses, acked, answered, attended, attending, bad, brought, damaged, extended, framed_next, heard_next, is_refused, longest_extension, may_extend, more_follows, most_bads, most_extensions, received, refuses, request, sends, sent, silent, turned, waited, whole}
-use Rattle.dep_link.specs.Asking.{Standing, Waits, Rests, Broken, Astray, goes_by, noted}
+use Rattle.dep_pdu.specs.declared.frame.DepFrame.TheVariants.{Ack, Nack, Attention, Extend}
+use Rattle.dep_pdu.specs.Spelling.{IsDepFrame}
+use Rattle.dep_link.specs.Sizes.{limit}
+use Rattle.dep_link.specs.Frames.{air_frame, after, piece}
+use Rattle.dep_link.specs.Initiator.{Core, InitState, asked, request}
+use Rattle.dep_link.specs.Moves.{le_from_not}
+use Rattle.dep_link.specs.Payloads.{Cut}
+use Rattle.dep_link.specs.Replies.{taken_up}
+use Rattle.dep_link.specs.Target.{TargetState, Answers, target_table, heeded, framed}
+use Rattle.dep_link.proofs.Landing.{last_of, stands_heeds}
+use Rattle.dep_link.proofs.Standing.{same, not_after, after_small, not_lt, chain_fits, Asking, Held, of_chain, of_reply, of_time, Stands, asking, drawing, granting, held, granted, Ask, asks, nacks, attends}
+use Rattle.dep_link.proofs.Wire.{target_heeds, is_piece}
+use Rattle.link_numbers.proofs.Spoken as spoken
+use Rattle.link_numbers.proofs.Spoken.{Speaks, none_said, some_said, all_said, Spoken, Kind, move_of, IsOld, Fits, InRange, cut_at, said_none}
 
--- the frame that is due where an initiator stands so
-abbrev pub frame_due : InitState → Signal
-frame_due i = air_frame (sent i.phase i.core)
+-- The move that is made, and when.
+abbrev pub Turn : TargetState → Option (List ℕ) → Signal → Type 0
+Turn t g f = (k : Kind) × Fits t g k × (target_table t f ≡ framed (move_of t k))
 
--- where a move leads
-abbrev stands : InitMove → Standing
-stands m = goes_by m.state (framed_next m.does)
+turns_by : (t : TargetState) (g : Option (List ℕ)) (f : Signal) (v : DepFrame) (k : Kind) → f ≡ air_frame v → IsDepFrame v → heeded t v ≡ move_of t k → Fits t g k → Turn t g f
+turns_by t g f v k e r q h = (k, h, ap (target_table t) e ∙ target_heeds t v r ∙ ap framed q)
 
--- What is heard, where pieces follow: the same piece is under way again, by what is sent then and the bad receptions so far; the next one is;
--- or the exchange ends.
-pub data Kind : Type 0 where
-  Again : Phase → ℕ → Kind
-  Onward : Kind
-  Fails : EndCause → Kind
-  Wanders : Kind
+-- which PNI comes next in the cut
+next_none : (t : TargetState) (g : Option (List ℕ)) (past : List (List ℕ)) (U : Cut) → g ≡ None → Spoken t past g U → U.next ≡ t.expected
+next_none t g past U e s = ap (λ (c : Cut). c.next) (said_none t past U g e s)
 
-abbrev pub onward : InitState → InitState
-onward i = record i { core = turned i.core (drop i.core.most i.core.rest) false i.core.got; phase = Asked; bads = 0 }
+next_reply : (t : TargetState) (g : Option (List ℕ)) (past : List (List ℕ)) (U : Cut) → t.due ≡ 0 → Spoken t past g U → U.next ≡ t.expected
+next_reply t None past U d s = ap (λ (c : Cut). c.next) s
+next_reply t (Some r) past U d (none_said due unsent left is) = absurd (omega (arith, d, due))
+next_reply t (Some r) past U d (some_said due unsent xs whole size rest is) = ap (λ (c : Cut). c.next) is
+next_reply t (Some r) past U d (all_said due unsent left is) = ap (λ (c : Cut). c.next) is
 
-abbrev pub again : InitState → Phase → ℕ → InitState
-again i phase bads = record i { phase = phase; bads = bads }
+old_ack : (U : Cut) (n e : ℕ) → U.next ≡ e → e ≡ after n → taken_up U (Ack true n) ≡ U
+old_ack U n e h k = let q : U.next ≡ after n = h ∙ k in rw (q, not_after n) refl
 
-abbrev pub made : InitState → Kind → Standing
-made i (Again phase bads) = Waits (again i phase bads) (frame_due (again i phase bads))
-made i Onward = Waits (onward i) (frame_due (onward i))
-made i (Fails cause) = Broken cause
-made i Wanders = Astray
+old_piece : (U : Cut) (n e most : ℕ) (bytes : List ℕ) → U.next ≡ e → e ≡ after n → taken_up U (piece true most n bytes) ≡ U
+old_piece U n e most bytes h k = let q : U.next ≡ after n = h ∙ k in rw (q, not_after n) refl
 
-abbrev bad_kind : ℕ → Phase → Kind
-bad_kind bads phase = if nat_lt bads most_bads then Again phase (bads + 1) else Fails SixBad
+module _ (m k : ℕ) (out : List ℕ) where
+  -- a target that has what the initiator asks said it before
+  pub held_old : (c : Core) (t : TargetState) (g : Option (List ℕ)) (n bads : ℕ) (v : DepFrame) → Held m k out c t g n bads → t.last ≡ Some v → IsDepFrame v × IsOld t g v
+  held_old c t g n bads v (of_chain h l) e =
+      let q : v ≡ Ack true c.number = (let y = h.last in cc) in
+      rw q (h.number, λ past U s. old_ack U c.number t.expected (next_none t g past U h.none s) h.expects)
+  held_old c t g n bads v (of_reply bytes h l) e =
+      let q : v ≡ piece true t.most c.number bytes = (let y = h.last in cc) in
+      rw q (is_piece true t.most c.number bytes h.number h.bounds.fits_back, λ past U s. old_piece U c.number t.expected t.most bytes (next_reply t g past U h.none_due s) h.expects)
+  held_old c t g n bads v (of_time z h l) e =
+      let q : v ≡ Extend true t.times = (let y = h.last in cc) in
+      rw q ((h.bounds.long, h.bounds.longest), λ past U s. refl)
 
-abbrev answered_kind : ℕ → DepFrame → Kind
-answered_kind n (Ack true pni) = if pni == n then Onward else Fails Protocol
-answered_kind n _ = Fails Protocol
+  again_turn : (c : Core) (t : TargetState) (g : Option (List ℕ)) (f : Signal) (n bads : ℕ) (v w : DepFrame) → Held m k out c t g n bads → t.last ≡ Some v
+      → f ≡ air_frame w → IsDepFrame w → heeded t w ≡ record { state = t; does = Answers v } → Turn t g f
+  again_turn c t g f n bads v w h l e r q = turns_by t g f w (spoken.repeats v) e r q (let o = held_old c t g n bads v h l in (l, o.0, o.1))
 
-abbrev attended_kind : ℕ → DepFrame → Kind
-attended_kind bads (Attention true) = Again Asked bads
-attended_kind bads _ = Fails Protocol
-
-abbrev waited_kind : ℕ → Option DepFrame → Kind
-waited_kind n None = Fails Protocol
-waited_kind n (Some v) = answered_kind n v
-
-abbrev attending_kind : ℕ → Option DepFrame → Kind
-attending_kind bads None = Fails Protocol
-attending_kind bads (Some v) = attended_kind bads v
-
-abbrev whole_kind : Phase → ℕ → ℕ → Option DepFrame → Kind
-whole_kind Asked n bads o = waited_kind n o
-whole_kind Nacked n bads o = waited_kind n o
-whole_kind Attending n bads o = attending_kind bads o
-whole_kind Free n bads o = Fails Protocol
-whole_kind EndedSixBad n bads o = Fails SixBad
-whole_kind EndedProtocol n bads o = Fails Protocol
-
-abbrev damaged_kind : Phase → ℕ → Kind
-damaged_kind Asked bads = bad_kind bads Nacked
-damaged_kind Nacked bads = bad_kind bads Nacked
-damaged_kind Attending bads = bad_kind bads Attending
-damaged_kind Free bads = bad_kind bads Free
-damaged_kind EndedSixBad bads = Fails SixBad
-damaged_kind EndedProtocol bads = Fails Protocol
-
-abbrev silent_kind : Phase → ℕ → Kind
-silent_kind Asked bads = bad_kind bads Attending
-silent_kind Nacked bads = bad_kind bads Attending
-silent_kind Attending bads = bad_kind bads Attending
-silent_kind Free bads = bad_kind bads Free
-silent_kind EndedSixBad bads = Fails SixBad
-silent_kind EndedProtocol bads = Fails Protocol
-
-abbrev heard_kind : Phase → ℕ → ℕ → Heard → Kind
-heard_kind phase n bads (Whole f) = whole_kind phase n bads (spelled f)
-heard_kind phase n bads (Collided f) = damaged_kind phase bads
-heard_kind phase n bads Damaged = damaged_kind phase bads
-heard_kind phase n bads Silent = silent_kind phase bads
-
-abbrev note_kind : Phase → ℕ → ℕ → Note → Kind
-note_kind phase n bads Lit = Wanders
-note_kind phase n bads Lost = Fails FieldLost
-note_kind phase n bads (Got h) = heard_kind phase n bads h
-
-abbrev pub kind_of : InitState → Note → Kind
-kind_of i n = note_kind i.phase i.core.number i.bads n
-
--- initiators with the same number, phase and bad receptions take the same way
-pub same_kind : (i j : InitState) (n : Note) → j.phase ≡ i.phase → j.core.number ≡ i.core.number → j.bads ≡ i.bads → kind_of j n ≡ kind_of i n
-same_kind i j n p q r = ap (λ x. note_kind x j.core.number j.bads n) p ∙ ap (λ x. note_kind i.phase x j.bads n) q ∙ ap (λ x. note_kind i.phase i.core.number x n) r
-
-module _ (i : InitState) where
-  bad_so : (phase : Phase) → stands (bad i phase) ≡ made i (bad_kind i.bads phase)
-  bad_so phase = go (nat_lt i.bads most_bads)
+  -- the initiator's request is in range
+  is_request : (c : Core) → c.extension ≡ None → c.number < 4 → c.most ≤ 251 → IsDepFrame (request c)
+  is_request c z p q = go c.drawing refl
     where
-      go : (t : Bool) → stands (if t then sends i i.core phase (i.bads + 1) else record { state = record i { phase = EndedSixBad }; does = GivesUp })
-          ≡ made i (if t then Again phase (i.bads + 1) else Fails SixBad)
-      go true = refl
-      go false = refl
+      go : (d : Bool) → c.drawing ≡ d → IsDepFrame (request c)
+      go true e = rw (z, e) p
+      go false e = rw (z, e) (is_piece false c.most c.number c.rest p q)
 
-  damaged_so : (phase : Phase) → stands (damaged i phase) ≡ made i (damaged_kind phase i.bads)
-  damaged_so Asked = bad_so Nacked
-  damaged_so Nacked = bad_so Nacked
-  damaged_so Attending = bad_so Attending
-  damaged_so Free = bad_so Free
-  damaged_so EndedSixBad = refl
-  damaged_so EndedProtocol = refl
-
-  silent_so : (phase : Phase) → stands (silent i phase) ≡ made i (silent_kind phase i.bads)
-  silent_so Asked = bad_so Attending
-  silent_so Nacked = bad_so Attending
-  silent_so Attending = bad_so Attending
-  silent_so Free = bad_so Free
-  silent_so EndedSixBad = refl
-  silent_so EndedProtocol = refl
-
-  attended_so : (o : Option DepFrame) → stands (attending i o) ≡ made i (attending_kind i.bads o)
-  attended_so None = refl
-  attended_so (Some (Attention true)) = refl
-  attended_so (Some (Attention false)) = refl
-  attended_so (Some (Info up more pni content)) = refl
-  attended_so (Some (Ack up pni)) = refl
-  attended_so (Some (Nack pni)) = refl
-  attended_so (Some (Extend up times)) = refl
-  attended_so (Some (AtrReq id lr general)) = refl
-  attended_so (Some (AtrRes id timeout lr general)) = refl
-  attended_so (Some DslReq) = refl
-  attended_so (Some DslRes) = refl
-  attended_so (Some RlsReq) = refl
-  attended_so (Some RlsRes) = refl
-
-  -- pieces follow the one that is under way
-  module _ (more : more_follows i.core ≡ true) where
-    acked_so : (pni : ℕ) → stands (acked i pni) ≡ made i (if pni == i.core.number then Onward else Fails Protocol)
-    acked_so pni =
-        ap (λ (t : Bool). stands (if (if t then pni == i.core.number else false) then sends i (turned i.core (drop i.core.most i.core.rest) false i.core.got) Asked 0 else refuses i)) more
-        ∙ go (pni == i.core.number)
-      where
-        go : (t : Bool) → stands (if t then sends i (turned i.core (drop i.core.most i.core.rest) false i.core.got) Asked 0 else refuses i) ≡ made i (if t then Onward else Fails Protocol)
-        go true = refl
-        go false = refl
-
-    abbrev extended_by : Bool → Bool → ℕ → InitMove
-    extended_by drawing follows times =
-        if (if drawing then false else (if follows then false else (if nat_lt 0 times then (if nat_lt longest_extension times then false else nat_lt i.core.granted most_extensions) else false)))
-        then sends i (record i.core { extension = Some times; granted = i.core.granted + 1 }) Asked i.bads
-        else refuses i
-
-    none_extended : (times : ℕ) → stands (extended i times) ≡ Broken Protocol
-    none_extended times = ap (λ (t : Bool). stands (extended_by i.core.drawing t times)) more ∙ go i.core.drawing
-      where
-        go : (d : Bool) → stands (extended_by d true times) ≡ Broken Protocol
-        go true = refl
-        go false = refl
-
-    none_brought : (xs : List ℕ) (m : Bool) (pni : ℕ) → stands (if (if more_follows i.core then false else pni == i.core.number) then brought i m xs else refuses i) ≡ Broken Protocol
-    none_brought xs m pni = ap (λ (t : Bool). stands (if (if t then false else pni == i.core.number) then brought i m xs else refuses i)) more
-
-    answered_so : (o : Option DepFrame) → stands (waited i o) ≡ made i (waited_kind i.core.number o)
-    answered_so None = refl
-    answered_so (Some (Ack true pni)) = acked_so pni
-    answered_so (Some (Ack false pni)) = refl
-    answered_so (Some (Info true m pni content)) = none_brought content.items m pni
-    answered_so (Some (Info false m pni content)) = refl
-    answered_so (Some (Extend true times)) = none_extended times
-    answered_so (Some (Extend false times)) = refl
-    answered_so (Some (Nack pni)) = refl
-    answered_so (Some (Attention up)) = refl
-    answered_so (Some (AtrReq id lr general)) = refl
-    answered_so (Some (AtrRes id timeout lr general)) = refl
-    answered_so (Some DslReq) = refl
-    answered_so (Some DslRes) = refl
-    answered_so (Some RlsReq) = refl
-    answered_so (Some RlsRes) = refl
-
-    whole_so : (phase : Phase) (f : Signal) → stands (whole i phase f) ≡ made i (whole_kind phase i.core.number i.bads (spelled f))
-    whole_so Asked f = answered_so (spelled f)
-    whole_so Nacked f = answered_so (spelled f)
-    whole_so Attending f = attended_so (spelled f)
-    whole_so Free f = refl
-    whole_so EndedSixBad f = refl
-    whole_so EndedProtocol f = refl
-
-    pub hears_more : (f : Signal) (n : Note) → noted (Waits i f) n ≡ made i (kind_of i n)
-    hears_more f Lit = refl
-    hears_more f Lost = refl
-    hears_more f (Got (Whole g)) = whole_so i.phase g
-    hears_more f (Got (Collided g)) = damaged_so i.phase
-    hears_more f (Got Damaged) = damaged_so i.phase
-    hears_more f (Got Silent) = silent_so i.phase
-
--- a time extension that may be granted is in its range
-abbrev pub InTimes : Option ℕ → Type 0
-InTimes o = IfSome o (λ times. (1 ≤ times) × (times ≤ longest_extension))
-
-may_times : (c : Core) (times : ℕ) → may_extend c times ≡ true → (1 ≤ times) × (times ≤ longest_extension)
-may_times c times e = go c.drawing (more_follows c) (nat_lt 0 times) (nat_lt longest_extension times) (nat_lt c.granted most_extensions) refl refl e
-  where
-    go : (a b d f v : Bool) → nat_lt 0 times ≡ d → nat_lt longest_extension times ≡ f
-        → (if a then false else (if b then false else (if d then (if f then false else v) else false))) ≡ true → (1 ≤ times) × (times ≤ longest_extension)
-    go true b d f v p q e = absurd (cc)
-    go false true d f v p q e = absurd (cc)
-    go false false false f v p q e = absurd (cc)
-    go false false true true v p q e = absurd (cc)
-    go false false true false v p q e = (ltb-true 0 times p, ltb-false longest_extension times q)
-
--- What is heard where no piece follows: it waits for the reply again, or asks for the next piece of it; the reply came; or the exchange ends.
-pub data Behind (i : InitState) (s : Standing) : Type 0 where
-  waits : (j : InitState) → s ≡ Waits j (frame_due j) → j.core.number ≡ i.core.number → j.core.most ≡ i.core.most → more_follows j.core ≡ false → InTimes j.core.extension → Behind i s
-  draws : (j : InitState) (xs : List ℕ) → s ≡ Waits j (frame_due j) → j.core ≡ turned i.core [] true xs → j.phase ≡ Asked → Behind i s
-  rests : (j : InitState) (reply : List ℕ) → s ≡ Rests j reply → j.core ≡ turned i.core [] false [] → Behind i s
-  fails : (cause : EndCause) → s ≡ Broken cause → Behind i s
-  wanders : s ≡ Astray → Behind i s
-
-module _ (i : InitState) (none : more_follows i.core ≡ false) (times : InTimes i.core.extension) where
-  abbrev Goes : InitMove → Type 0
-  Goes m = Behind i (stands m)
-
-  again_goes : (phase : Phase) (bads : ℕ) → Goes (sends i i.core phase bads)
-  again_goes phase bads = waits (again i phase bads) refl refl refl none times
-
-  bad_goes : (phase : Phase) → Goes (bad i phase)
-  bad_goes phase = go (nat_lt i.bads most_bads)
+  request_again : (c : Core) (t : TargetState) (v : DepFrame) → t.mute ≡ false → c.extension ≡ None → t.expected ≡ after c.number → t.last ≡ Some v
+      → heeded t (request c) ≡ record { state = t; does = Answers v }
+  request_again c t v e1 e0 e2 e3 = go c.drawing refl
     where
-      go : (t : Bool) → Goes (if t then sends i i.core phase (i.bads + 1) else record { state = record i { phase = EndedSixBad }; does = GivesUp })
-      go true = again_goes phase (i.bads + 1)
-      go false = fails SixBad refl
+      go : (d : Bool) → c.drawing ≡ d → heeded t (request c) ≡ record { state = t; does = Answers v }
+      go true d = rw (e0, d, e1, e2, not_after c.number, same (after c.number), e3) refl
+      go false d = rw (e0, d, e1, e2, not_after c.number, same (after c.number), e3) refl
 
-  refuses_goes : Goes (refuses i)
-  refuses_goes = fails Protocol refl
+  nack_again : (c : Core) (t : TargetState) (v : DepFrame) → t.mute ≡ false → t.expected ≡ after c.number → t.last ≡ Some v
+      → heeded t (Nack c.number) ≡ record { state = t; does = Answers v }
+  nack_again c t v e1 e2 e3 = rw (e1, e2, same (after c.number), e3) refl
 
-  acked_goes : (pni : ℕ) → Goes (acked i pni)
-  acked_goes pni = go (more_follows i.core) none
+  attention_answered : (t : TargetState) → t.mute ≡ false → heeded t (Attention false) ≡ record { state = t; does = Answers (Attention true) }
+  attention_answered t e = rw e refl
+
+  -- a piece of the payload comes
+  asking_turn : (c : Core) (t : TargetState) (g : Option (List ℕ)) (f : Signal) → f ≡ air_frame (request c) → Asking m k out c t g → Turn t g f
+  asking_turn c t g f e h = go (nat_lt c.most (length c.rest)) refl
     where
-      go : (t : Bool) → t ≡ false → Goes (if (if t then pni == i.core.number else false) then sends i (turned i.core (drop i.core.most i.core.rest) false i.core.got) Asked 0 else refuses i)
-      go true e = absurd (cc)
-      go false e = refuses_goes
+      r : IsDepFrame (request c)
+      r = is_request c h.plain h.number h.bounds.fits
 
-  received_goes : (more : Bool) (xs : List ℕ) → Goes (received i more xs)
-  received_goes true xs = draws (record i { core = turned i.core [] true xs; phase = Asked; bads = 0 }) xs refl refl refl
-  received_goes false xs = rests (record i { core = turned i.core [] false []; phase = Free; bads = 0 }) xs refl refl
+      go : (d : Bool) → nat_lt c.most (length c.rest) ≡ d → Turn t g f
+      go true d =
+          turns_by t g f (request c) (spoken.chains (t.chain ++ take c.most c.rest)) e r
+          (let fits : nat_lt limit (length (t.chain ++ take c.most c.rest)) ≡ false =
+          not_lt limit (length (t.chain ++ take c.most c.rest)) (chain_fits t.chain c.rest out c.most h.joins h.bounds.short) in
+          rw (h.plain, h.sending, h.bounds.heeds, h.expects, same c.number, d, fits) refl) h.none
+      go false d =
+          let w : t.chain ++ take c.most c.rest ≡ out = rw (take_all c.most c.rest (le_from_not c.most (length c.rest) d)) h.joins in
+          turns_by t g f (request c) (spoken.hands out) e r
+          (rw (h.plain, h.sending, h.bounds.heeds, h.expects, same c.number, d, w, not_lt limit (length out) h.bounds.short) refl) h.none
 
-  brought_goes : (more : Bool) (xs : List ℕ) → Goes (brought i more xs)
-  brought_goes more xs = go (is_refused more xs (i.core.got ++ xs))
+  request_turn : (c : Core) (bads : ℕ) (t : TargetState) (g : Option (List ℕ)) (f : Signal) (n : ℕ) → f ≡ air_frame (request c) → Stands m k out c bads t g n → Turn t g f
+  request_turn c bads t g f n e (asking z h b) = asking_turn c t g f e h
+  request_turn c bads t g f n e (drawing h b) =
+      turns_by t g f (request c) spoken.draws e (is_request c h.plain h.number h.bounds.fits)
+      (rw (h.plain, h.receiving, h.bounds.heeds, h.expects, same c.number, h.none_due, h.unsent) refl) (h.none_due, h.unsent, (c.got ++ t.left, h.reply))
+  request_turn c bads t g f n e (held w h) =
+      let a = last_of 0 m k out c t g n bads h in
+      again_turn c t g f n bads a.value (request c) h a.last e (is_request c w a.number a.fits) (request_again c t a.value a.heeds w a.expects a.last)
+  request_turn c bads t g f n e (granting z w h b) = go (nat_lt 1 t.due) refl
     where
-      go : (t : Bool) → Goes (if t then refuses i else received i more (i.core.got ++ xs))
-      go true = refuses_goes
-      go false = received_goes more (i.core.got ++ xs)
+      y : f ≡ air_frame (Extend false t.times)
+      y = e ∙ ap (λ (o : Option ℕ). air_frame (asked c o)) w
 
-  info_goes : (t more : Bool) (xs : List ℕ) → Goes (if t then brought i more xs else refuses i)
-  info_goes true more xs = brought_goes more xs
-  info_goes false more xs = refuses_goes
+      r : IsDepFrame (Extend false t.times)
+      r = (h.bounds.long, h.bounds.longest)
 
-  extended_goes : (times : ℕ) → Goes (extended i times)
-  extended_goes times = go (may_extend i.core times) refl
-    where
-      go : (t : Bool) → may_extend i.core times ≡ t → Goes (if t then sends i (record i.core { extension = Some times; granted = i.core.granted + 1 }) Asked i.bads else refuses i)
-      go true e = waits (record i { core = record i.core { extension = Some times; granted = i.core.granted + 1 }; phase = Asked }) refl refl refl none (may_times i.core times e)
-      go false e = refuses_goes
+      go : (d : Bool) → nat_lt 1 t.due ≡ d → Turn t g f
+      go true d = turns_by t g f (Extend false t.times) spoken.asks_again y r (rw (h.bounds.heeds, lt-ltb 0 t.due h.due, same t.times, d) refl) (ltb-true 1 t.due d)
+      go false d =
+          turns_by t g f (Extend false t.times) spoken.has_time y r (rw (h.bounds.heeds, lt-ltb 0 t.due h.due, same t.times, d) refl) (h.due, le_from_not 1 t.due d, (t.left, h.reply))
+  request_turn c bads t g f n e (granted bytes w x h b) =
+      again_turn c t g f n bads (piece true t.most c.number bytes) (Extend false t.times) (of_reply bytes h b) h.last
+      (e ∙ ap (λ (o : Option ℕ). air_frame (asked c o)) w) (h.bounds.long, h.bounds.longest) (rw (h.bounds.heeds, h.none_due, x, h.last) refl)
 
-  answered_goes : (o : Option DepFrame) → Goes (waited i o)
-  answered_goes None = refuses_goes
-  answered_goes (Some (Ack true pni)) = acked_goes pni
-  answered_goes (Some (Ack false pni)) = refuses_goes
-  answered_goes (Some (Info true m pni content)) = info_goes (if more_follows i.core then false else pni == i.core.number) m content.items
-  answered_goes (Some (Info false m pni content)) = refuses_goes
-  answered_goes (Some (Extend true times)) = extended_goes times
-  answered_goes (Some (Extend false times)) = refuses_goes
-  answered_goes (Some (Nack pni)) = refuses_goes
-  answered_goes (Some (Attention up)) = refuses_goes
-  answered_goes (Some (AtrReq id lr general)) = refuses_goes
-  answered_goes (Some (AtrRes id timeout lr general)) = refuses_goes
-  answered_goes (Some DslReq) = refuses_goes
-  answered_goes (Some DslRes) = refuses_goes
-  answered_goes (Some RlsReq) = refuses_goes
-  answered_goes (Some RlsRes) = refuses_goes
+  -- the move at the frame that is due
+  pub turn_at : (i : InitState) (t : TargetState) (g : Option (List ℕ)) (f : Signal) (n : ℕ) → Ask m k out i t g f n → Turn t g f
+  turn_at i t g f n (asks p e s) = request_turn i.core i.bads t g f n e s
+  turn_at i t g f n (nacks p e h) =
+      let a = last_of 0 m k out i.core t g n i.bads h in
+      again_turn i.core t g f n i.bads a.value (Nack i.core.number) h a.last e a.number (nack_again i.core t a.value a.heeds a.expects a.last)
+  turn_at i t g f n (attends p e q s l) =
+      turns_by t g f (Attention false) spoken.attends e tt (attention_answered t (stands_heeds 0 m k out i.core i.bads t g q s)) tt
 
-  attended_goes : (o : Option DepFrame) → Goes (attending i o)
-  attended_goes None = refuses_goes
-  attended_goes (Some (Attention true)) = again_goes Asked i.bads
-  attended_goes (Some (Attention false)) = refuses_goes
-  attended_goes (Some (Info up more pni content)) = refuses_goes
-  attended_goes (Some (Ack up pni)) = refuses_goes
-  attended_goes (Some (Nack pni)) = refuses_goes
-  attended_goes (Some (Extend up times)) = refuses_goes
-  attended_goes (Some (AtrReq id lr general)) = refuses_goes
-  attended_goes (Some (AtrRes id timeout lr general)) = refuses_goes
-  attended_goes (Some DslReq) = refuses_goes
-  attended_goes (Some DslRes) = refuses_goes
-  attended_goes (Some RlsReq) = refuses_goes
-  attended_goes (Some RlsRes) = refuses_goes
+  -- what stays in range
+  held_range : (c : Core) (t : TargetState) (g : Option (List ℕ)) (n bads : ℕ) → Held m k out c t g n bads → InRange t
+  held_range c t g n bads (of_chain h l) =
+      record { number = rw h.expects (after_small c.number); some = h.bounds.some_back; most_fits = h.bounds.fits_back; asks = h.bounds.long; longest = h.bounds.longest }
+  held_range c t g n bads (of_reply bytes h l) =
+      record { number = rw h.expects (after_small c.number); some = h.bounds.some_back; most_fits = h.bounds.fits_back; asks = h.bounds.long; longest = h.bounds.longest }
+  held_range c t g n bads (of_time z h l) =
+      record { number = rw h.expects (after_small c.number); some = h.bounds.some_back; most_fits = h.bounds.fits_back; asks = h.bounds.long; longest = h.bounds.longest }
 
-  whole_goes : (phase : Phase) (f : Signal) → Goes (whole i phase f)
-  whole_goes Asked f = answered_goes (spelled f)
-  whole_goes Nacked f = answered_goes (spelled f)
-  whole_goes Attending f = attended_goes (spelled f)
-  whole_goes Free f = refuses_goes
-  whole_goes EndedSixBad f = fails SixBad refl
-  whole_goes EndedProtocol f = fails Protocol refl
+  stands_range : (c : Core) (bads : ℕ) (t : TargetState) (g : Option (List ℕ)) (n : ℕ) → Stands m k out c bads t g n → InRange t
+  stands_range c bads t g n (asking z h b) =
+      record { number = rw h.expects h.number; some = h.bounds.some_back; most_fits = h.bounds.fits_back; asks = h.bounds.long; longest = h.bounds.longest }
+  stands_range c bads t g n (drawing h b) =
+      record { number = rw h.expects h.number; some = h.bounds.some_back; most_fits = h.bounds.fits_back; asks = h.bounds.long; longest = h.bounds.longest }
+  stands_range c bads t g n (held w h) = held_range c t g n bads h
+  stands_range c bads t g n (granting z w h b) =
+      record { number = rw h.expects (after_small c.number); some = h.bounds.some_back; most_fits = h.bounds.fits_back; asks = h.bounds.long; longest = h.bounds.longest }
+  stands_range c bads t g n (granted bytes w x h b) =
+      record { number = rw h.expects (after_small c.number); some = h.bounds.some_back; most_fits = h.bounds.fits_back; asks = h.bounds.long; longest = h.bounds.longest }
 
-  damaged_goes : (phase : Phase) → Goes (damaged i phase)
-  damaged_goes Asked = bad_goes Nacked
-  damaged_goes Nacked = bad_goes Nacked
-  damaged_goes Attending = bad_goes Attending
-  damaged_goes Free = bad_goes Free
-  damaged_goes EndedSixBad = fails SixBad refl
-  damaged_goes EndedProtocol = fails Protocol refl
-
-  silent_goes : (phase : Phase) → Goes (silent i phase)
-  silent_goes Asked = bad_goes Attending
-  silent_goes Nacked = bad_goes Attending
-  silent_goes Attending = bad_goes Attending
-  silent_goes Free = bad_goes Free
-  silent_goes EndedSixBad = fails SixBad refl
-  silent_goes EndedProtocol = fails Protocol refl
-
-  pub hears_last : (f : Signal) (n : Note) → Behind i (noted (Waits i f) n)
-  hears_last f Lit = wanders refl
-  hears_last f Lost = fails FieldLost refl
-  hears_last f (Got (Whole g)) = whole_goes i.phase g
-  hears_last f (Got (Collided g)) = damaged_goes i.phase
-  hears_last f (Got Damaged) = damaged_goes i.phase
-  hears_last f (Got Silent) = silent_goes i.phase
+  pub range_at : (i : InitState) (t : TargetState) (g : Option (List ℕ)) (f : Signal) (n : ℕ) → Ask m k out i t g f n → InRange t
+  range_at i t g f n (asks p e s) = stands_range i.core i.bads t g n s
+  range_at i t g f n (nacks p e h) = held_range i.core t g n i.bads h
+  range_at i t g f n (attends p e q s l) = stands_range i.core i.bads t g q s

@@ -1,11 +1,9 @@
 -- A call goes the same way by the numbers that its own frames show, whatever stands behind them.
-use Rattle.std.proofs.Common.{◌≡◌, ◌<◌, ◌≤◌, ◌⊎◌, inl, inr, ℕ, ◌+◌, nat_lt, Bool, true, false, List, [], ◌∷◌, ◌++◌, length, map, take, drop, Option, Some, None, if◌then◌else◌, refl, sym, ap, subst, ◌∙◌, arith, length-append}
+use Rattle.std.proofs.Common.{◌≡◌, ◌<◌, ◌≤◌, ◌⊎◌, inl, inr, ℕ, nat_lt, Bool, true, false, List, [], ◌∷◌, ◌++◌, length, map, take, if◌then◌else◌, refl, sym, ap, subst, ◌∙◌, arith}
 use Rattle.std.proofs.lemmas.Bool.{cases_lt}
 use Rattle.nfc_base.specs.Signal.{Signal}
 use Rattle.nfc_base.specs.Choosing.{first_number, later_numbers}
-use Rattle.nfc_base.specs.declared.carrier.EndCause.{EndCause}
-use Rattle.air_core.specs.Conversation.{Note, Asks, Over}
-use Rattle.llcp_pdu.specs.Raw.{raw}
+use Rattle.air_core.specs.Conversation.{Note}
 use Rattle.llcp_pdu.specs.declared.part.Part.{Part}
 use Rattle.llcp_pdu.specs.declared.part.Part.TheVariants.{Symm, Ui, Connect, Disc, Cc, Dm, Frmr, Snl, Info, Rr, Rnr}
 use Rattle.llcp_pdu.specs.Writing.{part_bytes}
@@ -15,25 +13,20 @@ use Rattle.dep_link.specs.Initiator.{Core, InitState, begun, more_follows, turne
 use Rattle.dep_link.specs.Asking.{Standing, Waits, Rests, Broken, Astray, asks, noted}
 use Rattle.dep_link.proofs.Standing.{after_small, not_lt}
 use Rattle.llcp_link.specs.Fronts.{IsFrontOf}
-use Rattle.llcp_link.specs.Giving.{after_giving, given, given_parts, payload_of}
+use Rattle.llcp_link.specs.Giving.{given, given_parts, payload_of}
 use Rattle.snep_core.specs.Talk.{EndState, Ends, GivesUp, Goes, Step, Working, payload, ready, replied, silent}
-use Rattle.link_calls.specs.Walk.{Carries, Comes, BrokenBy, Strays, walk_at, walk_carried, walk_due_at, walk_noted}
-use Rattle.link_calls.specs.CallDue.{CallStanding, OnCall, by_client, next_of}
+use Rattle.link_calls.specs.Walk.{Carries, Comes, BrokenBy, Strays, walk_at, walk_carried}
+use Rattle.link_calls.specs.CallDue.{by_client, next_of}
+use Rattle.link_numbers.specs.OwnShows.{AtEnd, IsWithin, Rested}
 use Rattle.link_numbers.specs.Shown.{cut_off, number, numbers}
-use Rattle.link_numbers.proofs.Cuts.{Grows, open_, closed, at, behind, cuts, cuts_behind, cuts_then, grown, numbers_behind}
-use Rattle.link_numbers.proofs.Turns.{Turn, asked_in, heard_in}
-use Rattle.link_numbers.proofs.Moving.{Again, Behind, Fails, Kind, Onward, Wanders, again, draws, fails, frame_due, hears_last, hears_more, kind_of, made, onward, rests, waits, wanders}
-use Rattle.link_numbers.proofs.Places.{Drawing, Fit, Follows, Midst, Outcome, Unsent, again_midst, cut, midst_follows, midst_from, onward_fit, onward_unsent, outcome, sent_ack, sent_again, sent_last, sent_more, two_came, whole}
-use Rattle.link_numbers.proofs.Begun.{Twins, both_due}
+use Rattle.link_numbers.proofs.OwnCuts.{Grows, open_, closed, at, behind, cuts, cuts_behind, cuts_then, grown, numbers_behind}
+use Rattle.link_numbers.proofs.OwnTurns.{Turn, asked_in}
+use Rattle.link_numbers.proofs.OwnMoving.{Again, Behind, Fails, Kind, Onward, Wanders, again, draws, fails, frame_due, hears_last, hears_more, kind_of, made, onward, rests, waits, wanders}
+use Rattle.link_numbers.proofs.OwnPlaces.{Drawing, Fit, Follows, Midst, Outcome, Unsent, again_midst, cut, midst_follows, midst_from, onward_fit, onward_unsent, outcome, sent_ack, sent_again, sent_last, sent_more, two_came, whole}
+use Rattle.link_numbers.proofs.OwnBegun.{both_due}
 use Rattle.link_numbers.proofs.Payload.{cut_shown, later_shown, whole_shown}
-use Rattle.link_numbers.proofs.CallKeeps.{AtEnd, IsWithin, Unread, none_by, ready_unread, ready_within, reply_by, reply_unread, reply_within, told_by}
+use Rattle.link_numbers.proofs.CallKeeps.{Unread, none_by, ready_unread, ready_within, reply_by, reply_unread, reply_within, told_by}
 use Rattle.link_numbers.proofs.CallTurns.{Alike, CallAlong, asks_one, both_go, calls_alike, follows_of, over_alike, turn_alike}
-
--- an initiator that rests between two exchanges
-pub record Rested (c : Core) : Type 0 where
-  pub number : c.number < 4
-  pub some : 2 ≤ c.most
-  pub fits : c.most ≤ 251
 
 -- a payload isn't empty
 some_part : (p : Part) → 0 < length (part_bytes p)
@@ -127,7 +120,8 @@ module _ (tail : List Signal) where
   OfStart ts = (from : Step) (ns ks : List ℕ) (i : InitState) → Rested i.core → AtEnd IsWithin from → ks ≡ numbers (cuts (at i.core.number []) (ahead ts))
       → CallAlong (walk_at by_client (next_of ns from) i) ts → Alike ts (walk_at by_client (next_of ns from) i) (walk_at by_client (next_of ks from) i)
 
-  module _ (ts : List Turn) (same : OfSame ts) (start : OfStart ts) (w : Working) (ns ks : List ℕ) (i : InitState) (fit : Fit i.core) (tells : Tells ns ks w) (within : IsWithin w.llc) (n : Note) where
+  module _ (ts : List Turn) (same : OfSame ts) (start : OfStart ts) (w : Working) (ns ks : List ℕ) (i : InitState) (fit : Fit i.core)
+      (tells : Tells ns ks w) (within : IsWithin w.llc) (n : Note) where
     abbrev Heard : Standing → Type 0
     Heard s = CallAlong (walk_carried by_client (w, ns) s) ts → Alike ts (walk_carried by_client (w, ns) s) (walk_carried by_client (w, ks) s)
 
@@ -153,12 +147,12 @@ module _ (tail : List Signal) where
     heard_last : later_numbers ks ≡ numbers (cuts (at (after i.core.number) []) (ahead ts)) → (s : Standing) → Behind i s → Heard s
     heard_last e s (waits j is number most none times) =
         subst Heard (sym is) (same w ns ks j
-            (record { number = subst (λ x. x < 4) (sym number) fit.number; some = subst (λ x. 2 ≤ x) (sym most) fit.some; fits = subst (λ x. x ≤ 251) (sym most) fit.fits; times = times })
-            (last none (e ∙ ap (λ x. numbers (cuts (at (after x) []) (ahead ts))) (sym number))) tells within)
+        (record { number = subst (λ x. x < 4) (sym number) fit.number; some = subst (λ x. 2 ≤ x) (sym most) fit.some; fits = subst (λ x. x ≤ 251) (sym most) fit.fits; times = times })
+        (last none (e ∙ ap (λ x. numbers (cuts (at (after x) []) (ahead ts))) (sym number))) tells within)
     heard_last e s (draws j xs is core phase) =
         subst Heard (sym is) (same w ns ks j (next_fit j true xs core)
-            (drawing (record { phase = phase; plain = ap (λ (c : Core). c.extension) core; receiving = ap (λ (c : Core). c.drawing) core })
-            (e ∙ ap (λ (c : Core). numbers (cuts (at c.number []) (ahead ts))) (sym core))) tells within)
+        (drawing (record { phase = phase; plain = ap (λ (c : Core). c.extension) core; receiving = ap (λ (c : Core). c.drawing) core })
+        (e ∙ ap (λ (c : Core). numbers (cuts (at c.number []) (ahead ts))) (sym core))) tells within)
     heard_last e s (rests j reply is core) = subst Heard (sym is) (heard_rests j reply core e)
     heard_last e s (fails cause is) = subst Heard (sym is) (over_alike ts (BrokenBy cause) refl)
     heard_last e s (wanders is) = subst Heard (sym is) (over_alike ts Strays refl)
@@ -198,7 +192,8 @@ module _ (tail : List Signal) where
 
   -- a payload begins
   module _ (ts : List Turn) (same : OfSame ts) (w : Working) (ns ks : List ℕ) (i : InitState) (rested : Rested i.core) (within : IsWithin w.llc)
-      (shows : ks ≡ numbers (cuts (at i.core.number []) (ahead ts))) (along : CallAlong (Carries (w, ns) (asks i (payload (first_number ns) w))) ts) (readable : (ready w).llc.readable ≡ true) where
+      (shows : ks ≡ numbers (cuts (at i.core.number []) (ahead ts))) (along : CallAlong (Carries (w, ns) (asks i (payload (first_number ns) w))) ts)
+      (readable : (ready w).llc.readable ≡ true) where
     abbrev out : List ℕ
     out = payload (first_number ns) w
 
@@ -240,22 +235,23 @@ module _ (tail : List Signal) where
     -- some of it did
     begins_cut : (xs : List ℕ) → so_far.payloads ≡ [] → so_far.chain ≡ xs → IsFrontOf xs out → 2 ≤ length xs → Begins
     begins_cut xs none chain front two =
-        let is : so_far ≡ at so_far.next xs = ap (λ qs. record { next = so_far.next; chain = so_far.chain; payloads = qs }) none ∙ ap (λ ys. record { next = so_far.next; chain = ys; payloads = [] }) chain in
+        let is : so_far ≡ at so_far.next xs =
+        ap (λ qs. record { next = so_far.next; chain = so_far.chain; payloads = qs }) none ∙ ap (λ ys. record { next = so_far.next; chain = ys; payloads = [] }) chain in
         let shown : IsFrontOf xs other =
         subst (λ ms. IsFrontOf xs (given silent (first_number ms) (ready w).llc)) (sym (then_shows ∙ ap (λ c. numbers (cuts c tail)) is))
         (front_shown (ready w).llc (first_number ns) so_far.next xs tail readable two front) in
         calls_alike ts (w, ns) (w, ks) (asks i out) (asks i other)
         (both_due ts (begun i out) (begun i other) (begun_fit out) (record { number = refl; most = refl; plain = refl; phase = refl; bads = refl })
-            (inl (record {
-                chain = [];
-                ahead = xs;
-                first_at = begun_unsent (first_number ns);
-                second_at = begun_unsent (first_number ks);
-                none = none;
-                brings = chain;
-                first_has = front;
-                second_has = shown;
-              })) follows)
+        (inl (record {
+          chain = [];
+          ahead = xs;
+          first_at = begun_unsent (first_number ns);
+          second_at = begun_unsent (first_number ks);
+          none = none;
+          brings = chain;
+          first_has = front;
+          second_has = shown;
+        })) follows)
 
   begins_so : (ts : List Turn) → OfSame ts → (w : Working) (ns ks : List ℕ) (i : InitState) → Rested i.core → IsWithin w.llc → ks ≡ numbers (cuts (at i.core.number []) (ahead ts))
       → CallAlong (Carries (w, ns) (asks i (payload (first_number ns) w))) ts → (ready w).llc.readable ≡ true

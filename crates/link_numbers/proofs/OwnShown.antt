@@ -1,26 +1,24 @@
 -- The numbers that a call's own frames show are as good as the true ones, whatever stands behind them: the same is due by them, and what the call
 -- comes to is the same. And so they are for a closing.
-use Rattle.std.proofs.Common.{◌≡◌, ◌⊎◌, inl, inr, ℕ, List, [], ◌∷◌, ◌++◌, append_assoc, append-nil, refl, sym, ap, subst, ◌∙◌}
+use Rattle.std.proofs.Common.{◌≡◌, ◌⊎◌, inl, inr, ℕ, List, [], ◌∷◌, ◌++◌, append_assoc, refl, sym, ap, subst, ◌∙◌}
 use Rattle.nfc_base.specs.Signal.{Signal}
 use Rattle.nfc_base.specs.declared.event.Event.{Event}
-use Rattle.nfc_base.specs.declared.carrier.EndCause.{EndCause}
-use Rattle.air_core.specs.Conversation.{Note, Lit, Got, Lost, Next, LightUp, Over, Asks, IsDemand, EachDue}
+use Rattle.air_core.specs.Conversation.{Note, Next, LightUp, Over, Asks, EachDue}
 use Rattle.air_core.specs.Turning.{due_weaker}
 use Rattle.dep_link.specs.Initiator.{InitState}
 use Rattle.dep_link.specs.Asking.{Standing, Waits, Rests, Broken, Astray, due_at}
-use Rattle.dep_link.specs.Releasing.{rls_frame}
-use Rattle.snep_core.specs.Talk.{Ends, GivesUp, Goes, Step}
+use Rattle.snep_core.specs.Talk.{Step}
 use Rattle.link_calls.specs.Walk.{Carries, Comes, BrokenBy, Strays, walk_due_at, walk_noted}
 use Rattle.link_calls.specs.CallDue.{CallStanding, by_client, call_at, call_due, call_on, call_stand}
 use Rattle.link_calls.specs.ClosingDue.{Calls, ClosingStanding, Released, Releasing, closing_at, closing_due, closing_due_at, closing_noted, closing_on, closing_stand}
+use Rattle.link_numbers.specs.OwnShows.{AtEnd, GoesAlike, IsWithin, OwnShows, OwnShowsClosing, Rested}
 use Rattle.link_numbers.specs.Shown.{numbers, own_shown, requests_of}
-use Rattle.link_numbers.proofs.Cuts.{at, cuts}
-use Rattle.link_numbers.proofs.Turns.{Along, Turn, asked_in, heard_in, on}
-use Rattle.link_numbers.proofs.Alike.{EndAlike, GoAlike, asked_more, both_go, both_over, end_self, go_alike, past}
+use Rattle.link_numbers.proofs.OwnCuts.{at, cuts}
+use Rattle.link_numbers.proofs.OwnTurns.{Along, Turn, asked_in, heard_in}
+use Rattle.link_numbers.proofs.OwnAlike.{EndAlike, asked_more, both_go, both_over, end_self, go_alike, past}
 use Rattle.link_numbers.proofs.CallTurns.{Alike, BothEnd, CallAlong, call_past}
 use Rattle.link_numbers.proofs.CallTurns as ends
-use Rattle.link_numbers.proofs.CallKeeps.{AtEnd, IsWithin}
-use Rattle.link_numbers.proofs.Own.{Rested, call_alike}
+use Rattle.link_numbers.proofs.Own.{call_alike}
 
 -- no field is lit by a call
 waits_dark : (s : Standing) → due_at s ≡ LightUp → ⊥
@@ -55,18 +53,19 @@ closing_dark (Calls c) e = call_dark c e
 closing_dark (Releasing to) e = cc
 closing_dark (Released to) e = cc
 
-abbrev CallGoes : (List Note → CallStanding) → (List Note → CallStanding) → List Event → List Event → Type 0
-CallGoes first second turned more = GoAlike (walk_noted by_client) walk_due_at first second turned more
+abbrev pub CallGoes : (List Note → CallStanding) → (List Note → CallStanding) → List Event → List Event → Type 0
+CallGoes first second turned more = GoesAlike walk_due_at first second turned more
 
-abbrev ClosingGoes : (List Note → ClosingStanding) → (List Note → ClosingStanding) → List Event → List Event → Type 0
-ClosingGoes first second turned more = GoAlike closing_noted closing_due_at first second turned more
+abbrev pub ClosingGoes : (List Note → ClosingStanding) → (List Note → ClosingStanding) → List Event → List Event → Type 0
+ClosingGoes first second turned more = GoesAlike closing_due_at first second turned more
 
 -- what stands pointwise the same goes alike
-module _ {C : Type 0} (moves : C → Note → C) (due : C → Next) (first second third fourth : List Note → C) (one : (ns : List Note) → third ns ≡ first ns) (two : (ns : List Note) → fourth ns ≡ second ns) where
+module _ {C : Type 0} (moves : C → Note → C) (due : C → Next) (first second third fourth : List Note → C)
+    (one : (ns : List Note) → third ns ≡ first ns) (two : (ns : List Note) → fourth ns ≡ second ns) where
   each_same : (es : List Event) → EachDue (λ ns. due (third ns)) [] es → EachDue (λ ns. due (first ns)) [] es
   each_same es each = due_weaker (λ ns. due (first ns)) (λ ns. due (third ns)) (λ ns n e demand. ap due (sym (one ns)) ∙ e) [] es each
 
-  go_same : (turned more : List Event) → GoAlike moves due first second turned more → GoAlike moves due third fourth turned more
+  go_same : (turned more : List Event) → GoesAlike due first second turned more → GoesAlike due third fourth turned more
   go_same turned more g = record {
     each = due_weaker (λ ns. due (fourth ns)) (λ ns. due (second ns)) (λ ns n e demand. ap due (two ns) ∙ e) [] turned g.each;
     asks = λ f x tail is e. ap due (two _) ∙ g.asks f x tail is (ap due (sym (one _)) ∙ e);
@@ -114,7 +113,8 @@ closing_joined [] later d call rest = (rest, refl)
 closing_joined (t ∷ calls) later d call rest =
     let more = closing_joined calls later (walk_noted by_client d t.heard) call.1 rest in
     let is : closing_at d ≡ Calls d = closing_going d t.request call.0 in
-    subst (λ (q : ClosingStanding). ClosingAlong q (t ∷ calls ++ later) × (closing_past q (heard_in (t ∷ calls ++ later)) ≡ closing_past (closing_at (call_past d (heard_in (t ∷ calls)))) (heard_in later)))
+    subst (λ (q : ClosingStanding). ClosingAlong q (t ∷ calls ++ later)
+    × (closing_past q (heard_in (t ∷ calls ++ later)) ≡ closing_past (closing_at (call_past d (heard_in (t ∷ calls)))) (heard_in later)))
     (sym is) ((call.0, more.0), more.1)
 
 abbrev ClosingEnd : ClosingStanding → ClosingStanding → Type 0
@@ -132,7 +132,7 @@ later_alike c d later (ends.both_go f g e k) (inl none) rest =
     (tt, both_go f g (ap closing_due_at (closing_going c f e) ∙ e) (ap closing_due_at (closing_going d g k) ∙ k))
 
 module _ (ns : List ℕ) (from : Step) (i : InitState) (rested : Rested i.core) (within : AtEnd IsWithin from) (turned more : List Event) where
-  abbrev shown : List ℕ
+  abbrev pub shown : List ℕ
   shown = own_shown i.core.number (turned ++ more)
 
   abbrev true_call : CallStanding
@@ -158,8 +158,8 @@ module _ (ns : List ℕ) (from : Step) (i : InitState) (rested : Rested i.core) 
       go_same (walk_noted by_client) walk_due_at (call_past true_call) (call_past shown_call) (call_stand ns from i) (call_stand shown from i)
       (λ ms. call_is true_call ms) (λ ms. call_is shown_call ms) turned more
       (go_alike (walk_noted by_client) walk_due_at call_dark true_call shown_call turned more call_law
-          (each_same (walk_noted by_client) walk_due_at (call_past true_call) (call_past shown_call) (call_stand ns from i) (call_stand shown from i)
-              (λ ms. call_is true_call ms) (λ ms. call_is shown_call ms) turned each))
+      (each_same (walk_noted by_client) walk_due_at (call_past true_call) (call_past shown_call) (call_stand ns from i) (call_stand shown from i)
+      (λ ms. call_is true_call ms) (λ ms. call_is shown_call ms) turned each))
 
   -- a closing
   split_law : (ts : List Turn) (tail : List Signal) → asked_in ts ++ tail ≡ requests_of (turned ++ more) → Split true_call ts
@@ -183,5 +183,11 @@ module _ (ns : List ℕ) (from : Step) (i : InitState) (rested : Rested i.core) 
       go_same closing_noted closing_due_at (closing_past (closing_at true_call)) (closing_past (closing_at shown_call)) (closing_stand ns from i) (closing_stand shown from i)
       (λ ms. closing_is (closing_at true_call) ms) (λ ms. closing_is (closing_at shown_call) ms) turned more
       (go_alike closing_noted closing_due_at closing_dark (closing_at true_call) (closing_at shown_call) turned more closing_law
-          (each_same closing_noted closing_due_at (closing_past (closing_at true_call)) (closing_past (closing_at shown_call)) (closing_stand ns from i) (closing_stand shown from i)
-              (λ ms. closing_is (closing_at true_call) ms) (λ ms. closing_is (closing_at shown_call) ms) turned each))
+      (each_same closing_noted closing_due_at (closing_past (closing_at true_call)) (closing_past (closing_at shown_call)) (closing_stand ns from i) (closing_stand shown from i)
+      (λ ms. closing_is (closing_at true_call) ms) (λ ms. closing_is (closing_at shown_call) ms) turned each))
+
+pub own_shows : OwnShows
+own_shows = λ ns from i turned more rested within each. own_shown_call ns from i rested within turned more each
+
+pub own_shows_closing : OwnShowsClosing
+own_shows_closing = λ ns from i turned more rested within each. own_shown_closing ns from i rested within turned more each

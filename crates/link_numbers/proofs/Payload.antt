@@ -342,4 +342,3 @@ module _ {S : Type 0} (m : Serving S) where
           let agf : heads_agf (raw (xs ++ z ∷ zs)) ≡ true =
           heads ∙ ap (λ bs. heads_agf (raw bs)) (given_is l a.0 r) ∙ several_heads (given_parts m a.0 l).parts all in
           by_count h.0 agf (decided l k)
-

@@ -21,4 +21,3 @@ piece_in up most pni at xs p fits f =
 pub same_piece : (up : Bool) (most pni at : ℕ) (xs p q : List ℕ) → at + most ≤ length xs → IsFrontOf xs p → IsFrontOf xs q
     → piece up most pni (drop at p) ≡ piece up most pni (drop at q)
 same_piece up most pni at xs p q fits f g = piece_in up most pni at xs p fits f ∙ sym (piece_in up most pni at xs q fits g)
-

@@ -1,12 +1,12 @@
 -- A course of requests, each of which was due by what was heard before it, turn by turn; and that it is so just where each request among
 -- some events was due.
-use Rattle.std.proofs.Common.{◌≡◌, List, [], ◌∷◌, ◌++◌, append_assoc, append-nil, refl, sym, ap, subst, ◌∙◌}
+use Rattle.std.proofs.Common.{◌≡◌, List, [], ◌∷◌, ◌++◌, append_assoc, append-nil, refl, sym, ap, ◌∙◌}
 use Rattle.nfc_base.specs.Signal.{Signal}
 use Rattle.nfc_base.specs.Trace.{Back, back_of, heard_by}
 use Rattle.nfc_base.specs.Trace as backs
 use Rattle.nfc_base.specs.declared.event.Event.{Event}
 use Rattle.nfc_base.specs.declared.event.Event.TheVariants.{Reset, Request, Answer, Clash}
-use Rattle.air_core.specs.Conversation.{Note, Lit, note, Next, LightUp, Asks, receptions, EachDue}
+use Rattle.air_core.specs.Conversation.{Note, note, Next, LightUp, Asks, receptions, EachDue}
 use Rattle.link_numbers.specs.Shown.{requests_of}
 
 -- a request, and what was heard of it
@@ -77,7 +77,8 @@ module _ {C : Type 0} (moves : C → Note → C) (due : C → Next) where
   here next before at by = ap (λ es. next (receptions es)) (sym (append-nil before)) ∙ by []
 
   past : (next : List Note → Next) (before : List Event) (e : Event) (at later : Back → C)
-      → ((es : List Event) → on (at (back_of (e ∷ es))) (receptions (e ∷ es)) ≡ on (later (back_of es)) (receptions es)) → IsDueBy next before at → IsDueBy next (before ++ e ∷ []) later
+      → ((es : List Event) → on (at (back_of (e ∷ es))) (receptions (e ∷ es)) ≡ on (later (back_of es)) (receptions es)) → IsDueBy next before at
+      → IsDueBy next (before ++ e ∷ []) later
   past next before e at later same by es = ap (λ fs. next (receptions fs)) (append_assoc before (e ∷ []) es) ∙ by (e ∷ es) ∙ ap due (same es)
 
   module _ (dark : (c : C) → due c ≡ LightUp → ⊥) where

@@ -8,8 +8,7 @@ use Rattle.nfc_base.specs.Signal.{Signal}
 use Rattle.nfc_base.specs.declared.carrier.EndCause.{EndCause}
 use Rattle.air_core.specs.Conversation.{Note}
 use Rattle.dep_pdu.specs.Spelling.{IsDepFrame}
-use Rattle.dep_pdu.specs.declared.frame.DepFrame.{DepFrame}
-use Rattle.dep_pdu.specs.declared.frame.DepFrame.TheVariants.{Ack, Extend}
+use Rattle.dep_pdu.specs.declared.frame.DepFrame.TheVariants.{Ack}
 use Rattle.dep_link.specs.declared.initiator.Phase.{Phase}
 use Rattle.dep_link.specs.declared.initiator.Phase.TheVariants.{Asked, Nacked, Attending, Free, EndedSixBad, EndedProtocol}
 use Rattle.dep_link.specs.Frames.{after, information, piece, spelled}
@@ -20,9 +19,9 @@ use Rattle.dep_link.proofs.Standing.{after_small, not_lt}
 use Rattle.dep_link.proofs.Wire.{is_piece, written_read}
 use Rattle.llcp_link.specs.Fronts.{IsFrontOf}
 use Rattle.link_numbers.specs.Shown.{has_content}
-use Rattle.link_numbers.proofs.Cuts.{Grows, open_, closed, ack_again, at, behind, cuts, cuts_behind, cuts_next, cuts_still, grown, taken_ack, taken_again, taken_last, taken_more}
-use Rattle.link_numbers.proofs.Turns.{Turn, asked_in}
-use Rattle.link_numbers.proofs.Moving.{Again, Fails, InTimes, Kind, Onward, Wanders, again, frame_due, hears_more, kind_of, made, onward}
+use Rattle.link_numbers.proofs.OwnCuts.{Grows, open_, closed, ack_again, at, behind, cuts, cuts_behind, cuts_next, cuts_still, grown, taken_ack, taken_again, taken_last, taken_more}
+use Rattle.link_numbers.proofs.OwnTurns.{Turn, asked_in}
+use Rattle.link_numbers.proofs.OwnMoving.{Again, Fails, InTimes, Kind, Onward, Wanders, again, frame_due, hears_more, kind_of, made, onward}
 
 -- its parts are in the ranges of the frames that it sends, and a piece has two bytes or more where others follow
 pub record Fit (c : Core) : Type 0 where

@@ -1,0 +1,8 @@
+use Rattle.link_numbers.proofs.OwnShown as shown
+use Rattle.link_numbers.proofs.law.numbers_show.Goals as goal
+
+pub returns-clause-own : goal.returns-clause-own
+returns-clause-own c = shown.own_shows
+
+pub returns-clause-closing : goal.returns-clause-closing
+returns-clause-closing c = shown.own_shows_closing
