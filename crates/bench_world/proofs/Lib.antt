@@ -128,3 +128,12 @@ pub mod AlikeChanged
 pub mod AlikeFronts
 pub mod AlikeLaws
 pub mod AlikeStates
+pub mod SizedTargets
+pub mod SizedEnds
+pub mod SizedItems
+pub mod SizedGives
+pub mod SizedServer
+pub mod SizedWorld
+pub mod SizedFronts
+pub mod SizedDevices
+pub mod SizedStates

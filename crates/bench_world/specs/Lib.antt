@@ -16,6 +16,7 @@ pub mod Arriving
 pub mod Forging
 pub mod Rawing
 pub mod Legal
+pub mod Cutting
 pub mod Halting
 pub mod Unfinished
 pub mod Obeying

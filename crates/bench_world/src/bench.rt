@@ -440,6 +440,7 @@ pub struct Bench {
 
 impl Model for Bench {
     ghost use Rattle.std.specs.Prelude.{◌≡◌, false};
+    ghost use Rattle.bench_world.specs.Cutting.{CutsWell};
     ghost use Rattle.bench_world.specs.Obeying.{Benched, IsSettled, state_at};
 
     ghost Value = { Benched };
@@ -452,7 +453,7 @@ impl Model for Bench {
       spoiled = b.spoiled;
     } };
 
-    ghost invariant = { λ b. b.spoiled ≡ false → IsSettled b.machines };
+    ghost invariant = { λ b. b.spoiled ≡ false → IsSettled b.machines × CutsWell (state_at b.machines) };
 }
 
 /// Adds an entry where there is room.

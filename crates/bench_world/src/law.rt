@@ -8,6 +8,7 @@ ghost use Rattle.bench_world.specs.CompletingLinks.{AskedComplete, PutsComplete,
 ghost use Rattle.bench_world.specs.CompletingForging.{ForgedKindsTold, ForgingsComplete, QuietForgings};
 ghost use Rattle.bench_world.specs.CompletingRaws.{QuietRaws, RawsComplete};
 ghost use Rattle.bench_world.specs.CompletingThrees.{ThreesRead, ThreesWrite, ThreesWritten, QuietThreesRead, QuietThreesWrite, QuietThreesWritten, Written3IsRead, Written3IsWhole, OneOfTwo3IsRead, Undisturbed3IsRead, Quiet3IsRead};
+ghost use Rattle.bench_world.specs.Cutting.{FirstCuts, FrontsCut, MidstCuts, RepliesShort};
 ghost use Rattle.bench_world.specs.LinkLaw.{CutArrivalLaw, CutLinkLaw, LinkLaw};
 ghost use Rattle.bench_world.specs.Quiet.{QuietStays, QuietReads, QuietWrites, QuietIsWritten, QuietFinds, QuietTags, QuietThrees};
 ghost use Rattle.bench_world.specs.QuietHearing.{QuietHears, QuietScript};
@@ -137,4 +138,13 @@ pub fn links_accept()
     ensures whole { LinkLaw }
     ensures cut { CutLinkLaw }
     ensures stopped { CutArrivalLaw }
+{}
+
+/// Both ends of each link cut payloads into pieces of two bytes or more, and no reply of a peer is longer than 2,178
+/// bytes: so it is of a new bench, through each command, and in the midst of one, whatever happens in it.
+pub fn pieces_stay()
+    ensures first { FirstCuts }
+    ensures fronts { FrontsCut }
+    ensures midst { MidstCuts }
+    ensures replies { RepliesShort }
 {}
