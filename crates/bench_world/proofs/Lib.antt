@@ -137,3 +137,12 @@ pub mod SizedWorld
 pub mod SizedFronts
 pub mod SizedDevices
 pub mod SizedStates
+pub mod FarDevices
+pub mod ShowingTurns
+pub mod ShowingSplits
+pub mod ShowingStep
+pub mod ShowingBegins
+pub mod ShowingOwn
+pub mod ShowingFar
+pub mod ShowingLink
+pub mod ShowingSteps

@@ -45,3 +45,4 @@ pub mod ByPayloads
 pub mod LinkLaw
 pub mod Gains
 pub mod Alike
+pub mod Showing

@@ -1,0 +1,127 @@
+-- While something is asked on the open link of a bench, the numbers that the answers of its peer show are as good as the true ones.
+use Rattle.std.proofs.Common.{◌≡◌, ℕ, zero, suc, ◌≤◌, true, List, [], ◌∷◌, ◌++◌, length, Option, Some, None, refl, sym, ◌∙◌, ap, subst, append_assoc}
+use Rattle.std.specs.Prelude.{IfSome, get_or}
+use Rattle.std.specs.List.{AllByRecursion}
+use Rattle.nfc_base.specs.Signal.{Signal}
+use Rattle.nfc_base.specs.declared.event.Event.{Event}
+use Rattle.nfc_base.specs.declared.event.Event.TheVariants.{Reset, Request, Answer, Clash}
+use Rattle.nfc_base.specs.declared.event.Fate.{Fate}
+use Rattle.nfc_base.specs.declared.event.Fate.TheVariants.{Pass, Damage, Lose, Break}
+use Rattle.air_core.specs.Conversation.{AreTurns, EachDue, receptions, replay}
+use Rattle.air_core.specs.World.{World}
+use Rattle.far_air.specs.FarEnds.{by_link, first_far, later_fars, numbers_left}
+use Rattle.far_air.specs.FarLaws.{shown}
+use Rattle.far_air.specs.FarWorld.{far_happens, reply_at, with_numbers}
+use Rattle.peer_air.specs.PeerFars.{peer_ends}
+use Rattle.snep_core.specs.Talk.{closes}
+use Rattle.link_calls.specs.Asking.{LinkAsking, Does, Closes, call_begins}
+use Rattle.link_calls.specs.CallDue.{CallStanding, Carries, Comes, BrokenBy, Strays, by_client, call_stand, next_of}
+use Rattle.link_calls.specs.ClosingDue.{ClosingStanding, Calls, Releasing, Released, closing_stand}
+use Rattle.link_numbers.specs.Shown.{far_shown}
+use Rattle.link_numbers.proofs.FarClosing as closing
+use Rattle.link_numbers.proofs.FarClosing.{HasClosed}
+use Rattle.link_numbers.proofs.FarFit.{FitsAt, RepliesAt, RepliesFit}
+use Rattle.link_numbers.proofs.FarWalk.{HasCome, Outs}
+use Rattle.bench_devices.specs.declared.device.Device.{Device}
+use Rattle.bench_devices.specs.Device.{device_end, device_linked, devices}
+use Rattle.bench_world.specs.Calls.{due_asked}
+use Rattle.bench_world.specs.Legal.{State}
+use Rattle.bench_world.specs.Links.{OpenLink}
+use Rattle.bench_world.specs.Obeying.{Machines, linked_at, state_at}
+use Rattle.bench_world.specs.Opened.{IsOpen}
+use Rattle.bench_world.specs.World.{FarEnd, WholeWorld, bench_air}
+use Rattle.bench_world.proofs.OnLink.{linked_in}
+use Rattle.bench_world.specs.Cutting.{CutsReplies, GivesShort}
+use Rattle.bench_world.specs.Showing.{CarriesShort, ClosesShort, FarShort, IsBetween, OwnShort, RepliesShortAt, ReplyShort}
+use Rattle.bench_world.proofs.FarDevices.{ShowsWell, TalksTo, closing_shows, talks_at, walk_shows}
+use Rattle.bench_world.proofs.ShowingOwn.{opened_at}
+
+-- what stands at a place
+shown_there : (ds : List Device) (os : List (Option FarEnd)) (place : ℕ) (a : FarEnd) → linked_at place ds ≡ true → get_or os place None ≡ Some a
+    → get_or (shown device_linked peer_ends ds os) place None ≡ Some a
+shown_there [] os place a linked e = absurd cc
+shown_there (d ∷ ds) [] place a linked e = absurd cc
+shown_there (d ∷ ds) (o ∷ os) zero a linked e = ap (λ v. by_link peer_ends v o) linked ∙ e
+shown_there (d ∷ ds) (o ∷ os) (suc place) a linked e = shown_there ds os place a linked e
+
+all_at : (P : Option FarEnd → Type 0) (os : List (Option FarEnd)) (place : ℕ) (a : FarEnd) → AllByRecursion P os → get_or os place None ≡ Some a → P (Some a)
+all_at P [] place a all e = absurd cc
+all_at P (o ∷ os) zero a all e = subst P e all.0
+all_at P (o ∷ os) (suc place) a all e = all_at P os place a all.1 e
+
+all_split : (P : Device → Type 0) (before : List Device) (d : Device) (behind : List Device) → AllByRecursion P (before ++ d ∷ behind) → P d
+all_split P [] d behind all = all.0
+all_split P (x ∷ before) d behind all = all_split P before d behind all.1
+
+-- lengths of replies, by where they are given
+short_at : (f : Signal) (ds : List Device) (os : List (Option FarEnd)) (ns : List ℕ) → RepliesShortAt f ds os ns → RepliesAt devices device_linked peer_ends f ds os ns
+short_at f [] os ns h = tt
+short_at f (d ∷ ds) os ns h = (h.0, short_at f ds (later_fars os) (numbers_left (reply_at devices device_linked peer_ends d f (first_far os) ns) ns) h.1)
+
+fits_at : (x : Fate) (f : Signal) (w : WholeWorld) → ReplyShort x f w → FitsAt devices device_linked peer_ends x f w
+fits_at Pass f w h = short_at f w.field.listeners w.fars w.numbers h
+fits_at Damage f w h = tt
+fits_at Lose f w h = tt
+fits_at Break f w h = tt
+
+later_short : (w : WholeWorld) (e : Event) (es : List Event) → FarShort w (e ∷ es) → FarShort (far_happens devices device_linked peer_ends w e) es
+later_short w e es h before f x rest is = h (e ∷ before) f x rest (ap (λ t. e ∷ t) is)
+
+replies_fit : (es : List Event) (w : WholeWorld) → FarShort w es → RepliesFit devices device_linked peer_ends w es
+replies_fit [] w h = tt
+replies_fit (Reset ∷ es) w h = replies_fit es (far_happens devices device_linked peer_ends w Reset) (later_short w Reset es h)
+replies_fit (Request f x ∷ es) w h =
+    (fits_at x f w (h [] f x es refl), replies_fit es (far_happens devices device_linked peer_ends w (Request f x)) (later_short w (Request f x) es h))
+replies_fit (Answer g x ∷ es) w h = replies_fit es (far_happens devices device_linked peer_ends w (Answer g x)) (later_short w (Answer g x) es h)
+replies_fit (Clash g x ∷ es) w h = replies_fit es (far_happens devices device_linked peer_ends w (Clash g x)) (later_short w (Clash g x) es h)
+
+-- lengths of what is carried
+call_outs : (c : CallStanding) → CarriesShort c → Outs by_client c
+call_outs (Carries w s) h = h
+call_outs (Comes to i) h = tt
+call_outs (BrokenBy cause) h = tt
+call_outs Strays h = tt
+
+closing_outs : (c : ClosingStanding) → ClosesShort c → closing.Outs c
+closing_outs (Calls c) h = call_outs c h
+closing_outs (Releasing to) h = tt
+closing_outs (Released to) h = tt
+
+-- what was asked came to its end
+abbrev pub HasEnded : LinkAsking → OpenLink → List ℕ → List Event → Type 0
+HasEnded (Does call) l own es = HasCome by_client (call_stand own (call_begins l.client call) l.initiator (receptions es))
+HasEnded Closes l own es = HasClosed (closing_stand own (closes l.client) l.initiator (receptions es))
+
+module _ (s : State) (l : OpenLink) (b : IsBetween s) (open_ : s.link ≡ Some l) (far : List ℕ) where
+  abbrev opened : IsOpen b.machines.air b.machines.ends b.machines.peers l
+  opened = opened_at s l b open_
+
+  abbrev pub world : WholeWorld
+  world = with_numbers s.world far
+
+  field_is : world.field ≡ record { lit = b.machines.air.lit; listeners = b.machines.air.listeners }
+  field_is = ap (λ (t : State). t.world.field) b.is
+
+  above : get_or world.fars opened.place None ≡ Some opened.end
+  above =
+      ap (λ (t : State). get_or t.world.fars opened.place None) b.is
+      ∙ shown_there b.machines.air.listeners b.machines.ends opened.place opened.end (linked_in b.machines.air opened.place l.initiator opened.step) opened.above
+
+  talks : TalksTo world opened.place l.initiator opened.end
+  talks = talks_at b.machines.air world opened.place l.initiator opened.end opened.step field_is above
+
+  gives_short : GivesShort opened.end
+  gives_short = all_at (λ o. IfSome o GivesShort) world.fars opened.place opened.end b.cuts.world.ends above
+
+  cuts_well : 2 ≤ (device_end talks.device).most
+  cuts_well = (all_split CutsReplies talks.alone.before talks.device talks.alone.behind (subst (AllByRecursion CutsReplies) talks.alone.split b.cuts.world.targets)).0
+
+  -- By the numbers that are shown the same turns are made.
+  pub far_goes : (asked : LinkAsking) (own : List ℕ) (es more : List Event) → AreTurns bench_air world es → EachDue (due_asked asked l own) [] es → OwnShort asked l own es → FarShort world es
+      → ShowsWell world (far_shown l.initiator.core.number (es ++ more)) es (HasEnded asked l own es)
+  far_goes (Does call) own es more turns each short replies =
+      walk_shows world opened.place l.initiator opened.end talks gives_short cuts_well es more by_client (next_of own (call_begins l.client call)) turns each (replies_fit es world replies)
+      (λ before f x rest is. call_outs (call_stand own (call_begins l.client call) l.initiator (receptions before)) (short before f x rest is))
+  far_goes Closes own es more turns each short replies =
+      closing_shows world opened.place l.initiator opened.end talks gives_short cuts_well es more own (closes l.client) turns each (replies_fit es world replies)
+      (λ before f x rest is. closing_outs (closing_stand own (closes l.client) l.initiator (receptions before)) (short before f x rest is))
