@@ -127,9 +127,9 @@ module _ (s : State) (c : Command) (asked : LinkAsking) (on : asked_on_link c �
     begins_on_link es rest fs more p q t u shown short front over front_by over_by =
         begins_same bench_air (due s g c) (due s h c) (begun s g.joins c) (begun s h.joins c) (changed s c).queue es rest fs front.turns front.each front.fates over front_by.turns front_by.each front_by.fates over_by more
         (λ turned tail is turns each.
-          let all : es ++ rest ≡ turned ++ (tail ++ rest) = ap (λ z. z ++ rest) is ∙ append_assoc turned tail rest in
-          goes_on_link turned (tail ++ more) (shown ∙ ap (shown_of s c) (ap (λ z. z ++ more) is ∙ append_assoc turned tail more)) turns each
-          (own_front asked l g.joins.own turned (tail ++ rest) (subst (OwnShort asked l g.joins.own) all (short l asked open_ on))))
+        let all : es ++ rest ≡ turned ++ (tail ++ rest) = ap (λ z. z ++ rest) is ∙ append_assoc turned tail rest in
+        goes_on_link turned (tail ++ more) (shown ∙ ap (shown_of s c) (ap (λ z. z ++ more) is ∙ append_assoc turned tail more)) turns each
+        (own_front asked l g.joins.own turned (tail ++ rest) (subst (OwnShort asked l g.joins.own) all (short l asked open_ on))))
 
   -- where no link is open nothing happens
   pub none_happens : s.link ≡ None → (g : Given) (es : List Event) (told : Option Answer) (t : State) → FrontOf s g c es told t → es ≡ []
