@@ -1,7 +1,6 @@
 -- A peer of the bench that is selected and has a link does what its target's table says; the devices beside it are silent at the frames of its link.
-use Rattle.std.proofs.Common.{◌≡◌, ℕ, zero, suc, ◌≤◌, Bool, true, false, if◌then◌else◌, List, [], ◌∷◌, ◌++◌, length, Option, Some, None, refl, sym, ◌∙◌, ap, subst}
+use Rattle.std.proofs.Common.{◌≡◌, ℕ, zero, suc, ◌≤◌, Bool, true, false, List, [], ◌∷◌, ◌++◌, length, Option, Some, None, refl, sym, ◌∙◌, ap, subst}
 use Rattle.std.specs.Prelude.{get_or}
-use Rattle.std.specs.List.{AllByRecursion}
 use Rattle.arrayvec.specs.ArrayVec.{ArrayVec}
 use Rattle.nfc_base.specs.Signal.{Signal, whole_a}
 use Rattle.nfc_base.specs.declared.event.Event.{Event}
@@ -37,7 +36,7 @@ use Rattle.bench_devices.specs.declared.device.Device.TheVariants.{T2, T4, Peer,
 use Rattle.bench_devices.specs.Beside.{InStepAt}
 use Rattle.bench_devices.specs.Device.{devices, device_end, device_id, device_linked, device_selected}
 use Rattle.bench_devices.specs.Keeping.{ghosts}
-use Rattle.bench_devices.specs.Peers.{PeerDid, PeerNear, by_target, delivered, peer_if, peer_machine, takes_frame}
+use Rattle.bench_devices.specs.Peers.{PeerNear, by_target, delivered, peer_if, peer_machine, takes_frame}
 use Rattle.bench_devices.proofs.QuietRats.{laws}
 use Rattle.link_numbers.specs.Shown.{far_shown}
 use Rattle.link_numbers.proofs.FarAlone.{Around, AreAround, IsSilent, amid}
@@ -49,7 +48,7 @@ use Rattle.link_numbers.proofs.FarMost.{Cuts, dark_cuts, table_cuts}
 use Rattle.link_numbers.proofs.FarPayloads.{IsWithin, peer_numbered, reads}
 use Rattle.link_numbers.proofs.FarRun.{most_replied}
 use Rattle.link_numbers.proofs.FarShown.{SameDark}
-use Rattle.link_numbers.proofs.FarSolo.{DoesSo, leaving}
+use Rattle.link_numbers.proofs.FarSolo.{DoesSo}
 use Rattle.link_numbers.proofs.FarWalk.{HasCome, Outs}
 use Rattle.link_numbers.proofs.FarWalked.{walks_well}
 

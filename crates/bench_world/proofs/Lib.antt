@@ -144,6 +144,8 @@ pub mod ShowingStep
 pub mod ShowingOwn
 pub mod ShowingFar
 pub mod ShowingLink
+pub mod ShowingTags
+pub mod ShowingAlone
 pub mod ShowingSteps
 pub mod ShowingAlike
 pub mod ShowingLeft

@@ -1,13 +1,11 @@
 -- What a step leaves is alike by whatever numbers its events can be had, and the same is told of it.
 use Rattle.std.proofs.Common.{◌≡◌, ℕ, List, [], ◌∷◌, ◌++◌, Bool, true, false, if◌then◌else◌, Option, Some, None, refl, sym, ◌∙◌, ap, subst}
-use Rattle.std.proofs.lemmas.List.{append-nil}
 use Rattle.std.specs.Prelude.{IsSome, map}
 use Rattle.nfc_base.specs.declared.event.Event.{Event}
 use Rattle.air_core.specs.Conversation.{AreTurns, EachDue, Over, queue_after, receptions, replay}
-use Rattle.far_air.specs.FarEnds.{first_far, later_fars, rests}
+use Rattle.far_air.specs.FarEnds.{rests}
 use Rattle.far_air.specs.FarWorld.{far_dark, with_numbers}
 use Rattle.peer_air.specs.PeerFars.{peer_ends}
-use Rattle.snep_core.specs.Talk.{Ends, GivesUp, Goes}
 use Rattle.link_calls.specs.Asking.{LinkAsking, Does, Closes, Call}
 use Rattle.link_calls.specs.CallDue.{CallStanding, Carries, Comes, BrokenBy, Strays, by_client}
 use Rattle.link_numbers.proofs.FarShown.{SameDark}
@@ -17,7 +15,7 @@ use Rattle.bench_devices.specs.Device.{device_linked, devices}
 use Rattle.bench_world.specs.declared.entry.Answer.{Answer}
 use Rattle.bench_world.specs.Asked.{asked_on_link}
 use Rattle.bench_world.specs.Calls.{asked_behind, due_asked, link_behind, stands_on, told_asked}
-use Rattle.bench_world.specs.Legal.{FrontOf, Given, Joins, State, begun, changed, due, link_after, link_left, peers_after, peers_left, state_after, world_after}
+use Rattle.bench_world.specs.Legal.{Given, Joins, State, begun, changed, due, link_after, link_left, peers_after, peers_left, state_after, world_after}
 use Rattle.bench_world.specs.Links.{OpenLink, accepted_by, end_numbered, ended_unless, is_number, with_last_ended}
 use Rattle.bench_world.specs.Peers.{Peers}
 use Rattle.bench_world.specs.World.{FarEnd, WholeWorld, bench_air}

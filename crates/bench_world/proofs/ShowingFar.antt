@@ -1,5 +1,5 @@
 -- While something is asked on the open link of a bench, the numbers that the answers of its peer show are as good as the true ones.
-use Rattle.std.proofs.Common.{◌≡◌, ℕ, zero, suc, ◌≤◌, true, List, [], ◌∷◌, ◌++◌, length, Option, Some, None, refl, sym, ◌∙◌, ap, subst, append_assoc}
+use Rattle.std.proofs.Common.{◌≡◌, ℕ, zero, suc, ◌≤◌, true, List, [], ◌∷◌, ◌++◌, length, Option, Some, None, sym, ◌∙◌, ap, subst}
 use Rattle.std.specs.Prelude.{IfSome, get_or}
 use Rattle.std.specs.List.{AllByRecursion}
 use Rattle.nfc_base.specs.Choosing.{first_number}
@@ -10,7 +10,7 @@ use Rattle.nfc_base.specs.declared.event.Event.TheVariants.{Reset, Request, Answ
 use Rattle.nfc_base.specs.declared.event.Fate.{Fate}
 use Rattle.nfc_base.specs.declared.event.Fate.TheVariants.{Pass, Damage, Lose, Break}
 use Rattle.air_core.specs.Conversation.{AreTurns, EachDue, receptions, replay}
-use Rattle.air_core.specs.World.{World, hands_over}
+use Rattle.air_core.specs.World.{hands_over}
 use Rattle.dep_link.specs.Sizes.{limit}
 use Rattle.far_air.specs.FarEnds.{by_link, first_far, later_fars, numbers_left, reply_to}
 use Rattle.far_air.specs.FarLaws.{shown}
@@ -30,7 +30,7 @@ use Rattle.bench_devices.specs.Device.{device_end, device_linked, devices}
 use Rattle.bench_world.specs.Calls.{due_asked}
 use Rattle.bench_world.specs.Legal.{State}
 use Rattle.bench_world.specs.Links.{OpenLink}
-use Rattle.bench_world.specs.Obeying.{Machines, linked_at, state_at}
+use Rattle.bench_world.specs.Obeying.{linked_at}
 use Rattle.bench_world.specs.Opened.{IsOpen}
 use Rattle.bench_world.specs.World.{FarEnd, WholeWorld, bench_air}
 use Rattle.bench_world.proofs.OnLink.{linked_in}

@@ -1,5 +1,5 @@
 -- What happened in a step decides what is told of it and what stays of it, by whatever numbers of PDUs.
-use Rattle.std.proofs.Common.{◌≡◌, ℕ, List, [], ◌∷◌, ◌++◌, Option, Some, None, refl, sym, ◌∙◌, ap, subst}
+use Rattle.std.proofs.Common.{◌≡◌, List, [], ◌++◌, Option, Some, None, refl, sym, ◌∙◌, subst}
 use Rattle.nfc_base.specs.declared.event.Event.{Event}
 use Rattle.air_core.specs.Conversation.{Over, receptions}
 use Rattle.link_calls.specs.Asking.{LinkAsking}
@@ -8,13 +8,13 @@ use Rattle.bench_world.specs.declared.entry.Answer.{Answer}
 use Rattle.bench_world.specs.declared.entry.Entry.{Entry}
 use Rattle.bench_world.specs.Asked.{asked_on_link}
 use Rattle.bench_world.specs.Calls.{told_asked}
-use Rattle.bench_world.specs.Legal.{FrontOf, Given, Joins, LegalStep, State, due, joins_for, no_joins, state_after}
+use Rattle.bench_world.specs.Legal.{FrontOf, Given, Joins, LegalStep, State, due, state_after}
 use Rattle.bench_world.specs.Links.{OpenLink}
-use Rattle.bench_world.specs.Alike.{Alike, IsToldSame}
+use Rattle.bench_world.specs.Alike.{Alike}
 use Rattle.bench_world.specs.Showing.{EntriesLeaveAlike, EventsTell, IsBetween, IsSwapped, PayloadsShort, shown_of}
 use Rattle.bench_world.proofs.ShowingAlike.{alike_back, alike_on, alike_same, alike_shown, same_none, told_shown}
+use Rattle.bench_world.proofs.ShowingAlone.{alone_left}
 use Rattle.bench_world.proofs.ShowingLink.{none_happens}
-use Rattle.bench_world.proofs.ShowingSteps.{no_numbers}
 
 -- a front that is over, by some numbers
 told_by_shown : (s t : State) (g : Given) (c : Command) (es : List Event) (a : Answer) → IsBetween s → FrontOf s g c es (Some a) t → due s g c (receptions es) ≡ Over → PayloadsShort s g c es
@@ -30,7 +30,7 @@ events_tell s t u g h e f between step short step_by short_by same events asked 
     sym (told_by_shown s t g e.command e.events e.answer between step.front step.over short asked l on open_)
     ∙ told_by_shown s u h e.command e.events f.answer between front over short_by asked l on open_
 
-module _ (s t u : State) (g h : Given) (e : Entry) (between : IsBetween s) (swapped : IsSwapped e.command) (p : LegalStep s g e t) (short : PayloadsShort s g e.command e.events)
+module _ (s t u : State) (g h : Given) (e : Entry) (between : IsBetween s) (swapped : IsSwapped s e.command) (p : LegalStep s g e t) (short : PayloadsShort s g e.command e.events)
     (q : LegalStep s h e u) (short_by : PayloadsShort s h e.command e.events) where
   abbrev after : Joins → State
   after joins = state_after s joins e.command e.events (Some e.answer)
@@ -50,8 +50,7 @@ module _ (s t u : State) (g h : Given) (e : Entry) (between : IsBetween s) (swap
 
   by_asked : (o : Option LinkAsking) → asked_on_link e.command ≡ o → Alike (after g.joins) (after h.joins)
   by_asked None off =
-      let same : g.joins ≡ h.joins = p.front.takes ∙ no_numbers e.command g.joins off swapped ∙ sym (q.front.takes ∙ no_numbers e.command h.joins off swapped) in
-      alike_same (after g.joins) (after h.joins) (ap after same)
+      alike_same (after g.joins) (after h.joins) (alone_left s e.command off swapped g h e.events e.events e.answer e.answer t u p.front p.over q.front q.over)
   by_asked (Some asked) on = by_link asked on s.link refl
 
   pub leaves_alike : Alike t u

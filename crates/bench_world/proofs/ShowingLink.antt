@@ -3,21 +3,20 @@ use Rattle.std.proofs.Common.{◌≡◌, ℕ, List, [], ◌∷◌, ◌++◌, Opt
 use Rattle.nfc_base.specs.Trace.{back_of}
 use Rattle.nfc_base.specs.declared.event.Event.{Event}
 use Rattle.nfc_base.specs.declared.event.Event.TheVariants.{Request}
-use Rattle.air_core.specs.Conversation.{AreTurns, EachDue, Note, Next, Over, receptions}
+use Rattle.air_core.specs.Conversation.{AreTurns, EachDue, Note, Over, receptions}
 use Rattle.air_core.specs.Turning.{due_weaker}
 use Rattle.air_core.proofs.Following.{nothing_more, trace_first}
 use Rattle.far_air.specs.FarWorld.{with_numbers}
 use Rattle.link_calls.specs.Asking.{LinkAsking}
-use Rattle.link_numbers.specs.Shown.{far_shown, own_shown}
+use Rattle.link_numbers.specs.Shown.{far_shown}
 use Rattle.bench_script.specs.declared.command.Command.{Command}
 use Rattle.bench_script.specs.declared.command.Command.TheVariants.{Skip, Fates, PlaceT2, PlaceT3, PlaceT4, PlaceT5, PlacePeer, Lock, Busy, Offer, Remove, Dump, Inbox, Find, Crowd, Poll3, Read, Read3, Write, Write3, Link, Forge, Raw, Put, Get, Lookup, OnPut, OnGet, Puts, Unlink}
 use Rattle.bench_world.specs.declared.entry.Answer.{Answer}
-use Rattle.bench_world.specs.declared.entry.Entry.{Entry}
 use Rattle.bench_world.specs.Asked.{asked_on_link}
 use Rattle.bench_world.specs.Calls.{due_asked, due_if}
-use Rattle.bench_world.specs.Legal.{FrontOf, Given, Joins, LegalStep, State, begun, changed, due, due_by, joins_by}
+use Rattle.bench_world.specs.Legal.{FrontOf, Given, Joins, State, begun, changed, due, due_by, joins_by}
 use Rattle.bench_world.specs.Links.{OpenLink}
-use Rattle.bench_world.specs.World.{WholeWorld, bench_air}
+use Rattle.bench_world.specs.World.{bench_air}
 use Rattle.bench_world.specs.Showing.{BeginsSame, IsBetween, OwnShort, PayloadsShort, counted_from, first_pni, joins_shown, shown_of}
 use Rattle.bench_world.proofs.FarDevices.{ShowsWell}
 use Rattle.bench_world.proofs.ShowingFar.{CutsOn, HasEnded, far_goes}

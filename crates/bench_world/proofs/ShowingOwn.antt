@@ -1,15 +1,12 @@
 -- What is asked on an open link goes the same way by the numbers that its own frames show: the same is due, and the same is told of it.
-use Rattle.std.proofs.Common.{◌≡◌, ℕ, ◌<◌, List, [], ◌∷◌, ◌++◌, Option, Some, None, refl, sym, ◌∙◌, ap, subst}
+use Rattle.std.proofs.Common.{◌≡◌, ℕ, List, [], ◌∷◌, ◌++◌, Option, Some, None, refl, sym, ◌∙◌, ap, subst}
 use Rattle.nfc_base.specs.Signal.{Signal}
 use Rattle.nfc_base.specs.declared.event.Event.{Event}
 use Rattle.nfc_base.specs.declared.event.Event.TheVariants.{Request}
 use Rattle.nfc_base.specs.declared.event.Fate.{Fate}
-use Rattle.air_core.specs.Conversation.{Note, Next, Over, Asks, EachDue, receptions}
-use Rattle.dep_link.specs.Initiator.{Core}
+use Rattle.air_core.specs.Conversation.{Over, Asks, EachDue, receptions}
 use Rattle.snep_core.specs.Talk.{closes}
 use Rattle.link_calls.specs.Asking.{LinkAsking, Does, Closes, Call, call_begins}
-use Rattle.link_calls.specs.CallDue.{CallStanding}
-use Rattle.link_calls.specs.ClosingDue.{ClosingStanding}
 use Rattle.link_numbers.specs.OwnShows.{Rested, IsWithin}
 use Rattle.link_numbers.specs.Shown.{own_shown}
 use Rattle.link_numbers.proofs.OwnShown.{own_shows, own_shows_closing}
@@ -17,7 +14,6 @@ use Rattle.bench_world.specs.declared.entry.Answer.{Answer}
 use Rattle.bench_world.specs.Calls.{IfLinked, asked_behind, due_asked, link_behind, told_asked, told_call, told_closing}
 use Rattle.bench_world.specs.Legal.{State}
 use Rattle.bench_world.specs.Links.{OpenLink}
-use Rattle.bench_world.specs.Obeying.{KeepsLink, Machines, state_at}
 use Rattle.bench_world.specs.Opened.{IsOpen}
 use Rattle.bench_world.specs.Cutting.{LinkCuts}
 use Rattle.bench_world.specs.Showing.{IsBetween}

@@ -1,5 +1,5 @@
 -- Where the same is due and the same turns are made by other numbers, a course by these numbers begins with the same events: over any air.
-use Rattle.std.proofs.Common.{◌≡◌, ◌⊎◌, inl, inr, List, [], ◌∷◌, ◌++◌, refl, sym, ◌∙◌, ap, subst, append_assoc}
+use Rattle.std.proofs.Common.{◌≡◌, inl, inr, List, [], ◌∷◌, ◌++◌, refl, sym, ◌∙◌, ap, subst, append_assoc}
 use Rattle.std.proofs.lemmas.List.{append-nil}
 use Rattle.nfc_base.specs.Signal.{Signal}
 use Rattle.nfc_base.specs.Trace.{back_of}
@@ -8,7 +8,7 @@ use Rattle.nfc_base.specs.declared.event.Event.{Event}
 use Rattle.nfc_base.specs.declared.event.Event.TheVariants.{Reset, Request, Answer, Clash}
 use Rattle.nfc_base.specs.declared.event.Fate.{Fate}
 use Rattle.nfc_base.specs.declared.event.Fate.TheVariants.{Pass}
-use Rattle.air_core.specs.Conversation.{AirModel, Note, Next, Over, LightUp, Asks, receptions, replay, EachDue, first_fate, later_fates, queue_after, FatesFrom, AreTurns}
+use Rattle.air_core.specs.Conversation.{AirModel, Note, Next, Over, Asks, receptions, replay, EachDue, first_fate, later_fates, queue_after, FatesFrom, AreTurns}
 use Rattle.air_core.proofs.Following.{no_demand, nothing_more, same_asked, light_is_no_request, trace_first}
 use Rattle.bench_world.specs.Showing.{BeginsSame}
 use Rattle.bench_world.proofs.ShowingSplits.{IsTail, Splits, splits}

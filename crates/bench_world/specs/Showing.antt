@@ -16,6 +16,7 @@ use Rattle.link_calls.specs.ClosingDue.{ClosingStanding, Calls, Releasing, Relea
 use Rattle.link_numbers.specs.Shown.{far_shown, own_shown}
 use Rattle.bench_script.specs.declared.command.Command.{Command}
 use Rattle.bench_script.specs.declared.command.Command.TheVariants.{Forge, Raw}
+use Rattle.bench_devices.specs.AnyFrame.{peers_in}
 use Rattle.bench_world.specs.declared.entry.Entry.{Entry}
 use Rattle.bench_world.specs.Asked.{asked_on_link}
 use Rattle.bench_world.specs.Calls.{stands_closing, stands_on}
@@ -60,11 +61,11 @@ pub record BeginsSame (es rest fs : List Event) : Type 0 where
   pub ended : other ≡ [] → back_of rest ≡ backs.Nothing → rest ≡ []
 
 -- Numbers of PDUs have no part in a command but one that is asked on the open link, or in which payloads or frames are
--- written by hand: of these two nothing is said here.
-abbrev pub IsSwapped : Command → Type 0
-IsSwapped (Forge id payloads) = ⊥
-IsSwapped (Raw id frames) = ⊥
-IsSwapped c = Unit {0}
+-- written by hand: of these two something is said only where no peer is placed.
+abbrev pub IsSwapped : State → Command → Type 0
+IsSwapped s (Forge id payloads) = peers_in s.world.field.listeners ≡ 0
+IsSwapped s (Raw id frames) = peers_in s.world.field.listeners ≡ 0
+IsSwapped s c = Unit {0}
 
 -- what a call carries, and a closing, is no longer than a payload may be
 abbrev pub CarriesShort : CallStanding → Type 0
@@ -98,7 +99,7 @@ PayloadsShort s g c es =
 abbrev pub NumbersShow : Type 0
 NumbersShow =
     (s t u : State) (g h : Given) (e f : Entry) (es rest more : List Event)
-    → IsBetween s → IsSwapped e.command
+    → IsBetween s → IsSwapped s e.command
     → LegalStep s g e t → PayloadsShort s g e.command e.events → e.events ≡ es ++ rest
     → LegalStep s h f u → f.command ≡ e.command → h.joins ≡ shown_of s e.command (es ++ more)
     → BeginsSame es rest f.events
@@ -117,7 +118,7 @@ EventsTell =
 abbrev pub EntriesLeaveAlike : Type 0
 EntriesLeaveAlike =
     (s t u : State) (g h : Given) (e : Entry)
-    → IsBetween s → IsSwapped e.command
+    → IsBetween s → IsSwapped s e.command
     → LegalStep s g e t → PayloadsShort s g e.command e.events
     → LegalStep s h e u → PayloadsShort s h e.command e.events
     → Alike t u

@@ -152,8 +152,8 @@ pub fn pieces_stay()
 
 /// Numbers of PDUs that events show are as good as the true ones, whatever stands behind these events: where a legal
 /// step begins with them, one by the numbers that they show does too, and is over where it is. And what happened in a step
-/// decides what is told of it and what stays, by whatever numbers it could be had. Nothing of this is said of payloads
-/// and frames that are written by hand.
+/// decides what is told of it and what stays, by whatever numbers it could be had. Of payloads and frames that are written
+/// by hand this is said only where no peer is placed.
 pub fn numbers_show()
     ensures steps { NumbersShow }
     ensures told { EventsTell }
