@@ -88,7 +88,7 @@ open_ended Closes l own es a h = absurd cc
 
 -- turns of a command on the open link that are over, by some numbers, and by those that they show
 module _ (s : State) (c : Command) (asked : LinkAsking) (on : asked_on_link c ≡ Some asked) (l : OpenLink) (open_ : s.link ≡ Some l) (b : IsBetween s) (g : Given) (es : List Event) (a : Answer)
-    (turns : AreTurns bench_air (begun s g.joins c) es) (each : EachDue (due s g c) [] es) (over : due s g c (receptions es) ≡ Over) (short : PayloadsShort s g c es) where
+    (turns : AreTurns bench_air (begun s g.joins c) es) (each : EachDue (due s g c) [] es) (over : due s g c (receptions es) ≡ Over) where
   abbrev pub shown : Joins
   shown = shown_of s c (es ++ [])
 
@@ -96,7 +96,7 @@ module _ (s : State) (c : Command) (asked : LinkAsking) (on : asked_on_link c �
   by_shown = record { asked = g.asked; joins = shown }
 
   own : OwnSame asked l g.joins.own shown.own es []
-  own = own_on s c asked on l open_ b g by_shown es [] refl turns each (short l asked open_ on)
+  own = own_on s c asked on l open_ b g by_shown es [] refl turns each
 
   done : due_asked asked l g.joins.own (receptions es) ≡ Over
   done = sym (due_on_link s c asked on l open_ g (receptions es)) ∙ over
@@ -122,47 +122,48 @@ module _ (s : State) (c : Command) (asked : LinkAsking) (on : asked_on_link c �
   world_is : (joins : Joins) → behind joins ≡ from joins.far
   world_is joins = ap (λ w. replay bench_air w es) (begun_on s c asked on joins)
 
-  far : ShowsWell (with_numbers s.world g.joins.far) shown.far es (HasEnded asked l g.joins.own es)
-  far =
-      subst (λ (j : Joins). ShowsWell (with_numbers s.world g.joins.far) j.far es (HasEnded asked l g.joins.own es)) (sym (shown_on s c asked on l open_ (es ++ [])))
-      (far_on s c asked on l open_ b g by_shown es [] refl turns each (short l asked open_ on))
+  module _ (short : PayloadsShort s g c es) where
+    far : ShowsWell (with_numbers s.world g.joins.far) shown.far es (HasEnded asked l g.joins.own es)
+    far =
+        subst (λ (j : Joins). ShowsWell (with_numbers s.world g.joins.far) j.far es (HasEnded asked l g.joins.own es)) (sym (shown_on s c asked on l open_ (es ++ [])))
+        (far_on s c asked on l open_ b g by_shown es [] refl turns each (short l asked open_ on))
 
-  dark : SameDark devices device_linked peer_ends (behind g.joins) (behind shown)
-  dark =
-      subst (λ w. SameDark devices device_linked peer_ends w (behind shown)) (sym (world_is g.joins))
-      (subst (λ w. SameDark devices device_linked peer_ends (from g.joins.far) w) (sym (world_is shown)) far.alike)
+    dark : SameDark devices device_linked peer_ends (behind g.joins) (behind shown)
+    dark =
+        subst (λ w. SameDark devices device_linked peer_ends w (behind shown)) (sym (world_is g.joins))
+        (subst (λ w. SameDark devices device_linked peer_ends (from g.joins.far) w) (sym (world_is shown)) far.alike)
 
-  stays_same : far_dark devices device_linked peer_ends (world_after s g.joins c es) ≡ far_dark devices device_linked peer_ends (world_after s shown c es)
-  stays_same = sym dark.dark
+    stays_same : far_dark devices device_linked peer_ends (world_after s g.joins c es) ≡ far_dark devices device_linked peer_ends (world_after s shown c es)
+    stays_same = sym dark.dark
 
-  peers_are : (joins : Joins) → peers_after s joins c es (Some a) ≡ ended_unless (link_after s joins c es (Some a)) (Some l) (behind joins).fars s.peers
-  peers_are joins =
-      ap (λ o. peers_left o s joins c es (Some a)) on ∙ ap (λ o. ended_unless (link_after s joins c es (Some a)) o (behind joins).fars s.peers) open_
+    peers_are : (joins : Joins) → peers_after s joins c es (Some a) ≡ ended_unless (link_after s joins c es (Some a)) (Some l) (behind joins).fars s.peers
+    peers_are joins =
+        ap (λ o. peers_left o s joins c es (Some a)) on ∙ ap (λ o. ended_unless (link_after s joins c es (Some a)) o (behind joins).fars s.peers) open_
 
-  same_peers : peers_after s g.joins c es (Some a) ≡ peers_after s shown c es (Some a)
-  same_peers =
-      peers_are g.joins ∙ ap (λ o. ended_unless o (Some l) (behind g.joins).fars s.peers) same_link
-      ∙ peers_same (link_after s shown c es (Some a)) l s.peers (behind g.joins).fars (behind shown).fars (ap (λ (w : WholeWorld). w.fars) stays_same) ∙ sym (peers_are shown)
+    same_peers : peers_after s g.joins c es (Some a) ≡ peers_after s shown c es (Some a)
+    same_peers =
+        peers_are g.joins ∙ ap (λ o. ended_unless o (Some l) (behind g.joins).fars s.peers) same_link
+        ∙ peers_same (link_after s shown c es (Some a)) l s.peers (behind g.joins).fars (behind shown).fars (ap (λ (w : WholeWorld). w.fars) stays_same) ∙ sym (peers_are shown)
 
-  same_world : IsSome (link_after s g.joins c es (Some a)) → world_after s g.joins c es ≡ world_after s shown c es
-  same_world h =
-      let ended : HasEnded asked l g.joins.own es = open_ended asked l g.joins.own es a (subst IsSome (link_is g.joins) h) in
-      ap (λ w. with_numbers w []) (world_is g.joins) ∙ sym (far.done ended) ∙ ap (λ w. with_numbers w []) (sym (world_is shown))
+    same_world : IsSome (link_after s g.joins c es (Some a)) → world_after s g.joins c es ≡ world_after s shown c es
+    same_world h =
+        let ended : HasEnded asked l g.joins.own es = open_ended asked l g.joins.own es a (subst IsSome (link_is g.joins) h) in
+        ap (λ w. with_numbers w []) (world_is g.joins) ∙ sym (far.done ended) ∙ ap (λ w. with_numbers w []) (sym (world_is shown))
 
-  -- It leaves states alike.
-  pub alike_shown : Alike (after g.joins) (after shown)
-  alike_shown =
-      let S : WholeWorld → Peers → Option OpenLink → State = λ w p k. record { world = w; queue = queue_after (changed s c).queue es; peers = p; link = k } in
-      record {
-        link = same_link;
-        lit = sym dark.lit;
-        queue = refl;
-        peers = same_peers;
-        stays = stays_same;
-        whole = λ h.
-            ap (λ w. S w (peers_after s g.joins c es (Some a)) (link_after s g.joins c es (Some a))) (same_world h)
-            ∙ ap (λ p. S (world_after s shown c es) p (link_after s g.joins c es (Some a))) same_peers ∙ ap (S (world_after s shown c es) (peers_after s shown c es (Some a))) same_link;
-      }
+    -- It leaves states alike.
+    pub alike_shown : Alike (after g.joins) (after shown)
+    alike_shown =
+        let S : WholeWorld → Peers → Option OpenLink → State = λ w p k. record { world = w; queue = queue_after (changed s c).queue es; peers = p; link = k } in
+        record {
+          link = same_link;
+          lit = sym dark.lit;
+          queue = refl;
+          peers = same_peers;
+          stays = stays_same;
+          whole = λ h.
+              ap (λ w. S w (peers_after s g.joins c es (Some a)) (link_after s g.joins c es (Some a))) (same_world h)
+              ∙ ap (λ p. S (world_after s shown c es) p (link_after s g.joins c es (Some a))) same_peers ∙ ap (S (world_after s shown c es) (peers_after s shown c es (Some a))) same_link;
+        }
 
 -- Where no link is open such a command leaves the state as it was, by whatever numbers.
 module _ (s : State) (c : Command) (asked : LinkAsking) (on : asked_on_link c ≡ Some asked) (none : s.link ≡ None) (a : Answer) where

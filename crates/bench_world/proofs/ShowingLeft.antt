@@ -17,18 +17,18 @@ use Rattle.bench_world.proofs.ShowingAlone.{alone_left}
 use Rattle.bench_world.proofs.ShowingLink.{none_happens}
 
 -- a front that is over, by some numbers
-told_by_shown : (s t : State) (g : Given) (c : Command) (es : List Event) (a : Answer) → IsBetween s → FrontOf s g c es (Some a) t → due s g c (receptions es) ≡ Over → PayloadsShort s g c es
+told_by_shown : (s t : State) (g : Given) (c : Command) (es : List Event) (a : Answer) → IsBetween s → FrontOf s g c es (Some a) t → due s g c (receptions es) ≡ Over
     → (asked : LinkAsking) (l : OpenLink) → asked_on_link c ≡ Some asked → s.link ≡ Some l → told_asked asked l (shown_of s c (es ++ [])).own es ≡ told_asked asked l g.joins.own es
-told_by_shown s t g c es a b front over short asked l on open_ = told_shown s c asked on l open_ b g es a front.turns front.each over short
+told_by_shown s t g c es a b front over asked l on open_ = told_shown s c asked on l open_ b g es a front.turns front.each over
 
 pub events_tell : EventsTell
-events_tell s t u g h e f between step short step_by short_by same events asked l on open_ =
+events_tell s t u g h e f between step step_by same events asked l on open_ =
     let H : Command → List Event → Type 0 = λ c es. FrontOf s h c es (Some f.answer) u in
     let D : Command → List Event → Type 0 = λ c es. due s h c (receptions es) ≡ Over in
     let front : H e.command e.events = subst (λ es. H e.command es) events (subst (λ c. H c f.events) same step_by.front) in
     let over : D e.command e.events = subst (λ es. D e.command es) events (subst (λ c. D c f.events) same step_by.over) in
-    sym (told_by_shown s t g e.command e.events e.answer between step.front step.over short asked l on open_)
-    ∙ told_by_shown s u h e.command e.events f.answer between front over short_by asked l on open_
+    sym (told_by_shown s t g e.command e.events e.answer between step.front step.over asked l on open_)
+    ∙ told_by_shown s u h e.command e.events f.answer between front over asked l on open_
 
 module _ (s t u : State) (g h : Given) (e : Entry) (between : IsBetween s) (swapped : IsSwapped s e.command) (p : LegalStep s g e t) (short : PayloadsShort s g e.command e.events)
     (q : LegalStep s h e u) (short_by : PayloadsShort s h e.command e.events) where

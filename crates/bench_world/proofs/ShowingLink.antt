@@ -83,8 +83,7 @@ module _ (s : State) (c : Command) (asked : LinkAsking) (on : asked_on_link c �
 
   module _ (l : OpenLink) (open_ : s.link ≡ Some l) (b : IsBetween s) (g h : Given) where
     -- turns of the command, each due, and events that stand behind them
-    module _ (turned more : List Event) (shown : h.joins ≡ shown_of s c (turned ++ more)) (turns : AreTurns bench_air (begun s g.joins c) turned) (each : EachDue (due s g c) [] turned)
-        (short : OwnShort asked l g.joins.own turned) where
+    module _ (turned more : List Event) (shown : h.joins ≡ shown_of s c (turned ++ more)) (turns : AreTurns bench_air (begun s g.joins c) turned) (each : EachDue (due s g c) [] turned) where
       numbers_are : h.joins ≡ joins_shown l.initiator.core.number (turned ++ more)
       numbers_are = shown ∙ shown_on l open_ (turned ++ more)
 
@@ -96,35 +95,37 @@ module _ (s : State) (c : Command) (asked : LinkAsking) (on : asked_on_link c �
           subst (λ (j : Joins). OwnSame asked l g.joins.own j.own turned more) (sym numbers_are)
           (own_same asked l g.joins.own turned more (link_cuts s l b open_).rests (link_cuts s l b open_).client each_asked)
 
-      -- what the peer does with both
-      pub far_on : ShowsWell (with_numbers s.world g.joins.far) (far_shown l.initiator.core.number (turned ++ more)) turned (HasEnded asked l g.joins.own turned)
-      far_on =
-          far_goes s l b open_ g.joins.far asked g.joins.own turned more (subst (λ w. AreTurns bench_air w turned) (begun_on g.joins) turns) each_asked short
-          (subst CutsOn (begun_on g.joins) (cuts_on s g.joins c b))
+      module _ (short : OwnShort asked l g.joins.own turned) where
+        -- what the peer does with both
+        pub far_on : ShowsWell (with_numbers s.world g.joins.far) (far_shown l.initiator.core.number (turned ++ more)) turned (HasEnded asked l g.joins.own turned)
+        far_on =
+            far_goes s l b open_ g.joins.far asked g.joins.own turned more (subst (λ w. AreTurns bench_air w turned) (begun_on g.joins) turns) each_asked short
+            (subst CutsOn (begun_on g.joins) (cuts_on s g.joins c b))
 
-      pub turns_on : AreTurns bench_air (begun s h.joins c) turned
-      turns_on =
-          subst (λ w. AreTurns bench_air w turned) (sym (begun_on h.joins))
-          (subst (λ (j : Joins). AreTurns bench_air (with_numbers s.world j.far) turned) (sym numbers_are) far_on.turns)
+        pub turns_on : AreTurns bench_air (begun s h.joins c) turned
+        turns_on =
+            subst (λ w. AreTurns bench_air w turned) (sym (begun_on h.joins))
+            (subst (λ (j : Joins). AreTurns bench_air (with_numbers s.world j.far) turned) (sym numbers_are) far_on.turns)
 
-      pub goes_on_link : GoesSame bench_air (begun s h.joins c) (due s g c) (due s h c) turned more
-      goes_on_link =
-          let k = own_on in
-          let D : (ns : List Note) → due s g c ns ≡ due_asked asked l g.joins.own ns = λ ns. due_on_link l open_ g ns in
-          let E : (ns : List Note) → due s h c ns ≡ due_asked asked l h.joins.own ns = λ ns. due_on_link l open_ h ns in
-          record {
-            turns = turns_on;
-            each = due_weaker (due s h c) (due_asked asked l h.joins.own) (λ ns n e d. E ns ∙ e) [] turned k.each;
-            asks = λ f x tail is e. E (receptions turned) ∙ k.asks f x tail is (sym (D (receptions turned)) ∙ e);
-            over = λ e. E (receptions turned) ∙ k.over (sym (D (receptions turned)) ∙ e);
-            over_back = λ e. D (receptions turned) ∙ k.over_back (sym (E (receptions turned)) ∙ e);
-          }
+        pub goes_on_link : GoesSame bench_air (begun s h.joins c) (due s g c) (due s h c) turned more
+        goes_on_link =
+            let k = own_on in
+            let D : (ns : List Note) → due s g c ns ≡ due_asked asked l g.joins.own ns = λ ns. due_on_link l open_ g ns in
+            let E : (ns : List Note) → due s h c ns ≡ due_asked asked l h.joins.own ns = λ ns. due_on_link l open_ h ns in
+            record {
+              turns = turns_on;
+              each = due_weaker (due s h c) (due_asked asked l h.joins.own) (λ ns n e d. E ns ∙ e) [] turned k.each;
+              asks = λ f x tail is e. E (receptions turned) ∙ k.asks f x tail is (sym (D (receptions turned)) ∙ e);
+              over = λ e. E (receptions turned) ∙ k.over (sym (D (receptions turned)) ∙ e);
+              over_back = λ e. D (receptions turned) ∙ k.over_back (sym (E (receptions turned)) ∙ e);
+            }
 
     -- two fronts that are over, by some numbers and by those that events show
     pub begins_on_link : (es rest fs more : List Event) (p q : Option Answer) (t u : State) → h.joins ≡ shown_of s c (es ++ more) → PayloadsShort s g c (es ++ rest)
         → FrontOf s g c (es ++ rest) p t → due s g c (receptions (es ++ rest)) ≡ Over → FrontOf s h c fs q u → due s h c (receptions fs) ≡ Over → BeginsSame es rest fs
     begins_on_link es rest fs more p q t u shown short front over front_by over_by =
-        begins_same bench_air (due s g c) (due s h c) (begun s g.joins c) (begun s h.joins c) (changed s c).queue es rest fs front.turns front.each front.fates over front_by.turns front_by.each front_by.fates over_by more
+        begins_same bench_air (due s g c) (due s h c) (begun s g.joins c) (begun s h.joins c) (changed s c).queue es rest fs front.turns front.each front.fates over
+        front_by.turns front_by.each front_by.fates over_by more
         (λ turned tail is turns each.
         let all : es ++ rest ≡ turned ++ (tail ++ rest) = ap (λ z. z ++ rest) is ∙ append_assoc turned tail rest in
         goes_on_link turned (tail ++ more) (shown ∙ ap (shown_of s c) (ap (λ z. z ++ more) is ∙ append_assoc turned tail more)) turns each

@@ -22,7 +22,8 @@ use Rattle.link_numbers.proofs.Resting.{call_within, closes_within}
 -- What was asked on a link goes the same way by these numbers as by those: the same is due, it is over at once, and the same is told then.
 pub record OwnSame (asked : LinkAsking) (l : OpenLink) (js ks : List ℕ) (turned more : List Event) : Type 0 where
   pub each : EachDue (due_asked asked l ks) [] turned
-  pub asks : (f : Signal) (x : Fate) (tail : List Event) → more ≡ Request f x ∷ tail → due_asked asked l js (receptions turned) ≡ Asks f → due_asked asked l ks (receptions turned) ≡ Asks f
+  pub asks : (f : Signal) (x : Fate) (tail : List Event) → more ≡ Request f x ∷ tail → due_asked asked l js (receptions turned) ≡ Asks f
+      → due_asked asked l ks (receptions turned) ≡ Asks f
   pub over : due_asked asked l js (receptions turned) ≡ Over → due_asked asked l ks (receptions turned) ≡ Over
   pub over_back : due_asked asked l ks (receptions turned) ≡ Over → due_asked asked l js (receptions turned) ≡ Over
   pub told : due_asked asked l js (receptions turned) ≡ Over → told_asked asked l ks turned ≡ told_asked asked l js turned

@@ -108,9 +108,7 @@ NumbersShow =
 abbrev pub EventsTell : Type 0
 EventsTell =
     (s t u : State) (g h : Given) (e f : Entry)
-    → IsBetween s
-    → LegalStep s g e t → PayloadsShort s g e.command e.events
-    → LegalStep s h f u → PayloadsShort s h e.command e.events
+    → IsBetween s → LegalStep s g e t → LegalStep s h f u
     → f.command ≡ e.command → f.events ≡ e.events
     → IsToldSame s e.command g.joins h.joins e.events
 
