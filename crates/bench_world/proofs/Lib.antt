@@ -141,8 +141,9 @@ pub mod FarDevices
 pub mod ShowingTurns
 pub mod ShowingSplits
 pub mod ShowingStep
-pub mod ShowingBegins
 pub mod ShowingOwn
 pub mod ShowingFar
 pub mod ShowingLink
 pub mod ShowingSteps
+pub mod ShowingAlike
+pub mod ShowingLeft

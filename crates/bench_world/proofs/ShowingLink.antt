@@ -18,10 +18,11 @@ use Rattle.bench_world.specs.Calls.{due_asked, due_if}
 use Rattle.bench_world.specs.Legal.{FrontOf, Given, Joins, LegalStep, State, begun, changed, due, due_by, joins_by}
 use Rattle.bench_world.specs.Links.{OpenLink}
 use Rattle.bench_world.specs.World.{WholeWorld, bench_air}
-use Rattle.bench_world.specs.Showing.{BeginsSame, FarShort, IsBetween, OwnShort, PayloadsShort, counted_from, first_pni, joins_shown, shown_of}
+use Rattle.bench_world.specs.Showing.{BeginsSame, IsBetween, OwnShort, PayloadsShort, counted_from, first_pni, joins_shown, shown_of}
 use Rattle.bench_world.proofs.FarDevices.{ShowsWell}
-use Rattle.bench_world.proofs.ShowingFar.{HasEnded, far_goes}
-use Rattle.bench_world.proofs.ShowingOwn.{OwnSame, own_same, link_cuts, rested_at}
+use Rattle.bench_world.proofs.ShowingFar.{CutsOn, HasEnded, far_goes}
+use Rattle.bench_world.proofs.ShowingOwn.{OwnSame, own_same, link_cuts}
+use Rattle.bench_world.proofs.SizedStates.{midst_cuts}
 use Rattle.bench_world.proofs.ShowingStep.{GoesSame, begins_same}
 
 -- a command that asks something on the open link changes nothing before that
@@ -61,8 +62,9 @@ changes_none s Unlink asked e = refl
 own_front : (asked : LinkAsking) (l : OpenLink) (own : List ℕ) (a b : List Event) → OwnShort asked l own (a ++ b) → OwnShort asked l own a
 own_front asked l own a b h before f x rest is = h before f x (rest ++ b) (ap (λ t. t ++ b) is ∙ append_assoc before (Request f x ∷ rest) b)
 
-far_front : (w : WholeWorld) (a b : List Event) → FarShort w (a ++ b) → FarShort w a
-far_front w a b h before f x rest is = h before f x (rest ++ b) (ap (λ t. t ++ b) is ∙ append_assoc before (Request f x ∷ rest) b)
+-- what a bench keeps holds in the midst of a command
+cuts_on : (s : State) (joins : Joins) (c : Command) → IsBetween s → CutsOn (begun s joins c)
+cuts_on s joins c b before = midst_cuts s joins c before b.cuts
 
 module _ (s : State) (c : Command) (asked : LinkAsking) (on : asked_on_link c ≡ Some asked) where
   -- its numbers are those that are shown
@@ -83,7 +85,7 @@ module _ (s : State) (c : Command) (asked : LinkAsking) (on : asked_on_link c �
   module _ (l : OpenLink) (open_ : s.link ≡ Some l) (b : IsBetween s) (g h : Given) where
     -- turns of the command, each due, and events that stand behind them
     module _ (turned more : List Event) (shown : h.joins ≡ shown_of s c (turned ++ more)) (turns : AreTurns bench_air (begun s g.joins c) turned) (each : EachDue (due s g c) [] turned)
-        (short : OwnShort asked l g.joins.own turned) (replies : FarShort (begun s g.joins c) turned) where
+        (short : OwnShort asked l g.joins.own turned) where
       numbers_are : h.joins ≡ joins_shown l.initiator.core.number (turned ++ more)
       numbers_are = shown ∙ shown_on l open_ (turned ++ more)
 
@@ -93,13 +95,13 @@ module _ (s : State) (c : Command) (asked : LinkAsking) (on : asked_on_link c �
       pub own_on : OwnSame asked l g.joins.own h.joins.own turned more
       own_on =
           subst (λ (j : Joins). OwnSame asked l g.joins.own j.own turned more) (sym numbers_are)
-          (own_same asked l g.joins.own turned more (rested_at s l b open_) (link_cuts s l b open_).client each_asked)
+          (own_same asked l g.joins.own turned more (link_cuts s l b open_).rests (link_cuts s l b open_).client each_asked)
 
       -- what the peer does with both
       pub far_on : ShowsWell (with_numbers s.world g.joins.far) (far_shown l.initiator.core.number (turned ++ more)) turned (HasEnded asked l g.joins.own turned)
       far_on =
           far_goes s l b open_ g.joins.far asked g.joins.own turned more (subst (λ w. AreTurns bench_air w turned) (begun_on g.joins) turns) each_asked short
-          (subst (λ w. FarShort w turned) (begun_on g.joins) replies)
+          (subst CutsOn (begun_on g.joins) (cuts_on s g.joins c b))
 
       pub turns_on : AreTurns bench_air (begun s h.joins c) turned
       turns_on =
@@ -125,10 +127,9 @@ module _ (s : State) (c : Command) (asked : LinkAsking) (on : asked_on_link c �
     begins_on_link es rest fs more p q t u shown short front over front_by over_by =
         begins_same bench_air (due s g c) (due s h c) (begun s g.joins c) (begun s h.joins c) (changed s c).queue es rest fs front.turns front.each front.fates over front_by.turns front_by.each front_by.fates over_by more
         (λ turned tail is turns each.
-          let all : es ++ rest ≡ turned ++ (tail ++ rest) = ap (λ z. z ++ rest) is ∙ append_assoc turned tail rest in
-          goes_on_link turned (tail ++ more) (shown ∙ ap (shown_of s c) (ap (λ z. z ++ more) is ∙ append_assoc turned tail more)) turns each
-          (own_front asked l g.joins.own turned (tail ++ rest) (subst (OwnShort asked l g.joins.own) all (short.own l asked open_ on)))
-          (far_front (begun s g.joins c) turned (tail ++ rest) (subst (FarShort (begun s g.joins c)) all short.far)))
+        let all : es ++ rest ≡ turned ++ (tail ++ rest) = ap (λ z. z ++ rest) is ∙ append_assoc turned tail rest in
+        goes_on_link turned (tail ++ more) (shown ∙ ap (shown_of s c) (ap (λ z. z ++ more) is ∙ append_assoc turned tail more)) turns each
+        (own_front asked l g.joins.own turned (tail ++ rest) (subst (OwnShort asked l g.joins.own) all (short l asked open_ on))))
 
   -- where no link is open nothing happens
   pub none_happens : s.link ≡ None → (g : Given) (es : List Event) (told : Option Answer) (t : State) → FrontOf s g c es told t → es ≡ []

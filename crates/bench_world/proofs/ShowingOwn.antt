@@ -21,7 +21,7 @@ use Rattle.bench_world.specs.Obeying.{KeepsLink, Machines, state_at}
 use Rattle.bench_world.specs.Opened.{IsOpen}
 use Rattle.bench_world.specs.Cutting.{LinkCuts}
 use Rattle.bench_world.specs.Showing.{IsBetween}
-use Rattle.bench_world.proofs.ShowingBegins.{call_within, closes_within}
+use Rattle.link_numbers.proofs.Resting.{call_within, closes_within}
 
 -- What was asked on a link goes the same way by these numbers as by those: the same is due, it is over at once, and the same is told then.
 pub record OwnSame (asked : LinkAsking) (l : OpenLink) (js ks : List ℕ) (turned more : List Event) : Type 0 where
@@ -63,9 +63,3 @@ opened_at s l b open_ =
 
 pub link_cuts : (s : State) (l : OpenLink) → IsBetween s → s.link ≡ Some l → LinkCuts l
 link_cuts s l b open_ = subst (λ o. IfLinked o LinkCuts (Unit {0})) open_ b.cuts.link
-
-pub rested_at : (s : State) (l : OpenLink) → IsBetween s → s.link ≡ Some l → Rested l.initiator.core
-rested_at s l b open_ =
-    let o = opened_at s l b open_ in
-    let k = link_cuts s l b open_ in
-    record { number = o.step.step.1.step.number; some = k.pieces.0; fits = k.pieces.1 }

@@ -16,7 +16,7 @@ use Rattle.bench_world.specs.Showing.{BeginsSame, IsBetween, IsSwapped, NumbersS
 use Rattle.bench_world.proofs.ShowingLink.{begins_on_link, none_happens}
 
 -- no other command has numbers
-no_numbers : (c : Command) (joins : Joins) → asked_on_link c ≡ None → IsSwapped c → joins_for c joins ≡ no_joins
+pub no_numbers : (c : Command) (joins : Joins) → asked_on_link c ≡ None → IsSwapped c → joins_for c joins ≡ no_joins
 no_numbers Skip joins e k = refl
 no_numbers (Fates fates) joins e k = refl
 no_numbers (PlaceT2 id blocks head) joins e k = refl

@@ -14,6 +14,7 @@ ghost use Rattle.bench_world.specs.Quiet.{QuietStays, QuietReads, QuietWrites, Q
 ghost use Rattle.bench_world.specs.QuietHearing.{QuietHears, QuietScript};
 ghost use Rattle.bench_world.specs.QuietLinks.{QuietTalks, QuietLinkings};
 ghost use Rattle.bench_world.specs.ReadBack.{LinesTellEvents, AnswersApart};
+ghost use Rattle.bench_world.specs.Showing.{EntriesLeaveAlike, EventsTell, NumbersShow};
 ghost use Rattle.bench_world.specs.Taking.{LinesDecide};
 
 /// A legal read of a placed tag, without a Break, without a wait of six bad receptions and with one round (of a Type 5
@@ -147,4 +148,14 @@ pub fn pieces_stay()
     ensures fronts { FrontsCut }
     ensures midst { MidstCuts }
     ensures replies { RepliesShort }
+{}
+
+/// Numbers of PDUs that events show are as good as the true ones, whatever stands behind these events: where a legal
+/// step begins with them, one by the numbers that they show does too, and is over where it is. And what happened in a step
+/// decides what is told of it and what stays, by whatever numbers it could be had. Nothing of this is said of payloads
+/// and frames that are written by hand.
+pub fn numbers_show()
+    ensures steps { NumbersShow }
+    ensures told { EventsTell }
+    ensures alike { EntriesLeaveAlike }
 {}
