@@ -68,6 +68,7 @@ dm_short d s r = omega arith
 frmr_short : (d s : ℕ) (r : _) → length (part_bytes (Frmr d s r)) ≤ 2178
 frmr_short d s r = omega arith
 
+-- what tells a service's SAP has four bytes
 abbrev IsRes : Param → Type 0
 IsRes p = length (params_bytes (p ∷ [])) ≡ 4
 
@@ -84,12 +85,14 @@ res_long zero ps h = omega arith
 res_long (suc n) [] h = omega arith
 res_long (suc n) (p ∷ ps) h = (let one : length (params_bytes (p ∷ [])) ≡ 4 = h.0 in let more = res_long n ps h.1 in omega (arith, length-append {A = ℕ}))
 
+-- what an end says of itself where it accepts a connection
 own_long : (miu window : ℕ) → length (params_bytes (own_params miu window)) ≤ 7
 own_long miu window =
     either {X = List Param} (λ xs. length (params_bytes (xs ++ (if window == 1 then [] else Rw window ∷ []))) ≤ 7) (miu == least_miu) [] (Miux (miu - least_miu) ∷ [])
     (λ e. either {X = List Param} (λ ys. length (params_bytes ys) ≤ 7) (window == 1) [] (Rw window ∷ []) (λ e. omega arith) (λ e. omega arith))
     (λ e. either {X = List Param} (λ ys. length (params_bytes (Miux (miu - least_miu) ∷ ys)) ≤ 7) (window == 1) [] (Rw window ∷ []) (λ e. omega arith) (λ e. omega arith))
 
+-- the MIU that a CONNECT says
 miu_short : (ps : List Param) → IfSome (last_of miux_in ps) IsLess → miu_of ps ≤ 2175
 miu_short ps h = go (last_of miux_in ps) h
   where
@@ -98,6 +101,7 @@ miu_short ps h = go (last_of miux_in ps) h
     go (Some n) k = omega arith
 
 module _ {S : Type 0} where
+  -- this end asked for no connection
   holder_short : (l : LlcState S) (d s : ℕ) → GivesShort l → HolderShort (holder l d s)
   holder_short l d s h =
       holds_short d (conn_from s l.served) (own_holder s (own_from d l.own)) (found_short s l.served h.served)
@@ -112,6 +116,7 @@ module _ {S : Type 0} where
       either {X = LlcState S} (λ x. GivesShort x) (t.is_full l) l _ (λ e. h)
       (λ e. record { miu = h.miu; queue = all_more QueuedShort l.queue _ h.queue k; served = h.served; own = h.own })
 
+  -- a connection ends
   ends_short : (l : LlcState S) (x : Holder) → HolderShort x → GivesShort l → GivesShort (t.ends l x)
   ends_short l Nobody k h = h
   ends_short l (Served c) k h = record { miu = h.miu; queue = h.queue; served = without_short c.there l.served h.served; own = h.own }
@@ -163,6 +168,7 @@ module _ {S : Type 0} (m : Serving S) where
       either {X = LlcState S} (λ x. GivesShort x) (rw_of ps == 0) (t.answered l (Dm s d t.not_taken)) (t.refused_at l d s (reached l.bound d (name_of ps)))
       (λ e. answered_short l _ (dm_short s d t.not_taken) h) (λ e. refused_short l d s (reached l.bound d (name_of ps)) h)
 
+  -- what a PDU does to one
   served_short : (l : LlcState S) (c : ConnState) (x : Taken) → ConnShort c → GivesShort l → GivesShort (t.served_so m l c x)
   served_short l c taking.Nothing k h = record { miu = h.miu; queue = h.queue; served = with_short c l.served k h.served; own = h.own }
   served_short l c (taking.Unit u) k h = record { miu = h.miu; queue = h.queue; served = with_short c l.served k h.served; own = h.own }
@@ -174,6 +180,7 @@ module _ {S : Type 0} (m : Serving S) where
   numbered_short l f d s (Served c) each k h = served_short l (f c).conn (f c).does (each c k) h
   numbered_short l f d s (Asked o c) each k h = absurd k
 
+  -- all PDUs of a payload
   step_short : (l : LlcState S) (i : Item) → ItemSmall i → GivesShort l → GivesShort (step m l i)
   step_short l (Good Symm) k h = h
   step_short l (Good (Ui d s info)) k h = h
@@ -221,6 +228,7 @@ module _ {S : Type 0} (m : Serving S) where
   ack_short : (c : ConnState) → ConnShort c → IfSome (gives_ack c).pdu (PduShort (gives_ack c).conn)
   ack_short c h = either {X = conn.Gave} (λ x. IfSome x.pdu (PduShort x.conn)) c.owed _ _ (λ e. (h, (let z : length (part_bytes (Rr c.there c.here c.vr)) ≤ 2178 = omega arith in z))) (λ e. tt)
 
+  -- a unit of the service, where the window allows one
   from_short : (c : ConnState) (u : List ℕ) (q : List (List ℕ)) → q ≡ u ∷ [] → c.far_miu ≤ 2175 → length u ≤ c.far_miu → IfSome (gives_from c q).pdu (PduShort (gives_from c q).conn)
   from_short c u q e k h =
       subst (λ q. IfSome (gives_from c q).pdu (PduShort (gives_from c q).conn)) (sym e)
@@ -230,8 +238,8 @@ module _ {S : Type 0} (m : Serving S) where
   unit_short c u h e k =
       either {X = conn.Gave} (λ x. IfSome x.pdu (PduShort x.conn)) c.live (if c.held then gives_ack (queued c u) else gives_from (queued c u) (c.queue ++ u ∷ [])) _
       (λ i. subst (λ (v : Bool). IfSome (if v then gives_ack (queued c u) else gives_from (queued c u) (c.queue ++ u ∷ [])).pdu
-          (PduShort (if v then gives_ack (queued c u) else gives_from (queued c u) (c.queue ++ u ∷ [])).conn)) (sym e)
-          (from_short (queued c u) u (c.queue ++ u ∷ []) (ap (λ q. q ++ u ∷ []) h.1) h.0 k))
+      (PduShort (if v then gives_ack (queued c u) else gives_from (queued c u) (c.queue ++ u ∷ [])).conn)) (sym e)
+      (from_short (queued c u) u (c.queue ++ u ∷ []) (ap (λ q. q ++ u ∷ []) h.1) h.0 k))
       (λ i. tt)
 
   not_held : (c : ConnState) → may_send c ≡ true → c.held ≡ false
@@ -267,13 +275,14 @@ module _ {S : Type 0} (m : Serving S) where
     acks_own_short l None e = tt
     acks_own_short l (Some o) e = absurd cc
 
+    -- what waits comes first
     from_queue : (l : LlcState S) (q : List Queued) → AllByRecursion QueuedShort q → GivesShort l → IfSome (g.gave_from m l q) GaveShort
     from_queue l [] k h =
         else_short _ _
         (round_short sap_count (g.circle_start l.last) (g.informs m l)
-            (λ s. else_short _ _ (informs_served_short l (conn_from s l.served) (found_short s l.served h.served) h) (informs_own_short l (own_from s l.own) (none_own l s h))))
+        (λ s. else_short _ _ (informs_served_short l (conn_from s l.served) (found_short s l.served h.served) h) (informs_own_short l (own_from s l.own) (none_own l s h))))
         (round_short sap_count (g.circle_start l.last) (g.acknowledges l)
-            (λ s. else_short _ _ (acks_served_short l (conn_from s l.served) (found_short s l.served h.served) h) (acks_own_short l (own_from s l.own) (none_own l s h))))
+        (λ s. else_short _ _ (acks_served_short l (conn_from s l.served) (found_short s l.served h.served) h) (acks_own_short l (own_from s l.own) (none_own l s h))))
     from_queue l (q ∷ qs) k h = (record { miu = h.miu; queue = k.1; served = h.served; own = h.own }, k.0)
 
     gave_short : (l : LlcState S) → GivesShort l → IfSome (gave m l) GaveShort

@@ -120,6 +120,7 @@ changed_link s (Forge id payloads) h = tt
 changed_link s (Raw id frames) h = tt
 changed_link s c h = h
 
+-- behind a command that opened one, or asked something on it
 opened_link : (number : Option ℕ) (d : Option Device) (miu rw : ℕ) → Linked (link_if number d miu rw)
 opened_link (Some peer) (Some d) miu rw = record { rests = waiting_rested (device_target d).lr; client = general_fits (device_target d).general }
 opened_link (Some peer) None miu rw = tt

@@ -87,9 +87,10 @@ module _ {L F : Type 0} (m : Machine L) (linked : L → Bool) (t : FarTable F) (
       let o : Option F = first_far os in
       let r : Option (List ℕ) = reply_at m linked t l f o ns in
       let one : Above Q o = first_so Q os i in
-      let more = meet_so f ls (later_fars os) (numbers_left r ns) h.1 (later_so Q os i) in
-      ((stepped_so l f r h.0, more.0),
-      (by_link_so (linked (device_after m linked t l f o ns)) (moved t (hands_over m l f) o (first_number ns)) (moved_so (hands_over m l f) o (first_number ns) one), more.1))
+      let more = meet_so f ls (later_fars os) (numbers_left r ns) h.1 (later_so Q os i) in (
+        (stepped_so l f r h.0, more.0),
+        (by_link_so (linked (device_after m linked t l f o ns)) (moved t (hands_over m l f) o (first_number ns)) (moved_so (hands_over m l f) o (first_number ns) one), more.1),
+      )
 
   dark_so : (w : FarWorld L F) → AllSo P Q w → AllSo P Q (far_dark m linked t w)
   dark_so w h = record { listeners = all_mapped P m.darkened k.darkened w.field.listeners h.listeners; fars = all_mapped (Above Q) (rests t) rests_so w.fars h.fars }
