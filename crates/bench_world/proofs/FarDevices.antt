@@ -1,7 +1,6 @@
 -- A peer of the bench that is selected and has a link does what its target's table says; the devices beside it are silent at the frames of its link.
-use Rattle.std.proofs.Common.{◌≡◌, ℕ, zero, suc, ◌≤◌, Bool, true, false, if◌then◌else◌, List, [], ◌∷◌, ◌++◌, length, Option, Some, None, refl, sym, ◌∙◌, ap, subst}
+use Rattle.std.proofs.Common.{◌≡◌, ℕ, zero, suc, ◌≤◌, Bool, true, false, List, [], ◌∷◌, ◌++◌, length, Option, Some, None, refl, sym, ◌∙◌, ap, subst}
 use Rattle.std.specs.Prelude.{get_or}
-use Rattle.std.specs.List.{AllByRecursion}
 use Rattle.arrayvec.specs.ArrayVec.{ArrayVec}
 use Rattle.nfc_base.specs.Signal.{Signal, whole_a}
 use Rattle.nfc_base.specs.declared.event.Event.{Event}
@@ -37,7 +36,7 @@ use Rattle.bench_devices.specs.declared.device.Device.TheVariants.{T2, T4, Peer,
 use Rattle.bench_devices.specs.Beside.{InStepAt}
 use Rattle.bench_devices.specs.Device.{devices, device_end, device_id, device_linked, device_selected}
 use Rattle.bench_devices.specs.Keeping.{ghosts}
-use Rattle.bench_devices.specs.Peers.{PeerDid, PeerNear, by_target, delivered, peer_if, peer_machine, takes_frame}
+use Rattle.bench_devices.specs.Peers.{PeerNear, by_target, delivered, peer_if, peer_machine, takes_frame}
 use Rattle.bench_devices.proofs.QuietRats.{laws}
 use Rattle.link_numbers.specs.Shown.{far_shown}
 use Rattle.link_numbers.proofs.FarAlone.{Around, AreAround, IsSilent, amid}
@@ -49,7 +48,7 @@ use Rattle.link_numbers.proofs.FarMost.{Cuts, dark_cuts, table_cuts}
 use Rattle.link_numbers.proofs.FarPayloads.{IsWithin, peer_numbered, reads}
 use Rattle.link_numbers.proofs.FarRun.{most_replied}
 use Rattle.link_numbers.proofs.FarShown.{SameDark}
-use Rattle.link_numbers.proofs.FarSolo.{DoesSo, leaving}
+use Rattle.link_numbers.proofs.FarSolo.{DoesSo}
 use Rattle.link_numbers.proofs.FarWalk.{HasCome, Outs}
 use Rattle.link_numbers.proofs.FarWalked.{walks_well}
 
@@ -87,12 +86,12 @@ module _ (id : List ℕ) (starred : Bool) where
     hands = λ s f w. subst (λ z. hands_over devices (peer_of id starred s) z ≡ target_use (target_table s z).does) (sym w) (whole_hands s f.bytes);
     replies = λ s f g w. subst
         (λ z. (target_table s z).does ≡ steps.Reply g
-          → (answered_by devices (peer_of id starred s) z None ≡ Some g) × (stepped_by devices (peer_of id starred s) z None ≡ peer_of id starred (target_table s z).state))
+        → (answered_by devices (peer_of id starred s) z None ≡ Some g) × (stepped_by devices (peer_of id starred s) z None ≡ peer_of id starred (target_table s z).state))
         (sym w) (whole_replies s f.bytes g);
     delivers = λ s f p r w. subst
         (λ z. (target_table s z).does ≡ steps.Deliver p
-          → (answered_by devices (peer_of id starred s) z (Some r) ≡ Some (air_frame (reply_frame (target_table s z).state r)))
-          × (stepped_by devices (peer_of id starred s) z (Some r) ≡ peer_of id starred (replied (target_table s z).state r)))
+        → (answered_by devices (peer_of id starred s) z (Some r) ≡ Some (air_frame (reply_frame (target_table s z).state r)))
+        × (stepped_by devices (peer_of id starred s) z (Some r) ≡ peer_of id starred (replied (target_table s z).state r)))
         (sym w) (whole_delivers s f.bytes p r);
     has_link = λ s. refl;
     dark = λ s l. refl;
@@ -112,9 +111,12 @@ as_peer (T4 d) e s = absurd cc
 as_peer (T5 p) e s = absurd cc
 as_peer (T3 p) e s = absurd cc
 as_peer (Peer d) e s =
-    let f = front_active d.front s in
-    (d.id, f.0, ap (λ z. Peer (record { id = d.id; front = z; upper = d.upper })) f.1
-      ∙ ap (λ z. Peer (record { id = d.id; front = Active f.0; upper = record { target = d.upper.target; linked = z } })) e)
+    let f = front_active d.front s in (
+      d.id,
+      f.0,
+      ap (λ z. Peer (record { id = d.id; front = z; upper = d.upper })) f.1
+          ∙ ap (λ z. Peer (record { id = d.id; front = Active f.0; upper = record { target = d.upper.target; linked = z } })) e,
+    )
 
 -- The devices beside it are silent at the frames of its link, and in the dark.
 module _ (own : List ℕ) where
@@ -206,7 +208,7 @@ module _ (w : FarWorld Device PeerState) (place : ℕ) (i : InitState) (a : Peer
           → ShowsWell w (far_shown i.core.number (es ++ more)) es (HasCome g (walk_stand g from i (receptions es)))
       walk_shows turns each fit outs =
           let k = walks_well devices device_linked peer_ends dev (peer_does peer.0 peer.1) IsWithin reads peer_numbered g (IsAside ghosts own) (aside_quiet own) (aside_darkened own) x around i target a
-              w.numbers talks.step most ok from es more (subst (λ z. AreTurns air z es) world_is turns) each (subst (λ z. RepliesFit devices device_linked peer_ends z es) world_is fit) outs in
+          w.numbers talks.step most ok from es more (subst (λ z. AreTurns air z es) world_is turns) each (subst (λ z. RepliesFit devices device_linked peer_ends z es) world_is fit) outs in
           subst (λ z. ShowsWell z (far_shown i.core.number (es ++ more)) es (HasCome g (walk_stand g from i (receptions es)))) (sym world_is) (record { turns = k.turns; alike = k.alike; done = k.done })
 
     -- Likewise while the link is closed.
@@ -215,7 +217,7 @@ module _ (w : FarWorld Device PeerState) (place : ℕ) (i : InitState) (a : Peer
         → ShowsWell w (far_shown i.core.number (es ++ more)) es (HasClosed (closing_stand sent from i (receptions es)))
     closing_shows sent from turns each fit outs =
         let k = closes_well devices device_linked peer_ends dev (peer_does peer.0 peer.1) IsWithin reads peer_numbered (IsAside ghosts own) (aside_quiet own) (aside_darkened own) x around i target a
-            w.numbers talks.step most ok sent from es more (subst (λ z. AreTurns air z es) world_is turns) each (subst (λ z. RepliesFit devices device_linked peer_ends z es) world_is fit) outs in
+        w.numbers talks.step most ok sent from es more (subst (λ z. AreTurns air z es) world_is turns) each (subst (λ z. RepliesFit devices device_linked peer_ends z es) world_is fit) outs in
         subst (λ z. ShowsWell z (far_shown i.core.number (es ++ more)) es (HasClosed (closing_stand sent from i (receptions es)))) (sym world_is)
         (record { turns = k.turns; alike = k.alike; done = k.done })
 

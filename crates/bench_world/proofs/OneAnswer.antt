@@ -1,7 +1,7 @@
 -- What happened decides what a command that polls answers.
 use Rattle.bench_world.specs.Forging.{ForgeEnds, ForgeTells}
 use Rattle.bench_world.specs.Rawing.{RawEnds, RawTells}
-use Rattle.std.proofs.Common.{◌≡◌, ℕ, List, [], ◌∷◌, Option, Some, None, Result, Ok, Err, sym, ◌∙◌, ap, subst}
+use Rattle.std.proofs.Common.{◌≡◌, ℕ, List, [], ◌∷◌, Option, Some, None, Result, Ok, Err, refl, sym, ◌∙◌, ap, subst}
 use Rattle.nfc_base.specs.Signal.{Signal}
 use Rattle.nfc_base.specs.declared.event.Event.{Event}
 use Rattle.nfc_base.specs.declared.tag_link.AskFault.TheVariants as asking
@@ -223,6 +223,7 @@ one_forge id ds payloads events a b p q =
 pub one_told_so : (told : Option Answer) (events : List Event) (a b : Answer) → IsTold told events a → IsTold told events b → a ≡ b
 one_told_so told events a b p q = same_some a b (sym p.tells ∙ q.tells)
 
-pub one_linked : (o : Option OpenLink) (P Q : OpenLink → Type 0) (a b : Answer) → ((l : OpenLink) → P l → Q l → a ≡ b) → IfLinked o P (a ≡ answers.NoLink) → IfLinked o Q (b ≡ answers.NoLink) → a ≡ b
+pub one_linked : (o : Option OpenLink) (P Q : OpenLink → Type 0) (a b : Answer) → ((l : OpenLink) → o ≡ Some l → P l → Q l → a ≡ b) → IfLinked o P (a ≡ answers.NoLink)
+    → IfLinked o Q (b ≡ answers.NoLink) → a ≡ b
 one_linked None P Q a b says p q = p ∙ sym q
-one_linked (Some l) P Q a b says p q = says l p q
+one_linked (Some l) P Q a b says p q = says l refl p q

@@ -8,7 +8,8 @@ use Rattle.bench_script.specs.declared.command.Command.{Command}
 use Rattle.bench_script.specs.declared.command.Command.TheVariants as commands
 use Rattle.bench_script.specs.declared.command.Command.TheVariants.{Skip, Fates, PlaceT2, PlaceT3, PlaceT4, PlaceT5, PlacePeer, Lock, Busy, Offer, Remove, Dump, Inbox, Find, Crowd, Poll3, Read, Read3, Write, Write3, Link, Forge, Raw, Put, Get, Lookup, OnPut, OnGet, Unlink}
 use Rattle.bench_devices.specs.declared.device.Device.{Device}
-use Rattle.bench_world.specs.Asked.{slot_messages}
+use Rattle.bench_world.specs.Alike.{IsToldSame}
+use Rattle.bench_world.specs.Asked.{asked_on_link, slot_messages}
 use Rattle.bench_world.specs.declared.entry.Answer.{Answer}
 use Rattle.bench_world.specs.declared.entry.Answer.TheVariants.{Store}
 use Rattle.bench_world.specs.declared.entry.Entry.{Entry}
@@ -36,7 +37,7 @@ use Rattle.bench_world.specs.Legal.{State, Given, Joins, IsAskedBy, AnswerBy, An
 use Rattle.snep_core.specs.Talk.{client_sap, sap_of_slot}
 use Rattle.bench_script.specs.declared.command.DeviceId.TheVariants.{A}
 use Rattle.link_calls.specs.Asking.{LinkAsking, Does, Closes, Finding, Getting, put_from, Putting}
-use Rattle.bench_world.specs.Calls.{told_asked}
+use Rattle.bench_world.specs.Calls.{IsTold, told_asked}
 use Rattle.bench_world.specs.Linking.{own_general}
 use Rattle.bench_world.specs.World.{bench_air}
 use Rattle.bench_world.specs.Journal.{NumberedLine, AreEntriesOf, asking_lines, LeadsTo}
@@ -85,7 +86,7 @@ one_three_of IsAll one (Some d) a b p q = by_kind (kind_of d) p q
     by_kind T5Kind x y = x ∙ sym y
 
 -- a command asks one list of its tag
-one_asked_by : (s : State) (c : Command) (a b : List Signal) → IsAskedBy s c a → IsAskedBy s c b → a ≡ b
+pub one_asked_by : (s : State) (c : Command) (a b : List Signal) → IsAskedBy s c a → IsAskedBy s c b → a ≡ b
 one_asked_by s (Read id) a b p q = one_asked_of (device_with (bytes_of id) s.world.field.listeners) a b p q
 one_asked_by s (Write id m) a b p q = one_written_of (message_of m) (device_with (bytes_of id) s.world.field.listeners) a b p q
 one_asked_by s (Read3 id) a b p q = one_three_of (λ d xs. ReadAsksThree id (device_store d) xs) (λ d. one_read_list id (device_store d)) (device_with id s.world.field.listeners) a b p q
@@ -99,44 +100,46 @@ one_dump None a b p q = absurd p
 one_dump (Some d) a b p q = p ∙ sym q
 
 -- what was asked on the open link is told by where it stands
-one_called : (asked : LinkAsking) (s : State) (c : Command) (g : Given) (events : List Event) (a b : Answer) → AnswerBy (Some asked) s g c events a → AnswerBy (Some asked) s g c events b → a ≡ b
-one_called asked s c g events a b p q =
-    one_linked s.link (λ l. CallLaw s g.joins l asked c events a) (λ l. CallLaw s g.joins l asked c events b) a b
-    (λ l x y. one_told_so (told_asked asked l g.joins.own events) events a b x.told y.told) p q
+one_called : (asked : LinkAsking) (s : State) (c : Command) (asks : List Signal) (j k : Joins) (events : List Event) (a b : Answer) → asked_on_link c ≡ Some asked
+    → IsToldSame s c j k events → AnswerBy (Some asked) s (record { asked = asks; joins = j }) c events a → AnswerBy (Some asked) s (record { asked = asks; joins = k }) c events b → a ≡ b
+one_called asked s c asks j k events a b is same p q =
+    one_linked s.link (λ l. CallLaw s j l asked c events a) (λ l. CallLaw s k l asked c events b) a b
+    (λ l open_ x y. one_told_so (told_asked asked l j.own events) events a b x.told (subst (λ o. IsTold o events b) (sym (same asked l is open_)) y.told)) p q
 
--- what happened decides what it answers
-one_answer : (s : State) (c : Command) (g : Given) (events : List Event) (a b : Answer) → AnswerLaw s g c events a → AnswerLaw s g c events b → a ≡ b
-one_answer s Skip g events a b p q = absurd p
-one_answer s (Fates fates) g events a b p q = p ∙ sym q
-one_answer s (PlaceT2 id blocks head) g events a b p q = p ∙ sym q
-one_answer s (PlaceT3 id blocks head) g events a b p q = p ∙ sym q
-one_answer s (PlaceT4 id code container head) g events a b p q = p ∙ sym q
-one_answer s (PlaceT5 id blocks size head) g events a b p q = p ∙ sym q
-one_answer s (PlacePeer id lr miu rw limit) g events a b p q = p ∙ sym q
-one_answer s (Lock id block) g events a b p q = p ∙ sym q
-one_answer s (Busy id count times) g events a b p q = p ∙ sym q
-one_answer s (Offer id key value) g events a b p q = p ∙ sym q
-one_answer s (Remove id) g events a b p q = p ∙ sym q
-one_answer s (Dump id) g events a b p q = one_dump (device_with (bytes_of id) s.world.field.listeners) a b p q
-one_answer s (Inbox id) g events a b p q = p ∙ sym q
-one_answer s Find g events a b p q = one_find s.world.field.listeners events a b p.tells q.tells
-one_answer s Crowd g events a b p q = one_tags s.world.field.listeners events a b p.tells q.tells
-one_answer s Poll3 g events a b p q = one_threes s.world.field.listeners events a b p.tells q.tells
-one_answer s (Read3 id) g events a b p q = one_three TellsRead3 one_read_told id s.world.field.listeners g.asked events a b p.tells q.tells
-one_answer s (Write3 id m) g events a b p q =
-    one_three (TellsWrite3 (message_of m)) (one_write_told (message_of m)) id s.world.field.listeners g.asked events a b p.tells q.tells
-one_answer s (Read id) g events a b p q = one_read id s.world.field.listeners g.asked events a b p.tells q.tells
-one_answer s (Write id m) g events a b p q = one_write id s.world.field.listeners (message_of m) g.asked events a b p.tells q.tells
-one_answer s (Link id miu window) g events a b p q = one_link (A id) s.world.field.listeners (length s.peers.links + 1) (own_general miu) events a b p.tells q.tells
-one_answer s (Forge id payloads) g events a b p q = one_forge id s.world.field.listeners payloads events a b p.tells q.tells
-one_answer s (Raw id frames) g events a b p q = one_raw id s.world.field.listeners frames events a b p.tells q.tells
-one_answer s (Put m) g events a b p q = one_called (Does (put_from 0 (message_of m))) s (Put m) g events a b p q
-one_answer s (Get most key) g events a b p q = one_called (Does (Getting client_sap most key)) s (Get most key) g events a b p q
-one_answer s (Lookup name) g events a b p q = one_called (Does (Finding name)) s (Lookup name) g events a b p q
-one_answer s (OnPut slot m) g events a b p q = one_called (Does (put_from slot (message_of m))) s (OnPut slot m) g events a b p q
-one_answer s (OnGet slot most key) g events a b p q = one_called (Does (Getting (sap_of_slot slot) most key)) s (OnGet slot most key) g events a b p q
-one_answer s (commands.Puts puts) g events a b p q = one_called (Does (Putting (slot_messages puts))) s (commands.Puts puts) g events a b p q
-one_answer s Unlink g events a b p q = one_called Closes s Unlink g events a b p q
+-- what happened decides what it answers, by any numbers of PDUs that tell the same on the open link
+pub one_answer : (s : State) (c : Command) (asked : List Signal) (j k : Joins) (events : List Event) (a b : Answer) → IsToldSame s c j k events
+    → AnswerLaw s (record { asked = asked; joins = j }) c events a → AnswerLaw s (record { asked = asked; joins = k }) c events b → a ≡ b
+one_answer s Skip asked j k events a b same p q = absurd p
+one_answer s (Fates fates) asked j k events a b same p q = p ∙ sym q
+one_answer s (PlaceT2 id blocks head) asked j k events a b same p q = p ∙ sym q
+one_answer s (PlaceT3 id blocks head) asked j k events a b same p q = p ∙ sym q
+one_answer s (PlaceT4 id code container head) asked j k events a b same p q = p ∙ sym q
+one_answer s (PlaceT5 id blocks size head) asked j k events a b same p q = p ∙ sym q
+one_answer s (PlacePeer id lr miu rw limit) asked j k events a b same p q = p ∙ sym q
+one_answer s (Lock id block) asked j k events a b same p q = p ∙ sym q
+one_answer s (Busy id count times) asked j k events a b same p q = p ∙ sym q
+one_answer s (Offer id key value) asked j k events a b same p q = p ∙ sym q
+one_answer s (Remove id) asked j k events a b same p q = p ∙ sym q
+one_answer s (Dump id) asked j k events a b same p q = one_dump (device_with (bytes_of id) s.world.field.listeners) a b p q
+one_answer s (Inbox id) asked j k events a b same p q = p ∙ sym q
+one_answer s Find asked j k events a b same p q = one_find s.world.field.listeners events a b p.tells q.tells
+one_answer s Crowd asked j k events a b same p q = one_tags s.world.field.listeners events a b p.tells q.tells
+one_answer s Poll3 asked j k events a b same p q = one_threes s.world.field.listeners events a b p.tells q.tells
+one_answer s (Read3 id) asked j k events a b same p q = one_three TellsRead3 one_read_told id s.world.field.listeners asked events a b p.tells q.tells
+one_answer s (Write3 id m) asked j k events a b same p q =
+    one_three (TellsWrite3 (message_of m)) (one_write_told (message_of m)) id s.world.field.listeners asked events a b p.tells q.tells
+one_answer s (Read id) asked j k events a b same p q = one_read id s.world.field.listeners asked events a b p.tells q.tells
+one_answer s (Write id m) asked j k events a b same p q = one_write id s.world.field.listeners (message_of m) asked events a b p.tells q.tells
+one_answer s (Link id miu window) asked j k events a b same p q = one_link (A id) s.world.field.listeners (length s.peers.links + 1) (own_general miu) events a b p.tells q.tells
+one_answer s (Forge id payloads) asked j k events a b same p q = one_forge id s.world.field.listeners payloads events a b p.tells q.tells
+one_answer s (Raw id frames) asked j k events a b same p q = one_raw id s.world.field.listeners frames events a b p.tells q.tells
+one_answer s (Put m) asked j k events a b same p q = one_called (Does (put_from 0 (message_of m))) s (Put m) asked j k events a b refl same p q
+one_answer s (Get most key) asked j k events a b same p q = one_called (Does (Getting client_sap most key)) s (Get most key) asked j k events a b refl same p q
+one_answer s (Lookup name) asked j k events a b same p q = one_called (Does (Finding name)) s (Lookup name) asked j k events a b refl same p q
+one_answer s (OnPut slot m) asked j k events a b same p q = one_called (Does (put_from slot (message_of m))) s (OnPut slot m) asked j k events a b refl same p q
+one_answer s (OnGet slot most key) asked j k events a b same p q = one_called (Does (Getting (sap_of_slot slot) most key)) s (OnGet slot most key) asked j k events a b refl same p q
+one_answer s (commands.Puts puts) asked j k events a b same p q = one_called (Does (Putting (slot_messages puts))) s (commands.Puts puts) asked j k events a b refl same p q
+one_answer s Unlink asked j k events a b same p q = one_called Closes s Unlink asked j k events a b refl same p q
 
 -- From a state a command is obeyed in one way by the same numbers.
 module _ (s : State) (c : Command) (g h : Given) (es fs : List Event) (a b : Answer) (t u : State) (p : FrontOf s g c es (Some a) t) (q : FrontOf s h c fs (Some b) u) (done : due s g c (receptions es) ≡ Over) (over : due s h c (receptions fs) ≡ Over)
@@ -152,7 +155,7 @@ module _ (s : State) (c : Command) (g h : Given) (es fs : List Event) (a b : Ans
       one_course bench_air (due s g c) (begun s g.joins c) (changed s c).queue es fs p.turns r.turns p.fates r.fates p.each r.each done at_end
 
   pub same_answers : AnswerLaw s g c es a → AnswerLaw s h c fs b → a ≡ b
-  same_answers x y = one_answer s c g es a b x (subst (λ k. AnswerLaw s k c es b) same_given (subst (λ k. AnswerLaw s h c k b) (sym same_events) y))
+  same_answers x y = one_answer s c g.asked g.joins g.joins es a b (λ asking l at is. refl) x (subst (λ k. AnswerLaw s k c es b) same_given (subst (λ k. AnswerLaw s h c k b) (sym same_events) y))
 
   -- it leads to the same state
   pub same_state : a ≡ b → u ≡ t

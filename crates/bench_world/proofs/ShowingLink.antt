@@ -3,25 +3,25 @@ use Rattle.std.proofs.Common.{◌≡◌, ℕ, List, [], ◌∷◌, ◌++◌, Opt
 use Rattle.nfc_base.specs.Trace.{back_of}
 use Rattle.nfc_base.specs.declared.event.Event.{Event}
 use Rattle.nfc_base.specs.declared.event.Event.TheVariants.{Request}
-use Rattle.air_core.specs.Conversation.{AreTurns, EachDue, Note, Next, Over, receptions}
+use Rattle.air_core.specs.Conversation.{AreTurns, EachDue, Note, Over, receptions}
 use Rattle.air_core.specs.Turning.{due_weaker}
 use Rattle.air_core.proofs.Following.{nothing_more, trace_first}
 use Rattle.far_air.specs.FarWorld.{with_numbers}
 use Rattle.link_calls.specs.Asking.{LinkAsking}
-use Rattle.link_numbers.specs.Shown.{far_shown, own_shown}
+use Rattle.link_numbers.specs.Shown.{far_shown}
 use Rattle.bench_script.specs.declared.command.Command.{Command}
 use Rattle.bench_script.specs.declared.command.Command.TheVariants.{Skip, Fates, PlaceT2, PlaceT3, PlaceT4, PlaceT5, PlacePeer, Lock, Busy, Offer, Remove, Dump, Inbox, Find, Crowd, Poll3, Read, Read3, Write, Write3, Link, Forge, Raw, Put, Get, Lookup, OnPut, OnGet, Puts, Unlink}
 use Rattle.bench_world.specs.declared.entry.Answer.{Answer}
-use Rattle.bench_world.specs.declared.entry.Entry.{Entry}
 use Rattle.bench_world.specs.Asked.{asked_on_link}
 use Rattle.bench_world.specs.Calls.{due_asked, due_if}
-use Rattle.bench_world.specs.Legal.{FrontOf, Given, Joins, LegalStep, State, begun, changed, due, due_by, joins_by}
+use Rattle.bench_world.specs.Legal.{FrontOf, Given, Joins, State, begun, changed, due, due_by, joins_by}
 use Rattle.bench_world.specs.Links.{OpenLink}
-use Rattle.bench_world.specs.World.{WholeWorld, bench_air}
-use Rattle.bench_world.specs.Showing.{BeginsSame, FarShort, IsBetween, OwnShort, PayloadsShort, counted_from, first_pni, joins_shown, shown_of}
+use Rattle.bench_world.specs.World.{bench_air}
+use Rattle.bench_world.specs.Showing.{BeginsSame, IsBetween, OwnShort, PayloadsShort, first_pni, joins_shown, shown_by, shown_of}
 use Rattle.bench_world.proofs.FarDevices.{ShowsWell}
-use Rattle.bench_world.proofs.ShowingFar.{HasEnded, far_goes}
-use Rattle.bench_world.proofs.ShowingOwn.{OwnSame, own_same, link_cuts, rested_at}
+use Rattle.bench_world.proofs.ShowingFar.{CutsOn, HasEnded, far_goes}
+use Rattle.bench_world.proofs.ShowingOwn.{OwnSame, own_same, link_cuts}
+use Rattle.bench_world.proofs.SizedStates.{midst_cuts}
 use Rattle.bench_world.proofs.ShowingStep.{GoesSame, begins_same}
 
 -- a command that asks something on the open link changes nothing before that
@@ -61,14 +61,15 @@ changes_none s Unlink asked e = refl
 own_front : (asked : LinkAsking) (l : OpenLink) (own : List ℕ) (a b : List Event) → OwnShort asked l own (a ++ b) → OwnShort asked l own a
 own_front asked l own a b h before f x rest is = h before f x (rest ++ b) (ap (λ t. t ++ b) is ∙ append_assoc before (Request f x ∷ rest) b)
 
-pub far_front : (w : WholeWorld) (a b : List Event) → FarShort w (a ++ b) → FarShort w a
-far_front w a b h before f x rest is = h before f x (rest ++ b) (ap (λ t. t ++ b) is ∙ append_assoc before (Request f x ∷ rest) b)
+-- what a bench keeps holds in the midst of a command
+pub cuts_on : (s : State) (joins : Joins) (c : Command) → IsBetween s → CutsOn (begun s joins c)
+cuts_on s joins c b before = midst_cuts s joins c before b.cuts
 
 module _ (s : State) (c : Command) (asked : LinkAsking) (on : asked_on_link c ≡ Some asked) where
   -- its numbers are those that are shown
   pub shown_on : (l : OpenLink) → s.link ≡ Some l → (es : List Event) → shown_of s c es ≡ joins_shown l.initiator.core.number es
   shown_on l open_ es =
-      ap (λ o. joins_by o c (joins_shown (counted_from o s.link) es)) on ∙ ap (λ o. joins_shown (first_pni o) es) open_
+      ap (λ o. shown_by o s c es) on ∙ ap (λ o. joins_shown (first_pni o) es) open_
 
   pub due_on_link : (l : OpenLink) → s.link ≡ Some l → (g : Given) (ns : List Note) → due s g c ns ≡ due_asked asked l g.joins.own ns
   due_on_link l open_ g ns = ap (λ o. due_by o s g c ns) on ∙ ap (λ o. due_if o (λ k. due_asked asked k g.joins.own ns)) open_
@@ -82,8 +83,7 @@ module _ (s : State) (c : Command) (asked : LinkAsking) (on : asked_on_link c �
 
   module _ (l : OpenLink) (open_ : s.link ≡ Some l) (b : IsBetween s) (g h : Given) where
     -- turns of the command, each due, and events that stand behind them
-    module _ (turned more : List Event) (shown : h.joins ≡ shown_of s c (turned ++ more)) (turns : AreTurns bench_air (begun s g.joins c) turned) (each : EachDue (due s g c) [] turned)
-        (short : OwnShort asked l g.joins.own turned) (replies : FarShort (begun s g.joins c) turned) where
+    module _ (turned more : List Event) (shown : h.joins ≡ shown_of s c (turned ++ more)) (turns : AreTurns bench_air (begun s g.joins c) turned) (each : EachDue (due s g c) [] turned) where
       numbers_are : h.joins ≡ joins_shown l.initiator.core.number (turned ++ more)
       numbers_are = shown ∙ shown_on l open_ (turned ++ more)
 
@@ -93,42 +93,43 @@ module _ (s : State) (c : Command) (asked : LinkAsking) (on : asked_on_link c �
       pub own_on : OwnSame asked l g.joins.own h.joins.own turned more
       own_on =
           subst (λ (j : Joins). OwnSame asked l g.joins.own j.own turned more) (sym numbers_are)
-          (own_same asked l g.joins.own turned more (rested_at s l b open_) (link_cuts s l b open_).client each_asked)
+          (own_same asked l g.joins.own turned more (link_cuts s l b open_).rests (link_cuts s l b open_).client each_asked)
 
-      -- what the peer does with both
-      pub far_on : ShowsWell (with_numbers s.world g.joins.far) (far_shown l.initiator.core.number (turned ++ more)) turned (HasEnded asked l g.joins.own turned)
-      far_on =
-          far_goes s l b open_ g.joins.far asked g.joins.own turned more (subst (λ w. AreTurns bench_air w turned) (begun_on g.joins) turns) each_asked short
-          (subst (λ w. FarShort w turned) (begun_on g.joins) replies)
+      module _ (short : OwnShort asked l g.joins.own turned) where
+        -- what the peer does with both
+        pub far_on : ShowsWell (with_numbers s.world g.joins.far) (far_shown l.initiator.core.number (turned ++ more)) turned (HasEnded asked l g.joins.own turned)
+        far_on =
+            far_goes s l b open_ g.joins.far asked g.joins.own turned more (subst (λ w. AreTurns bench_air w turned) (begun_on g.joins) turns) each_asked short
+            (subst CutsOn (begun_on g.joins) (cuts_on s g.joins c b))
 
-      pub turns_on : AreTurns bench_air (begun s h.joins c) turned
-      turns_on =
-          subst (λ w. AreTurns bench_air w turned) (sym (begun_on h.joins))
-          (subst (λ (j : Joins). AreTurns bench_air (with_numbers s.world j.far) turned) (sym numbers_are) far_on.turns)
+        pub turns_on : AreTurns bench_air (begun s h.joins c) turned
+        turns_on =
+            subst (λ w. AreTurns bench_air w turned) (sym (begun_on h.joins))
+            (subst (λ (j : Joins). AreTurns bench_air (with_numbers s.world j.far) turned) (sym numbers_are) far_on.turns)
 
-      pub goes_on_link : GoesSame bench_air (begun s h.joins c) (due s g c) (due s h c) turned more
-      goes_on_link =
-          let k = own_on in
-          let D : (ns : List Note) → due s g c ns ≡ due_asked asked l g.joins.own ns = λ ns. due_on_link l open_ g ns in
-          let E : (ns : List Note) → due s h c ns ≡ due_asked asked l h.joins.own ns = λ ns. due_on_link l open_ h ns in
-          record {
-            turns = turns_on;
-            each = due_weaker (due s h c) (due_asked asked l h.joins.own) (λ ns n e d. E ns ∙ e) [] turned k.each;
-            asks = λ f x tail is e. E (receptions turned) ∙ k.asks f x tail is (sym (D (receptions turned)) ∙ e);
-            over = λ e. E (receptions turned) ∙ k.over (sym (D (receptions turned)) ∙ e);
-            over_back = λ e. D (receptions turned) ∙ k.over_back (sym (E (receptions turned)) ∙ e);
-          }
+        pub goes_on_link : GoesSame bench_air (begun s h.joins c) (due s g c) (due s h c) turned more
+        goes_on_link =
+            let k = own_on in
+            let D : (ns : List Note) → due s g c ns ≡ due_asked asked l g.joins.own ns = λ ns. due_on_link l open_ g ns in
+            let E : (ns : List Note) → due s h c ns ≡ due_asked asked l h.joins.own ns = λ ns. due_on_link l open_ h ns in
+            record {
+              turns = turns_on;
+              each = due_weaker (due s h c) (due_asked asked l h.joins.own) (λ ns n e d. E ns ∙ e) [] turned k.each;
+              asks = λ f x tail is e. E (receptions turned) ∙ k.asks f x tail is (sym (D (receptions turned)) ∙ e);
+              over = λ e. E (receptions turned) ∙ k.over (sym (D (receptions turned)) ∙ e);
+              over_back = λ e. D (receptions turned) ∙ k.over_back (sym (E (receptions turned)) ∙ e);
+            }
 
     -- two fronts that are over, by some numbers and by those that events show
     pub begins_on_link : (es rest fs more : List Event) (p q : Option Answer) (t u : State) → h.joins ≡ shown_of s c (es ++ more) → PayloadsShort s g c (es ++ rest)
         → FrontOf s g c (es ++ rest) p t → due s g c (receptions (es ++ rest)) ≡ Over → FrontOf s h c fs q u → due s h c (receptions fs) ≡ Over → BeginsSame es rest fs
     begins_on_link es rest fs more p q t u shown short front over front_by over_by =
-        begins_same bench_air (due s g c) (due s h c) (begun s g.joins c) (begun s h.joins c) (changed s c).queue es rest fs front.turns front.each front.fates over front_by.turns front_by.each front_by.fates over_by more
+        begins_same bench_air (due s g c) (due s h c) (begun s g.joins c) (begun s h.joins c) (changed s c).queue es rest fs front.turns front.each front.fates over
+        front_by.turns front_by.each front_by.fates over_by more
         (λ turned tail is turns each.
-          let all : es ++ rest ≡ turned ++ (tail ++ rest) = ap (λ z. z ++ rest) is ∙ append_assoc turned tail rest in
-          goes_on_link turned (tail ++ more) (shown ∙ ap (shown_of s c) (ap (λ z. z ++ more) is ∙ append_assoc turned tail more)) turns each
-          (own_front asked l g.joins.own turned (tail ++ rest) (subst (OwnShort asked l g.joins.own) all (short.own l asked open_ on)))
-          (far_front (begun s g.joins c) turned (tail ++ rest) (subst (FarShort (begun s g.joins c)) all short.far)))
+        let all : es ++ rest ≡ turned ++ (tail ++ rest) = ap (λ z. z ++ rest) is ∙ append_assoc turned tail rest in
+        goes_on_link turned (tail ++ more) (shown ∙ ap (shown_of s c) (ap (λ z. z ++ more) is ∙ append_assoc turned tail more)) turns each
+        (own_front asked l g.joins.own turned (tail ++ rest) (subst (OwnShort asked l g.joins.own) all (short l asked open_ on))))
 
   -- where no link is open nothing happens
   pub none_happens : s.link ≡ None → (g : Given) (es : List Event) (told : Option Answer) (t : State) → FrontOf s g c es told t → es ≡ []

@@ -1,15 +1,12 @@
 -- What is asked on an open link goes the same way by the numbers that its own frames show: the same is due, and the same is told of it.
-use Rattle.std.proofs.Common.{◌≡◌, ℕ, ◌<◌, List, [], ◌∷◌, ◌++◌, Option, Some, None, refl, sym, ◌∙◌, ap, subst}
+use Rattle.std.proofs.Common.{◌≡◌, ℕ, List, [], ◌∷◌, ◌++◌, Option, Some, None, refl, sym, ◌∙◌, ap, subst}
 use Rattle.nfc_base.specs.Signal.{Signal}
 use Rattle.nfc_base.specs.declared.event.Event.{Event}
 use Rattle.nfc_base.specs.declared.event.Event.TheVariants.{Request}
 use Rattle.nfc_base.specs.declared.event.Fate.{Fate}
-use Rattle.air_core.specs.Conversation.{Note, Next, Over, Asks, EachDue, receptions}
-use Rattle.dep_link.specs.Initiator.{Core}
+use Rattle.air_core.specs.Conversation.{Over, Asks, EachDue, receptions}
 use Rattle.snep_core.specs.Talk.{closes}
 use Rattle.link_calls.specs.Asking.{LinkAsking, Does, Closes, Call, call_begins}
-use Rattle.link_calls.specs.CallDue.{CallStanding}
-use Rattle.link_calls.specs.ClosingDue.{ClosingStanding}
 use Rattle.link_numbers.specs.OwnShows.{Rested, IsWithin}
 use Rattle.link_numbers.specs.Shown.{own_shown}
 use Rattle.link_numbers.proofs.OwnShown.{own_shows, own_shows_closing}
@@ -17,16 +14,16 @@ use Rattle.bench_world.specs.declared.entry.Answer.{Answer}
 use Rattle.bench_world.specs.Calls.{IfLinked, asked_behind, due_asked, link_behind, told_asked, told_call, told_closing}
 use Rattle.bench_world.specs.Legal.{State}
 use Rattle.bench_world.specs.Links.{OpenLink}
-use Rattle.bench_world.specs.Obeying.{KeepsLink, Machines, state_at}
 use Rattle.bench_world.specs.Opened.{IsOpen}
 use Rattle.bench_world.specs.Cutting.{LinkCuts}
 use Rattle.bench_world.specs.Showing.{IsBetween}
-use Rattle.bench_world.proofs.ShowingBegins.{call_within, closes_within}
+use Rattle.link_numbers.proofs.Resting.{call_within, closes_within}
 
 -- What was asked on a link goes the same way by these numbers as by those: the same is due, it is over at once, and the same is told then.
 pub record OwnSame (asked : LinkAsking) (l : OpenLink) (js ks : List ℕ) (turned more : List Event) : Type 0 where
   pub each : EachDue (due_asked asked l ks) [] turned
-  pub asks : (f : Signal) (x : Fate) (tail : List Event) → more ≡ Request f x ∷ tail → due_asked asked l js (receptions turned) ≡ Asks f → due_asked asked l ks (receptions turned) ≡ Asks f
+  pub asks : (f : Signal) (x : Fate) (tail : List Event) → more ≡ Request f x ∷ tail → due_asked asked l js (receptions turned) ≡ Asks f
+      → due_asked asked l ks (receptions turned) ≡ Asks f
   pub over : due_asked asked l js (receptions turned) ≡ Over → due_asked asked l ks (receptions turned) ≡ Over
   pub over_back : due_asked asked l ks (receptions turned) ≡ Over → due_asked asked l js (receptions turned) ≡ Over
   pub told : due_asked asked l js (receptions turned) ≡ Over → told_asked asked l ks turned ≡ told_asked asked l js turned
@@ -63,9 +60,3 @@ opened_at s l b open_ =
 
 pub link_cuts : (s : State) (l : OpenLink) → IsBetween s → s.link ≡ Some l → LinkCuts l
 link_cuts s l b open_ = subst (λ o. IfLinked o LinkCuts (Unit {0})) open_ b.cuts.link
-
-pub rested_at : (s : State) (l : OpenLink) → IsBetween s → s.link ≡ Some l → Rested l.initiator.core
-rested_at s l b open_ =
-    let o = opened_at s l b open_ in
-    let k = link_cuts s l b open_ in
-    record { number = o.step.step.1.step.number; some = k.pieces.0; fits = k.pieces.1 }

@@ -1,5 +1,5 @@
 -- Where the same is due and the same turns are made by other numbers, a course by these numbers begins with the same events: over any air.
-use Rattle.std.proofs.Common.{◌≡◌, ◌⊎◌, inl, inr, List, [], ◌∷◌, ◌++◌, refl, sym, ◌∙◌, ap, subst, append_assoc}
+use Rattle.std.proofs.Common.{◌≡◌, inl, inr, List, [], ◌∷◌, ◌++◌, refl, sym, ◌∙◌, ap, subst, append_assoc}
 use Rattle.std.proofs.lemmas.List.{append-nil}
 use Rattle.nfc_base.specs.Signal.{Signal}
 use Rattle.nfc_base.specs.Trace.{back_of}
@@ -8,7 +8,7 @@ use Rattle.nfc_base.specs.declared.event.Event.{Event}
 use Rattle.nfc_base.specs.declared.event.Event.TheVariants.{Reset, Request, Answer, Clash}
 use Rattle.nfc_base.specs.declared.event.Fate.{Fate}
 use Rattle.nfc_base.specs.declared.event.Fate.TheVariants.{Pass}
-use Rattle.air_core.specs.Conversation.{AirModel, Note, Next, Over, LightUp, Asks, receptions, replay, EachDue, first_fate, later_fates, queue_after, FatesFrom, AreTurns}
+use Rattle.air_core.specs.Conversation.{AirModel, Note, Next, Over, Asks, receptions, replay, EachDue, first_fate, later_fates, queue_after, FatesFrom, AreTurns}
 use Rattle.air_core.proofs.Following.{no_demand, nothing_more, same_asked, light_is_no_request, trace_first}
 use Rattle.bench_world.specs.Showing.{BeginsSame}
 use Rattle.bench_world.proofs.ShowingSplits.{IsTail, Splits, splits}
@@ -54,7 +54,8 @@ pub record GoesSame {W : Type 0} (m : AirModel W) (v : W) (first second : List N
 
 module _ {W : Type 0} (m : AirModel W) (first second : List Note → Next) (w v : W) (q : List Fate) where
   -- a request that is due behind turns is the next event of a course
-  asked_next : (f : Signal) (fs turned : List Event) → second (receptions turned) ≡ Asks f → first_fate (queue_after q turned) ≡ Pass → second (receptions fs) ≡ Over → GoesOn m second q fs turned
+  asked_next : (f : Signal) (fs turned : List Event) → second (receptions turned) ≡ Asks f → first_fate (queue_after q turned) ≡ Pass → second (receptions fs) ≡ Over
+      → GoesOn m second q fs turned
       → (other : List Event) × (fs ≡ (turned ++ Request f Pass ∷ []) ++ other)
   asked_next f fs turned asked pass over g = by g.other g.is g.fresh g.due g.fates
     where
@@ -109,7 +110,8 @@ module _ {W : Type 0} (m : AirModel W) (first second : List Note → Next) (w v 
         }
 
     -- So a course by these numbers begins with the same events, if whatever whole turns they begin with go the same way.
-    pub begins_same : (more : List Event) → ((turned tail : List Event) → es ≡ turned ++ tail → AreTurns m w turned → EachDue first [] turned → GoesSame m v first second turned (tail ++ more))
+    pub begins_same : (more : List Event) → ((turned tail : List Event) → es ≡ turned ++ tail → AreTurns m w turned → EachDue first [] turned
+        → GoesSame m v first second turned (tail ++ more))
         → BeginsSame es rest fs
     begins_same more same = by (splits m w es rest turns)
       where
@@ -126,6 +128,7 @@ module _ {W : Type 0} (m : AirModel W) (first second : List Note → Next) (w v 
             kind (inl none) =
                 let all : s.turned ≡ es = sym (append-nil s.turned) ∙ ap (λ t. s.turned ++ t) (sym none) ∙ sym s.all in
                 let behind : AreTurns m (replay m w s.turned) rest = subst (λ t. AreTurns m (replay m w s.turned) (t ++ rest)) none s.behind in
-                begins_whole (ap back_of behind.made ∙ trace_first m (replay m w s.turned) behind.moves) more (subst (λ t. GoesSame m v first second t more) all (subst (λ t. GoesSame m v first second s.turned (t ++ more)) none goes))
+                begins_whole (ap back_of behind.made ∙ trace_first m (replay m w s.turned) behind.moves) more
+                (subst (λ t. GoesSame m v first second t more) all (subst (λ t. GoesSame m v first second s.turned (t ++ more)) none goes))
             kind (inr (f, is, some)) =
                 begins_midst s.turned f (s.all ∙ ap (λ t. s.turned ++ t) is) some more (subst (λ t. GoesSame m v first second s.turned (t ++ more)) is goes)

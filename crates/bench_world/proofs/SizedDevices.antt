@@ -1,6 +1,6 @@
 -- Whatever happens to them, the devices of a bench cut replies into pieces that are none too small, and the far ends above them have no
 -- payload that is too long.
-use Rattle.std.proofs.Common.{◌≤◌, ℕ, List, Option, Some, None, arith}
+use Rattle.std.proofs.Common.{ℕ, List, Option, Some, None}
 use Rattle.nfc_base.specs.Signal.{Signal}
 use Rattle.nfca_poll.specs.Front.{Idle}
 use Rattle.nfca_poll.specs.declared.upper.UpStep.TheVariants as steps
@@ -10,15 +10,14 @@ use Rattle.dep_link.specs.Sizes.{initiator_lr}
 use Rattle.dep_link.specs.Target.{TargetState, target_table}
 use Rattle.llcp_link.proofs.Ranged.{either}
 use Rattle.peer_air.specs.PeerFars.{peer_ends}
-use Rattle.snep_core.specs.Server.{serving}
 use Rattle.bench_devices.specs.declared.device.Device.{Device}
 use Rattle.bench_devices.specs.declared.device.Device.TheVariants.{T2, T4, Peer, T5, T3}
 use Rattle.bench_devices.specs.Device.{device_after, device_busy, device_darkened, device_locked, device_woken, devices}
 use Rattle.bench_devices.specs.Peers.{PeerDid, PeerNear, by_target, by_turn, delivered, given_up, peer_did, peer_machine, takes_frame}
 use Rattle.bench_world.specs.Cutting.{CutsReplies, GivesShort, IsPiece}
 use Rattle.bench_world.specs.World.{FarEnd}
-use Rattle.bench_world.proofs.SizedEnds.{general_fits, took_short}
 use Rattle.bench_world.proofs.SizedFronts.{after_so, moved_so}
+use Rattle.bench_world.proofs.SizedServer.{left_short, restarted_short, rested_short}
 use Rattle.bench_world.proofs.SizedTargets.{piece_fits, replied_cuts, target_cuts}
 use Rattle.bench_world.proofs.SizedWorld.{KeepBoth}
 
@@ -88,7 +87,7 @@ both_keep = record {
   after = after_sized;
   woken = woken_sized;
   darkened = dark_sized;
-  restarted = λ l general h. general_fits general;
-  left = λ l payload n h. took_short serving l payload n h;
-  rested = λ l h. (let z : 128 ≤ 2176 = omega arith in z);
+  restarted = λ l general h. restarted_short l general;
+  left = left_short;
+  rested = λ l h. rested_short l;
 }

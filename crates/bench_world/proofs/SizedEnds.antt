@@ -1,5 +1,5 @@
--- No general bytes say an MIU that is too long for a payload, and nothing that an end takes or gives changes the MIU of the other.
-use Rattle.std.proofs.Common.{◌≤◌, ◌<◌, ◌+◌, ◌*◌, ◌/◌, ◌%◌, ◌==◌, nat_lt, ℕ, zero, suc, Bool, true, false, List, [], ◌∷◌, length, take, Option, Some, None, Result, Ok, Err, if◌then◌else◌, arith, unwrap_or, refl, sym, subst}
+-- No general bytes say an MIU that is too long for a payload.
+use Rattle.std.proofs.Common.{◌≤◌, ◌<◌, ◌+◌, ◌*◌, ◌/◌, ◌%◌, ◌==◌, nat_lt, ℕ, zero, suc, Bool, true, false, List, [], ◌∷◌, length, take, Option, Some, None, Result, Ok, Err, if◌then◌else◌, arith, unwrap_or}
 use Rattle.std.specs.Prelude.{IfSome}
 use Rattle.llcp_pdu.specs.declared.param.Param.{Param}
 use Rattle.llcp_pdu.specs.declared.param.Param.TheVariants.{Version, Miux, Wks, Lto, Rw, Opt, SdReq, SdRes}
@@ -7,16 +7,12 @@ use Rattle.llcp_pdu.specs.General.{general, miu_by, said, said_behind, spoken, u
 use Rattle.llcp_pdu.specs.Params.{begun, is_known, last_of, later, miux_in, one, param, params, taken, two, version_in, wks_in}
 use Rattle.llcp_pdu.specs.Reading.{onto}
 use Rattle.llcp_pdu.specs.Wire.{least_miu, magic_length, major, miux_end}
-use Rattle.llcp_link.specs.Serving.{Serving}
-use Rattle.llcp_link.specs.State.{LlcState, miu_said}
-use Rattle.llcp_link.specs.Giving.{after_giving}
-use Rattle.llcp_link.specs.Taking.{taken_from}
+use Rattle.llcp_link.specs.State.{miu_said}
 use Rattle.llcp_link.proofs.Ranged.{either}
-use Rattle.link_numbers.proofs.EndTakes.{after_has, taken_has}
 use Rattle.bench_world.specs.Cutting.{IsShort}
 
 -- a MIUX is less than 2,048
-abbrev IsLess : ℕ → Type 0
+abbrev pub IsLess : ℕ → Type 0
 IsLess n = n < miux_end
 
 abbrev IsSmall : Param → Type 0
@@ -54,7 +50,7 @@ param_small k v =
     (if_small (k == 9) _ _ (two_small SdRes (λ x y. tt) v) tt))))))))
 
 -- so are all of a list that could be read
-abbrev AllSmall : {E : Type 0} → Result (List Param) E → Type 0
+abbrev pub AllSmall : {E : Type 0} → Result (List Param) E → Type 0
 AllSmall (Err e) = Unit {0}
 AllSmall (Ok ps) = IfSome (last_of miux_in ps) IsLess
 
@@ -71,7 +67,7 @@ taken_small (Some p) known at r h k = onto_small p r h k
 taken_small None true at r h k = tt
 taken_small None false at r h k = k
 
-params_small : (xs : List ℕ) (m at : ℕ) → AllSmall (params xs m at)
+pub params_small : (xs : List ℕ) (m at : ℕ) → AllSmall (params xs m at)
 params_small [] zero at = tt
 params_small [] (suc m) at = tt
 params_small (k ∷ []) zero at = tt
@@ -99,11 +95,3 @@ behind_fits (Some rest) = said_fits (params rest 0 magic_length) (params_small r
 
 pub general_fits : (b : List ℕ) → IsShort (miu_said (general b))
 general_fits b = behind_fits (unmasked b)
-
--- so it is of an end once it took a payload and gave one
-pub took_short : {S : Type 0} (m : Serving S) (l : LlcState S) (payload : List ℕ) (n : ℕ) → IsShort l.far_miu → IsShort (after_giving m n (taken_from m l payload)).far_miu
-took_short m l payload n h = subst IsShort (sym (after_has m l.far_miu n (taken_from m l payload) (taken_has m l.far_miu l payload refl))) h
-
--- and once it gave one and took one
-pub given_short : {S : Type 0} (m : Serving S) (l : LlcState S) (n : ℕ) (payload : List ℕ) → IsShort l.far_miu → IsShort (taken_from m (after_giving m n l) payload).far_miu
-given_short m l n payload h = subst IsShort (sym (taken_has m l.far_miu (after_giving m n l) payload (after_has m l.far_miu n l refl))) h

@@ -1,5 +1,5 @@
 -- Whatever a command does, both ends of a bench's links cut payloads as before, and have none that is too long.
-use Rattle.std.proofs.Common.{◌≤◌, ◌*◌, nat_eq, ℕ, List, [], ◌∷◌, Option, Some, None, sym, subst, arith}
+use Rattle.std.proofs.Common.{◌≡◌, ◌≤◌, ◌*◌, nat_eq, ℕ, List, [], ◌∷◌, Option, Some, None, sym, subst, arith, refl}
 use Rattle.std.specs.Prelude.{IfSome, option_map}
 use Rattle.std.specs.Cmp.Lexicographic.{pointwise}
 use Rattle.std.specs.List.{AllByRecursion}
@@ -10,8 +10,9 @@ use Rattle.far_air.specs.FarEnds.{first_far, later_fars}
 use Rattle.llcp_link.proofs.Ranged.{either}
 use Rattle.peer_air.specs.PeerFars.{peer_ends}
 use Rattle.snep_core.specs.Talk.{Ends}
-use Rattle.link_calls.specs.Asking.{Call, Closes, Does, LinkAsking}
+use Rattle.link_calls.specs.Asking.{Call, Closes, Does, LinkAsking, call_begins}
 use Rattle.link_calls.specs.CallDue.{CallStanding, Comes}
+use Rattle.link_numbers.proofs.Resting.{call_within, comes_rested, comes_within, waiting_rested}
 use Rattle.bench_script.specs.DeviceIds.{bytes_of}
 use Rattle.bench_script.specs.declared.command.Command.{Command}
 use Rattle.bench_script.specs.declared.command.Command.TheVariants.{PlaceT2, PlaceT3, PlaceT4, PlaceT5, PlacePeer, Lock, Busy, Offer, Remove, Find, Crowd, Poll3, Read, Read3, Write, Write3, Link, Forge, Raw}
@@ -23,16 +24,16 @@ use Rattle.bench_world.specs.declared.entry.Answer.{Answer}
 use Rattle.bench_world.specs.declared.entry.Answer.TheVariants as answers
 use Rattle.bench_world.specs.Asked.{asked_on_link}
 use Rattle.bench_world.specs.Calls.{IfLinked, asked_behind, link_behind, stands_on}
-use Rattle.bench_world.specs.Cutting.{CutsReplies, CutsWell, FirstCuts, FrontsCut, GivesShort, LinkCuts, MidstCuts, WorldCuts}
+use Rattle.bench_world.specs.Cutting.{CutsReplies, CutsWell, FirstCuts, FrontsCut, GivesShort, LinkCuts, MidstCuts, RepliesShort, WorldCuts}
 use Rattle.bench_world.specs.Legal.{Joins, State, begun, changed, is_linked_to, link_alone, link_left, memory_of, state_after}
 use Rattle.bench_world.specs.Linking.{link_if}
 use Rattle.bench_world.specs.Links.{OpenLink}
 use Rattle.bench_world.specs.Obeying.{Machines, ObeyedBy, state_at, untraced}
 use Rattle.bench_world.specs.Peers.{end_offered, new_end, placed_under, with_place_changed, without_place}
 use Rattle.bench_world.specs.World.{FarEnd, WholeWorld, bench_air, with_listeners, with_one_more}
-use Rattle.bench_world.proofs.SizedCalls.{CallSized, call_sized}
 use Rattle.bench_world.proofs.SizedDevices.{both_keep, busy_sized, locked_sized}
 use Rattle.bench_world.proofs.SizedEnds.{general_fits}
+use Rattle.bench_world.proofs.SizedServer.{left_short, reply_short}
 use Rattle.bench_world.proofs.SizedTargets.{piece_fits}
 use Rattle.bench_world.proofs.SizedWorld.{all_more, first_so, later_so, replay_so}
 
@@ -73,7 +74,7 @@ less_end id (d ∷ ds) os h =
 
 offered_one : (key value : List ℕ) (o : Option FarEnd) → Above o → Above (option_map (end_offered key value) o)
 offered_one key value None h = tt
-offered_one key value (Some l) h = h
+offered_one key value (Some l) h = record { miu = h.miu; queue = h.queue; served = h.served; own = h.own }
 
 offered_end : (key value id : List ℕ) (ds : List Device) (os : List (Option FarEnd)) → AllByRecursion Above os → AllByRecursion Above (with_place_changed (end_offered key value) id ds os)
 offered_end key value id [] os h = h
@@ -90,7 +91,8 @@ changed_world s (PlaceT3 id blocks head) h = placed s.world (new_t3 id (memory_o
 changed_world s (PlaceT4 id code container head) h = placed s.world (new_t4 id code container (memory_of (file_size container) head)) None h (piece_fits initiator_lr) tt
 changed_world s (PlaceT5 id blocks size head) h = placed s.world (new_t5 id size (memory_of (size * blocks) head)) None h (piece_fits initiator_lr) tt
 changed_world s (PlacePeer id lr miu rw limit) h =
-    placed s.world (new_peer id lr miu) (Some (new_end miu rw limit)) h (piece_fits initiator_lr) (let z : 128 ≤ 2176 = omega arith in z)
+    placed s.world (new_peer id lr miu) (Some (new_end miu rw limit)) h (piece_fits initiator_lr)
+    (record { miu = (let z : 128 ≤ 2176 = omega arith in z); queue = tt; served = tt; own = refl })
 changed_world s (Lock id block) h = changed_one s.world (device_locked block) (locked_sized block) (bytes_of id) h
 changed_world s (Busy id count times) h = changed_one s.world (device_busy count times) (busy_sized count times) (bytes_of id) h
 changed_world s (Offer id key value) h = record { targets = h.targets; ends = offered_end key value (bytes_of id) s.world.field.listeners s.world.fars h.ends }
@@ -118,8 +120,9 @@ changed_link s (Forge id payloads) h = tt
 changed_link s (Raw id frames) h = tt
 changed_link s c h = h
 
+-- behind a command that opened one, or asked something on it
 opened_link : (number : Option ℕ) (d : Option Device) (miu rw : ℕ) → Linked (link_if number d miu rw)
-opened_link (Some peer) (Some d) miu rw = record { pieces = piece_fits (device_target d).lr; client = general_fits (device_target d).general }
+opened_link (Some peer) (Some d) miu rw = record { rests = waiting_rested (device_target d).lr; client = general_fits (device_target d).general }
 opened_link (Some peer) None miu rw = tt
 opened_link None d miu rw = tt
 
@@ -129,15 +132,17 @@ alone_link s (Link id miu rw) None h = tt
 alone_link s (Link id miu rw) (Some a) h = tt
 alone_link s c told h = changed_link s c h
 
-behind_link : (l : OpenLink) (call : Call) (x : CallStanding) → CallSized x → Linked (link_behind l call x)
-behind_link l call (Comes (Ends jobs client) i) h = record { pieces = h.1; client = h.0 }
-behind_link l call x h = tt
+behind_link : (l : OpenLink) (call : Call) (joins : List ℕ) (es : List Event) → LinkCuts l → (x : CallStanding) → stands_on l joins call es ≡ x → Linked (link_behind l call x)
+behind_link l call joins es h (Comes (Ends jobs client) i) e = record {
+  rests = comes_rested joins (call_begins l.client call) (Ends jobs client) l.initiator i (receptions es) h.rests e;
+  client = comes_within joins (call_begins l.client call) (Ends jobs client) l.initiator i (receptions es) (call_within l.client call h.client) e;
+}
+behind_link l call joins es h x e = tt
 
 asked_link : (asked : LinkAsking) (told : Option Answer) (o : Option OpenLink) (joins : List ℕ) (es : List Event) → Linked o → Linked (asked_behind asked told o joins es)
 asked_link (Does call) None o joins es h = tt
 asked_link (Does call) (Some a) None joins es h = tt
-asked_link (Does call) (Some a) (Some l) joins es h =
-    behind_link l call (stands_on l joins call es) (call_sized joins l.client call l.initiator (receptions es) h.client h.pieces)
+asked_link (Does call) (Some a) (Some l) joins es h = behind_link l call joins es h (stands_on l joins call es) refl
 asked_link Closes told o joins es h = tt
 
 left_link : (o : Option LinkAsking) (s : State) (joins : Joins) (c : Command) (es : List Event) (told : Option Answer) → Linked s.link → Linked (link_left o s joins c es told)
@@ -147,6 +152,9 @@ left_link (Some asked) s joins c es told h = asked_link asked told s.link joins.
 -- in the midst of a command, and behind it
 pub midst_cuts : MidstCuts
 midst_cuts s joins c es h = let k = changed_world s c h.world in happened (begun s joins c) es (record { targets = k.targets; ends = k.ends })
+
+pub replies_short : RepliesShort
+replies_short l payload n h = (reply_short l payload n h, left_short l payload n h)
 
 pub first_cuts : FirstCuts
 first_cuts = record { world = record { targets = tt; ends = tt }; link = tt }

@@ -1,6 +1,6 @@
 -- What holds of all devices of a field and of all far ends above them stays true whatever happens, where no step of one breaks it.
-use Rattle.std.proofs.Common.{ℕ, List, [], ◌∷◌, ◌++◌, Bool, true, false, Option, Some, None}
-use Rattle.std.specs.Prelude.{map, IfSome}
+use Rattle.std.proofs.Common.{◌≡◌, ℕ, zero, suc, List, [], ◌∷◌, ◌++◌, Bool, true, false, Option, Some, None, subst}
+use Rattle.std.specs.Prelude.{get_or, map, IfSome}
 use Rattle.std.specs.List.{AllByRecursion}
 use Rattle.nfc_base.specs.declared.event.Event.{Event}
 use Rattle.nfc_base.specs.declared.event.Event.TheVariants.{Reset, Request, Answer, Clash}
@@ -42,7 +42,17 @@ pub all_more : {X : Type 0} (P : X → Type 0) (xs : List X) (y : X) → AllByRe
 all_more P [] y h k = (k, tt)
 all_more P (x ∷ xs) y h k = (h.0, all_more P xs y h.1 k)
 
+pub all_among : {X : Type 0} (P : X → Type 0) (before : List X) (x : X) (behind : List X) → AllByRecursion P (before ++ x ∷ behind) → P x
+all_among P [] x behind h = h.0
+all_among P (y ∷ before) x behind h = all_among P before x behind h.1
+
 module _ {F : Type 0} (Q : F → Type 0) where
+  -- the far end at a place
+  pub far_so : (os : List (Option F)) (place : ℕ) (a : F) → AllByRecursion (Above Q) os → get_or os place None ≡ Some a → Q a
+  far_so [] place a h e = absurd cc
+  far_so (o ∷ os) zero a h e = subst (Above Q) e h.0
+  far_so (o ∷ os) (suc place) a h e = far_so os place a h.1 e
+
   pub first_so : (os : List (Option F)) → AllByRecursion (Above Q) os → Above Q (first_far os)
   first_so [] h = tt
   first_so (o ∷ os) h = h.0
@@ -77,8 +87,10 @@ module _ {L F : Type 0} (m : Machine L) (linked : L → Bool) (t : FarTable F) (
       let o : Option F = first_far os in
       let r : Option (List ℕ) = reply_at m linked t l f o ns in
       let one : Above Q o = first_so Q os i in
-      let more = meet_so f ls (later_fars os) (numbers_left r ns) h.1 (later_so Q os i) in
-      ((stepped_so l f r h.0, more.0), (by_link_so (linked (device_after m linked t l f o ns)) (moved t (hands_over m l f) o (first_number ns)) (moved_so (hands_over m l f) o (first_number ns) one), more.1))
+      let more = meet_so f ls (later_fars os) (numbers_left r ns) h.1 (later_so Q os i) in (
+        (stepped_so l f r h.0, more.0),
+        (by_link_so (linked (device_after m linked t l f o ns)) (moved t (hands_over m l f) o (first_number ns)) (moved_so (hands_over m l f) o (first_number ns) one), more.1),
+      )
 
   dark_so : (w : FarWorld L F) → AllSo P Q w → AllSo P Q (far_dark m linked t w)
   dark_so w h = record { listeners = all_mapped P m.darkened k.darkened w.field.listeners h.listeners; fars = all_mapped (Above Q) (rests t) rests_so w.fars h.fars }

@@ -44,5 +44,6 @@ pub mod Stories
 pub mod ByPayloads
 pub mod LinkLaw
 pub mod Gains
+pub mod Alike
 pub mod Showing
 pub mod ShownForged

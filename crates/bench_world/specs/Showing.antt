@@ -1,5 +1,5 @@
--- Numbers of PDUs that events show are as good as the true ones, for one step of a bench, whatever stands behind these events: ends may join
--- PDUs as they like (NFC Forum LLCP 1.3); that numbers are read off a trace is this project's own.
+-- Numbers of PDUs that events show are as good as the true ones, for one step of a bench, whatever stands behind these
+-- events: ends may join PDUs as they like (NFC Forum LLCP 1.3); that numbers are read off a trace is this project's own.
 use Rattle.std.specs.Prelude.{◌≡◌, ℕ, ◌≤◌, List, [], ◌∷◌, ◌++◌, length, Option, Some, None}
 use Rattle.nfc_base.specs.Choosing.{first_number}
 use Rattle.nfc_base.specs.Signal.{Signal}
@@ -8,12 +8,7 @@ use Rattle.nfc_base.specs.Trace as backs
 use Rattle.nfc_base.specs.declared.event.Event.{Event}
 use Rattle.nfc_base.specs.declared.event.Event.TheVariants.{Request}
 use Rattle.nfc_base.specs.declared.event.Fate.{Fate}
-use Rattle.nfc_base.specs.declared.event.Fate.TheVariants.{Pass, Damage, Lose, Break}
-use Rattle.air_core.specs.Conversation.{replay}
 use Rattle.dep_link.specs.Sizes.{limit}
-use Rattle.far_air.specs.FarEnds.{first_far, later_fars, numbers_left}
-use Rattle.far_air.specs.FarWorld.{reply_at}
-use Rattle.peer_air.specs.PeerFars.{peer_ends}
 use Rattle.snep_core.specs.Talk.{payload}
 use Rattle.link_calls.specs.Asking.{LinkAsking, Does, Closes}
 use Rattle.link_calls.specs.CallDue.{CallStanding, Carries, Comes, BrokenBy, Strays}
@@ -21,33 +16,36 @@ use Rattle.link_calls.specs.ClosingDue.{ClosingStanding, Calls, Releasing, Relea
 use Rattle.link_numbers.specs.Shown.{far_shown, own_shown}
 use Rattle.bench_script.specs.declared.command.Command.{Command}
 use Rattle.bench_script.specs.declared.command.Command.TheVariants.{Forge, Raw}
-use Rattle.bench_devices.specs.declared.device.Device.{Device}
-use Rattle.bench_devices.specs.Device.{device_linked, devices}
+use Rattle.bench_devices.specs.AnyFrame.{peers_in}
 use Rattle.bench_world.specs.declared.entry.Entry.{Entry}
 use Rattle.bench_world.specs.Asked.{asked_on_link}
 use Rattle.bench_world.specs.Calls.{stands_closing, stands_on}
-use Rattle.bench_world.specs.Legal.{Given, Joins, LegalStep, State, begun, joins_for}
+use Rattle.bench_world.specs.Legal.{Given, Joins, LegalStep, State, joins_for}
 use Rattle.bench_world.specs.Links.{OpenLink}
 use Rattle.bench_world.specs.Obeying.{IsSettled, Machines, state_at}
-use Rattle.bench_world.specs.World.{FarEnd, WholeWorld, bench_air}
+use Rattle.bench_world.specs.ShownForged.{forged_shown}
+use Rattle.bench_world.specs.Alike.{Alike, IsToldSame}
 use Rattle.bench_world.specs.Cutting.{CutsWell}
 
--- The PNI from which the payloads of a command are counted: that of the open link's initiator, and 0 on a link of its own.
+-- The PNI from which the payloads of a command are counted: that of the open link's initiator, and 0 on a link that a
+-- command opens for itself.
 abbrev pub first_pni : Option OpenLink → ℕ
 first_pni None = 0
 first_pni (Some l) = l.initiator.core.number
-
-abbrev pub counted_from : Option LinkAsking → Option OpenLink → ℕ
-counted_from None link = 0
-counted_from (Some asked) link = first_pni link
 
 -- the numbers that these events show, at this PNI
 abbrev pub joins_shown : ℕ → List Event → Joins
 joins_shown first es = record { own = own_shown first es; far = far_shown first es }
 
--- ... in a command that such a state is before
+-- ... in a command that begins in such a state; of payloads that are written by hand they are counted on the link that
+-- the command opens for itself
+abbrev pub shown_by : Option LinkAsking → State → Command → List Event → Joins
+shown_by (Some asked) s c es = joins_shown (first_pni s.link) es
+shown_by None s (Forge id payloads) es = forged_shown es
+shown_by None s c es = joins_for c (joins_shown 0 es)
+
 abbrev pub shown_of : State → Command → List Event → Joins
-shown_of s c es = joins_for c (joins_shown (counted_from (asked_on_link c) s.link) es)
+shown_of s c es = shown_by (asked_on_link c) s c es
 
 -- A bench may be in such a state between two commands.
 pub record IsBetween (s : State) : Type 0 where
@@ -56,20 +54,20 @@ pub record IsBetween (s : State) : Type 0 where
   pub is : s ≡ state_at machines
   pub cuts : CutsWell s
 
--- Of two lists of events the first has these first and then those, and so has the second, which begins with the same. Where the first is over
--- the second is. Where the second is over the first is too, unless these end in the midst of a turn, whose answer is the next event.
+-- Of two lists of events the first has these first and then the rest, and the second begins with the same. Where the
+-- first is over with these the second is. Where the second is over with them so is the first, unless they end in the
+-- midst of a turn, whose answer is the next event.
 pub record BeginsSame (es rest fs : List Event) : Type 0 where
   pub other : List Event
   pub begins : fs ≡ es ++ other
   pub ends : rest ≡ [] → other ≡ []
   pub ended : other ≡ [] → back_of rest ≡ backs.Nothing → rest ≡ []
 
--- Numbers of PDUs have no part in a command but one that is asked on the open link, or in which payloads or frames are written by hand: of these
--- two nothing is said here.
-abbrev pub IsSwapped : Command → Type 0
-IsSwapped (Forge id payloads) = ⊥
-IsSwapped (Raw id frames) = ⊥
-IsSwapped c = Unit {0}
+-- Numbers of PDUs have no part in a command but one that is asked on the open link, or in which payloads or frames are
+-- written by hand: where it is frames something is said only where no peer is placed.
+abbrev pub IsSwapped : State → Command → Type 0
+IsSwapped s (Raw id frames) = peers_in s.world.field.listeners ≡ 0
+IsSwapped s c = Unit {0}
 
 -- what a call carries, and a closing, is no longer than a payload may be
 abbrev pub CarriesShort : CallStanding → Type 0
@@ -89,31 +87,38 @@ AskedShort Closes l own before = ClosesShort (stands_closing l own before)
 
 -- so it is before each request
 abbrev pub OwnShort : LinkAsking → OpenLink → List ℕ → List Event → Type 0
-OwnShort asked l own es = (before : List Event) (f : Signal) (x : Fate) (rest : List Event) → es ≡ before ++ Request f x ∷ rest → AskedShort asked l own before
+OwnShort asked l own es =
+    (before : List Event) (f : Signal) (x : Fate) (rest : List Event)
+    → es ≡ before ++ Request f x ∷ rest → AskedShort asked l own before
 
--- and so is what far ends reply at a frame that passes
-abbrev pub RepliesShortAt : Signal → List Device → List (Option FarEnd) → List ℕ → Type 0
-RepliesShortAt f [] os ns = Unit {0}
-RepliesShortAt f (d ∷ ds) os ns =
-    ((r : List ℕ) → reply_at devices device_linked peer_ends d f (first_far os) ns ≡ Some r → length r ≤ limit)
-    × RepliesShortAt f ds (later_fars os) (numbers_left (reply_at devices device_linked peer_ends d f (first_far os) ns) ns)
+-- In a step on the open link this end has no payload that is longer than one may be.
+abbrev pub PayloadsShort : State → Given → Command → List Event → Type 0
+PayloadsShort s g c es =
+    (l : OpenLink) (asked : LinkAsking) → s.link ≡ Some l → asked_on_link c ≡ Some asked → OwnShort asked l g.joins.own es
 
-abbrev pub ReplyShort : Fate → Signal → WholeWorld → Type 0
-ReplyShort Pass f w = RepliesShortAt f w.field.listeners w.fars w.numbers
-ReplyShort Damage f w = Unit {0}
-ReplyShort Lose f w = Unit {0}
-ReplyShort Break f w = Unit {0}
-
-abbrev pub FarShort : WholeWorld → List Event → Type 0
-FarShort w es = (before : List Event) (f : Signal) (x : Fate) (rest : List Event) → es ≡ before ++ Request f x ∷ rest → ReplyShort x f (replay bench_air w before)
-
--- In a step of a command payloads are no longer than they may be, of this end and of far ends.
-pub record PayloadsShort (s : State) (g : Given) (c : Command) (es : List Event) : Type 0 where
-  pub own : (l : OpenLink) (asked : LinkAsking) → s.link ≡ Some l → asked_on_link c ≡ Some asked → OwnShort asked l g.joins.own es
-  pub far : FarShort (begun s g.joins c) es
-
--- Where a step of a command begins with these events, one by the numbers that they show, whatever stands behind them, begins with them too.
+-- Where a step of a command begins with these events, one by the numbers that they show, whatever stands behind them,
+-- begins with them too.
 abbrev pub NumbersShow : Type 0
 NumbersShow =
-    (s t u : State) (g h : Given) (e f : Entry) (es rest more : List Event) → IsBetween s → IsSwapped e.command → LegalStep s g e t → PayloadsShort s g e.command e.events → e.events ≡ es ++ rest
-    → LegalStep s h f u → f.command ≡ e.command → h.joins ≡ shown_of s e.command (es ++ more) → BeginsSame es rest f.events
+    (s t u : State) (g h : Given) (e f : Entry) (es rest more : List Event)
+    → IsBetween s → IsSwapped s e.command
+    → LegalStep s g e t → PayloadsShort s g e.command e.events → e.events ≡ es ++ rest
+    → LegalStep s h f u → f.command ≡ e.command → h.joins ≡ shown_of s e.command (es ++ more)
+    → BeginsSame es rest f.events
+
+-- What happened in a step is told the same by whatever numbers it is said for, ...
+abbrev pub EventsTell : Type 0
+EventsTell =
+    (s t u : State) (g h : Given) (e f : Entry)
+    → IsBetween s → LegalStep s g e t → LegalStep s h f u
+    → f.command ≡ e.command → f.events ≡ e.events
+    → IsToldSame s e.command g.joins h.joins e.events
+
+-- ... and an entry leaves states alike.
+abbrev pub EntriesLeaveAlike : Type 0
+EntriesLeaveAlike =
+    (s t u : State) (g h : Given) (e : Entry)
+    → IsBetween s → IsSwapped s e.command
+    → LegalStep s g e t → PayloadsShort s g e.command e.events
+    → LegalStep s h e u → PayloadsShort s h e.command e.events
+    → Alike t u

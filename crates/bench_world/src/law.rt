@@ -1,18 +1,20 @@
 //! That a command answers what it is asked for where noise doesn't keep it from that. The calls do nothing: they stand
 //! for these laws.
 
+ghost use Rattle.bench_world.specs.Alike.{AlikeAccept, AlikeAnswers, AlikeFronts, AlikeSteps};
 ghost use Rattle.bench_world.specs.Behind.{WrittenIsRead, OneOfThreeIsRead, BrokenIsRead, FirstBrokenIsRead};
 ghost use Rattle.bench_world.specs.Completing.{ReadsComplete, WritesComplete, ShownIsWritten, ValidIsWritten, FindsComplete, TagsComplete, ThreesComplete};
 ghost use Rattle.bench_world.specs.CompletingLinks.{AskedComplete, PutsComplete, SeveralComplete, GetsComplete, LookupsComplete, UnlinksComplete, ValidIsOk, LinkingsComplete, KindsTold};
 ghost use Rattle.bench_world.specs.CompletingForging.{ForgedKindsTold, ForgingsComplete, QuietForgings};
 ghost use Rattle.bench_world.specs.CompletingRaws.{QuietRaws, RawsComplete};
 ghost use Rattle.bench_world.specs.CompletingThrees.{ThreesRead, ThreesWrite, ThreesWritten, QuietThreesRead, QuietThreesWrite, QuietThreesWritten, Written3IsRead, Written3IsWhole, OneOfTwo3IsRead, Undisturbed3IsRead, Quiet3IsRead};
-ghost use Rattle.bench_world.specs.Cutting.{FirstCuts, FrontsCut, MidstCuts};
+ghost use Rattle.bench_world.specs.Cutting.{FirstCuts, FrontsCut, MidstCuts, RepliesShort};
 ghost use Rattle.bench_world.specs.LinkLaw.{CutArrivalLaw, CutLinkLaw, LinkLaw};
 ghost use Rattle.bench_world.specs.Quiet.{QuietStays, QuietReads, QuietWrites, QuietIsWritten, QuietFinds, QuietTags, QuietThrees};
 ghost use Rattle.bench_world.specs.QuietHearing.{QuietHears, QuietScript};
 ghost use Rattle.bench_world.specs.QuietLinks.{QuietTalks, QuietLinkings};
 ghost use Rattle.bench_world.specs.ReadBack.{LinesTellEvents, AnswersApart};
+ghost use Rattle.bench_world.specs.Showing.{EntriesLeaveAlike, EventsTell, NumbersShow};
 ghost use Rattle.bench_world.specs.Taking.{LinesDecide};
 
 /// A legal read of a placed tag, without a Break, without a wait of six bad receptions and with one round (of a Type 5
@@ -82,6 +84,18 @@ pub fn lines_decide()
     ensures { LinesDecide }
 {}
 
+/// What doesn't show decides nothing later. Two states are alike where the same link is open, the field is as lit, the same
+/// fates are left, the peers and their links are the same, and so is all that the dark leaves of devices and far ends; and,
+/// where a link is open, all else too. Alike states accept the same commands, and a command that was cut off, or a legal
+/// step, of one is one of the other and leaves both alike. And what happened in a step of either decides its answer, as long
+/// as what was asked on the open link is told the same by the numbers of PDUs.
+pub fn alike_states()
+    ensures accept { AlikeAccept }
+    ensures fronts { AlikeFronts }
+    ensures steps { AlikeSteps }
+    ensures answers { AlikeAnswers }
+{}
+
 /// A stored report can be read back: two events of one technology have one line only where they are equal, and no
 /// answer's line is an event's.
 pub fn lines_tell_events()
@@ -127,10 +141,21 @@ pub fn links_accept()
     ensures stopped { CutArrivalLaw }
 {}
 
-/// Both ends of each link cut payloads into pieces of two bytes or more, and neither has one of more than 2,178 bytes for the
-/// other: so it is of a new bench, through each command, and in the midst of one, whatever happens in it.
+/// Both ends of each link cut payloads into pieces of two bytes or more, and no reply of a peer is longer than 2,178
+/// bytes: so it is of a new bench, through each command, and in the midst of one, whatever happens in it.
 pub fn pieces_stay()
     ensures first { FirstCuts }
     ensures fronts { FrontsCut }
     ensures midst { MidstCuts }
+    ensures replies { RepliesShort }
+{}
+
+/// Numbers of PDUs that events show are as good as the true ones, whatever stands behind these events: where a legal
+/// step begins with them, one by the numbers that they show does too, and is over where it is. And what happened in a step
+/// decides what is told of it and what stays, by whatever numbers it could be had. Of frames that are written by hand this
+/// is said only where no peer is placed.
+pub fn numbers_show()
+    ensures steps { NumbersShow }
+    ensures told { EventsTell }
+    ensures alike { EntriesLeaveAlike }
 {}

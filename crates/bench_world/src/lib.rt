@@ -40,8 +40,8 @@ pub use entry::{Answer, Entry, Loss, RawHeard, Received, Seen, SlotDone};
 pub use event_lines::{event_line, push_event_line};
 pub use inbox::{LinkRange, inbox_of};
 pub use law::{
-    finds_complete, lines_decide, lines_tell_events, links_accept, links_complete, pieces_stay,
-    quiet_air, reads_behind, reads_complete, writes_complete,
+    alike_states, finds_complete, lines_decide, lines_tell_events, links_accept, links_complete,
+    numbers_show, pieces_stay, quiet_air, reads_behind, reads_complete, writes_complete,
 };
 pub use pieces::{AnswerPieces, answer_pieces};
 pub use report::render;

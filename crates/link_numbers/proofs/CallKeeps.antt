@@ -1,6 +1,6 @@
 -- What is said of a client's end beside its own connections stays true while a call prepares its payload and takes its reply.
-use Rattle.std.proofs.Common.{◌≡◌, ◌≤◌, nat_lt, ℕ, zero, suc, false, List, [], ◌∷◌, length, take, drop, Option, Some, None, refl, sym, ap, subst, ◌∙◌}
-use Rattle.llcp_link.specs.Asking.{standing_of, submitted_by}
+use Rattle.std.proofs.Common.{◌≡◌, ◌≤◌, nat_lt, ℕ, zero, suc, Bool, true, false, List, [], ◌∷◌, length, take, drop, Option, Some, None, refl, sym, ap, subst, ◌∙◌}
+use Rattle.llcp_link.specs.Asking.{disconnected_by, forgotten, is_busy_by, is_open_by, standing_of, submitted_by}
 use Rattle.llcp_link.specs.State.{OwnState, own_from}
 use Rattle.llcp_link.specs.Giving.{after_giving}
 use Rattle.llcp_link.specs.Taking.{taken_from}
@@ -9,9 +9,9 @@ use Rattle.snep_core.specs.declared.job.Job.{Job}
 use Rattle.snep_core.specs.declared.job.Job.TheVariants.{Begins, Waits, Sends, Asks, Collects, Looks, Closes, Over}
 use Rattle.snep_core.specs.declared.job.OnSap.{OnSap}
 use Rattle.snep_core.specs.Talk as talk
-use Rattle.snep_core.specs.Talk.{AllReady, CameTo, EndState, Ends, GivesUp, Goes, Ready, Step, Working, all_emptied, all_heard, all_over, all_readied, all_well, continue_bytes, emptied, gave_any, idle_after, miu_of, most_idle, payload, ready, readied, replied, sends_some, silent, submits, takes_more, took}
-use Rattle.link_numbers.proofs.EndTakes.{after_has, taken_has, unread_after, unread_given, unread_takes}
+use Rattle.snep_core.specs.Talk.{CameTo, EndState, Ends, Finds, Gets, GivesUp, Goes, Leaves, Puts, Ready, Step, Task, TaskOn, Working, all_emptied, all_forgotten, all_heard, all_opening, all_over, all_readied, all_well, begins_all, continue_bytes, emptied, gave_any, idle_after, miu_of, most_idle, payload, readied, ready, replied, sends_some, silent, submits, takes_more, took}
 use Rattle.link_numbers.specs.OwnShows.{AtEnd, IsWithin}
+use Rattle.link_numbers.proofs.EndTakes.{after_has, taken_has, unread_after, unread_given, unread_takes}
 
 module _ (P : EndState → Type 0) (own : (l : EndState) (os : List OwnState) → P l → P (record l { own = os })) where
   submitted_keeps : (l : EndState) (unit : List ℕ) (o : Option OwnState) → P l → P (submitted_by l unit o)
@@ -65,14 +65,18 @@ module _ (P : EndState → Type 0) (own : (l : EndState) (os : List OwnState) �
   all_emptied_keeps [] l h = h
   all_emptied_keeps (x ∷ xs) l h = all_emptied_keeps xs (emptied l x.sap) (emptied_keeps l (own_from x.sap l.own) h)
 
+  all_forgotten_keeps : (xs : List OnSap) (l : EndState) → P l → P (all_forgotten xs l)
+  all_forgotten_keeps [] l h = h
+  all_forgotten_keeps (x ∷ xs) l h = all_forgotten_keeps xs (forgotten l x.sap) (own l _ h)
+
   goes_keeps : (l : EndState) (jobs : List OnSap) (idle : ℕ) → P l → AtEnd P (talk.goes_on l jobs idle)
-  goes_keeps l jobs idle h = either {X = Step} (AtEnd P) (nat_lt idle most_idle) _ _ (λ e. h) (λ e. tt)
+  goes_keeps l jobs idle h = either {X = Step} (AtEnd P) (nat_lt idle most_idle) _ _ (λ e. h) (λ e. all_forgotten_keeps jobs l h)
 
   settled_keeps : (l : EndState) (jobs : List OnSap) (idle : ℕ) → P l → AtEnd P (talk.settled l jobs idle)
-  settled_keeps l jobs idle h = either {X = Step} (AtEnd P) (all_over jobs) _ _ (λ e. tt) (λ e. goes_keeps l jobs idle h)
+  settled_keeps l jobs idle h = either {X = Step} (AtEnd P) (all_over jobs) _ _ (λ e. h) (λ e. goes_keeps l jobs idle h)
 
   told_keeps : (l : EndState) (jobs : List OnSap) (came : List CameTo) (idle : ℕ) (o : Option (List OnSap)) → P l → AtEnd P (talk.told_by l jobs came idle o)
-  told_keeps l jobs came idle None h = tt
+  told_keeps l jobs came idle None h = all_forgotten_keeps jobs l h
   told_keeps l jobs came idle (Some now) h = settled_keeps (all_emptied jobs l) now idle (all_emptied_keeps jobs l h)
 
   took_keeps : (old l : EndState) (jobs : List OnSap) (idle : ℕ) → P l → AtEnd P (took old l jobs idle)
@@ -86,6 +90,33 @@ reply_within n w reply h =
     let l : EndState = after_giving silent n (ready w).llc in
     let same : (taken_from silent l reply).far_miu ≡ (ready w).llc.far_miu = taken_has silent (ready w).llc.far_miu l reply (after_has silent (ready w).llc.far_miu n (ready w).llc refl) in
     took_keeps IsWithin (λ l os k. k) l (taken_from silent l reply) (ready w).jobs (ready w).idle (subst (λ miu. miu ≤ 2176) (sym same) (ready_within w h))
+
+-- so it is of a call that begins
+connected_within : (l : EndState) (sap : ℕ) → IsWithin l → IsWithin (talk.connected l sap)
+connected_within l sap h = either {X = EndState} IsWithin (is_busy_by (own_from sap l.own)) l _ (λ e. h) (λ e. h)
+
+left_within : (l : EndState) (o : Option OwnState) → IsWithin l → IsWithin (disconnected_by l o)
+left_within l None h = h
+left_within l (Some o) h = h
+
+leaving_within : (l : EndState) (sap : ℕ) (t : Bool) → IsWithin l → IsWithin (talk.leaving l sap t).llc
+leaving_within l sap true h = left_within l (own_from sap l.own) h
+leaving_within l sap false h = h
+
+opening_within : (l : EndState) (sap : ℕ) (task : Task) → IsWithin l → IsWithin (talk.opening l sap task).llc
+opening_within l sap (Puts message) h = connected_within l sap h
+opening_within l sap (Gets most key) h = connected_within l sap h
+opening_within l sap (Finds name) h = h
+opening_within l sap Leaves h = leaving_within l sap (is_open_by (own_from sap l.own)) h
+
+all_opening_within : (xs : List TaskOn) (l : EndState) → IsWithin l → IsWithin (all_opening xs l).llc
+all_opening_within [] l h = h
+all_opening_within (x ∷ xs) l h = all_opening_within xs (talk.opening l x.sap x.task).llc (opening_within l x.sap x.task h)
+
+pub begins_within : (l : EndState) (tasks : List TaskOn) → IsWithin l → AtEnd IsWithin (begins_all l tasks)
+begins_within l tasks h =
+    let k : IsWithin (all_opening tasks l).llc = all_opening_within tasks l h in
+    either {X = Step} (AtEnd IsWithin) (all_over (all_opening tasks l).jobs) _ _ (λ e. k) (λ e. k)
 
 -- an end that couldn't read general bytes: it gives nothing, and stays so, by whatever numbers
 abbrev pub Unread : EndState → Type 0

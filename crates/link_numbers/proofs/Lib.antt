@@ -13,6 +13,7 @@ pub mod CallTurns
 pub mod Own
 pub mod OwnAlike
 pub mod OwnShown
+pub mod Resting
 pub mod Spoken
 pub mod Moving
 pub mod Paired

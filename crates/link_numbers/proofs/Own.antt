@@ -120,7 +120,8 @@ module _ (tail : List Signal) where
   OfStart ts = (from : Step) (ns ks : List ℕ) (i : InitState) → Rested i.core → AtEnd IsWithin from → ks ≡ numbers (cuts (at i.core.number []) (ahead ts))
       → CallAlong (walk_at by_client (next_of ns from) i) ts → Alike ts (walk_at by_client (next_of ns from) i) (walk_at by_client (next_of ks from) i)
 
-  module _ (ts : List Turn) (same : OfSame ts) (start : OfStart ts) (w : Working) (ns ks : List ℕ) (i : InitState) (fit : Fit i.core) (tells : Tells ns ks w) (within : IsWithin w.llc) (n : Note) where
+  module _ (ts : List Turn) (same : OfSame ts) (start : OfStart ts) (w : Working) (ns ks : List ℕ) (i : InitState) (fit : Fit i.core)
+      (tells : Tells ns ks w) (within : IsWithin w.llc) (n : Note) where
     abbrev Heard : Standing → Type 0
     Heard s = CallAlong (walk_carried by_client (w, ns) s) ts → Alike ts (walk_carried by_client (w, ns) s) (walk_carried by_client (w, ks) s)
 
@@ -191,7 +192,8 @@ module _ (tail : List Signal) where
 
   -- a payload begins
   module _ (ts : List Turn) (same : OfSame ts) (w : Working) (ns ks : List ℕ) (i : InitState) (rested : Rested i.core) (within : IsWithin w.llc)
-      (shows : ks ≡ numbers (cuts (at i.core.number []) (ahead ts))) (along : CallAlong (Carries (w, ns) (asks i (payload (first_number ns) w))) ts) (readable : (ready w).llc.readable ≡ true) where
+      (shows : ks ≡ numbers (cuts (at i.core.number []) (ahead ts))) (along : CallAlong (Carries (w, ns) (asks i (payload (first_number ns) w))) ts)
+      (readable : (ready w).llc.readable ≡ true) where
     abbrev out : List ℕ
     out = payload (first_number ns) w
 
@@ -233,7 +235,8 @@ module _ (tail : List Signal) where
     -- some of it did
     begins_cut : (xs : List ℕ) → so_far.payloads ≡ [] → so_far.chain ≡ xs → IsFrontOf xs out → 2 ≤ length xs → Begins
     begins_cut xs none chain front two =
-        let is : so_far ≡ at so_far.next xs = ap (λ qs. record { next = so_far.next; chain = so_far.chain; payloads = qs }) none ∙ ap (λ ys. record { next = so_far.next; chain = ys; payloads = [] }) chain in
+        let is : so_far ≡ at so_far.next xs =
+        ap (λ qs. record { next = so_far.next; chain = so_far.chain; payloads = qs }) none ∙ ap (λ ys. record { next = so_far.next; chain = ys; payloads = [] }) chain in
         let shown : IsFrontOf xs other =
         subst (λ ms. IsFrontOf xs (given silent (first_number ms) (ready w).llc)) (sym (then_shows ∙ ap (λ c. numbers (cuts c tail)) is))
         (front_shown (ready w).llc (first_number ns) so_far.next xs tail readable two front) in

@@ -29,18 +29,21 @@ module _ {C : Type 0} (moves : C → Note → C) (due : C → Next) where
   past c ns = on moves due c ns
 
   module _ (dark : (c : C) → due c ≡ LightUp → ⊥) (c d : C) (turned more : List Event)
-      (law : (ts : List Turn) (tail : List Signal) → asked_in ts ++ tail ≡ requests_of (turned ++ more) → Along moves due c ts → Along moves due d ts × EndAlike (past c (heard_in ts)) (past d (heard_in ts))) where
+      (law : (ts : List Turn) (tail : List Signal) → asked_in ts ++ tail ≡ requests_of (turned ++ more) → Along moves due c ts
+      → Along moves due d ts × EndAlike (past c (heard_in ts)) (past d (heard_in ts))) where
     abbrev ts : List Turn
     ts = turns_of turned
 
     all_asked : asked_in ts ++ requests_of more ≡ requests_of (turned ++ more)
     all_asked = ap (λ fs. fs ++ requests_of more) (sym (asked_of turned)) ∙ sym (requests_then turned more)
 
-    asks_next : Along moves due c ts → (f : Signal) (x : Fate) (tail : List Event) → more ≡ Request f x ∷ tail → due (past c (heard_in ts)) ≡ Asks f → due (past d (heard_in ts)) ≡ Asks f
+    asks_next : Along moves due c ts → (f : Signal) (x : Fate) (tail : List Event)
+        → more ≡ Request f x ∷ tail → due (past c (heard_in ts)) ≡ Asks f → due (past d (heard_in ts)) ≡ Asks f
     asks_next along f x tail is e =
         let t : Turn = record { request = f; heard = note (heard_by x backs.Nothing) } in
         let all : asked_in (ts ++ t ∷ []) ++ requests_of tail ≡ requests_of (turned ++ more) =
-        ap (λ fs. fs ++ requests_of tail) (asked_more ts (t ∷ [])) ∙ append_assoc (asked_in ts) (f ∷ []) (requests_of tail) ∙ ap (λ es. asked_in ts ++ requests_of es) (sym is) ∙ all_asked in
+        ap (λ fs. fs ++ requests_of tail) (asked_more ts (t ∷ [])) ∙ append_assoc (asked_in ts) (f ∷ []) (requests_of tail)
+        ∙ ap (λ es. asked_in ts ++ requests_of es) (sym is) ∙ all_asked in
         along_last moves due d ts t (law (ts ++ t ∷ []) (requests_of tail) all (along_more moves due c ts t along e)).0
 
     over_both : (a b : C) → EndAlike a b → due a ≡ Over → due b ≡ Over

@@ -223,7 +223,8 @@ may_times c times e = go c.drawing (more_follows c) (nat_lt 0 times) (nat_lt lon
 
 -- What is heard where no piece follows: it waits for the reply again, or asks for the next piece of it; the reply came; or the exchange ends.
 pub data Behind (i : InitState) (s : Standing) : Type 0 where
-  waits : (j : InitState) → s ≡ Waits j (frame_due j) → j.core.number ≡ i.core.number → j.core.most ≡ i.core.most → more_follows j.core ≡ false → InTimes j.core.extension → Behind i s
+  waits : (j : InitState) → s ≡ Waits j (frame_due j) → j.core.number ≡ i.core.number → j.core.most ≡ i.core.most
+      → more_follows j.core ≡ false → InTimes j.core.extension → Behind i s
   draws : (j : InitState) (xs : List ℕ) → s ≡ Waits j (frame_due j) → j.core ≡ turned i.core [] true xs → j.phase ≡ Asked → Behind i s
   rests : (j : InitState) (reply : List ℕ) → s ≡ Rests j reply → j.core ≡ turned i.core [] false [] → Behind i s
   fails : (cause : EndCause) → s ≡ Broken cause → Behind i s

@@ -53,14 +53,15 @@ closing_dark (Calls c) e = call_dark c e
 closing_dark (Releasing to) e = cc
 closing_dark (Released to) e = cc
 
-abbrev CallGoes : (List Note → CallStanding) → (List Note → CallStanding) → List Event → List Event → Type 0
+abbrev pub CallGoes : (List Note → CallStanding) → (List Note → CallStanding) → List Event → List Event → Type 0
 CallGoes first second turned more = GoesAlike walk_due_at first second turned more
 
-abbrev ClosingGoes : (List Note → ClosingStanding) → (List Note → ClosingStanding) → List Event → List Event → Type 0
+abbrev pub ClosingGoes : (List Note → ClosingStanding) → (List Note → ClosingStanding) → List Event → List Event → Type 0
 ClosingGoes first second turned more = GoesAlike closing_due_at first second turned more
 
 -- what stands pointwise the same goes alike
-module _ {C : Type 0} (moves : C → Note → C) (due : C → Next) (first second third fourth : List Note → C) (one : (ns : List Note) → third ns ≡ first ns) (two : (ns : List Note) → fourth ns ≡ second ns) where
+module _ {C : Type 0} (moves : C → Note → C) (due : C → Next) (first second third fourth : List Note → C)
+    (one : (ns : List Note) → third ns ≡ first ns) (two : (ns : List Note) → fourth ns ≡ second ns) where
   each_same : (es : List Event) → EachDue (λ ns. due (third ns)) [] es → EachDue (λ ns. due (first ns)) [] es
   each_same es each = due_weaker (λ ns. due (first ns)) (λ ns. due (third ns)) (λ ns n e demand. ap due (sym (one ns)) ∙ e) [] es each
 
@@ -112,7 +113,8 @@ closing_joined [] later d call rest = (rest, refl)
 closing_joined (t ∷ calls) later d call rest =
     let more = closing_joined calls later (walk_noted by_client d t.heard) call.1 rest in
     let is : closing_at d ≡ Calls d = closing_going d t.request call.0 in
-    subst (λ (q : ClosingStanding). ClosingAlong q (t ∷ calls ++ later) × (closing_past q (heard_in (t ∷ calls ++ later)) ≡ closing_past (closing_at (call_past d (heard_in (t ∷ calls)))) (heard_in later)))
+    subst (λ (q : ClosingStanding). ClosingAlong q (t ∷ calls ++ later)
+    × (closing_past q (heard_in (t ∷ calls ++ later)) ≡ closing_past (closing_at (call_past d (heard_in (t ∷ calls)))) (heard_in later)))
     (sym is) ((call.0, more.0), more.1)
 
 abbrev ClosingEnd : ClosingStanding → ClosingStanding → Type 0
@@ -130,7 +132,7 @@ later_alike c d later (ends.both_go f g e k) (inl none) rest =
     (tt, both_go f g (ap closing_due_at (closing_going c f e) ∙ e) (ap closing_due_at (closing_going d g k) ∙ k))
 
 module _ (ns : List ℕ) (from : Step) (i : InitState) (rested : Rested i.core) (within : AtEnd IsWithin from) (turned more : List Event) where
-  abbrev shown : List ℕ
+  abbrev pub shown : List ℕ
   shown = own_shown i.core.number (turned ++ more)
 
   abbrev true_call : CallStanding

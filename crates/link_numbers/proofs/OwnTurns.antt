@@ -77,7 +77,8 @@ module _ {C : Type 0} (moves : C → Note → C) (due : C → Next) where
   here next before at by = ap (λ es. next (receptions es)) (sym (append-nil before)) ∙ by []
 
   past : (next : List Note → Next) (before : List Event) (e : Event) (at later : Back → C)
-      → ((es : List Event) → on (at (back_of (e ∷ es))) (receptions (e ∷ es)) ≡ on (later (back_of es)) (receptions es)) → IsDueBy next before at → IsDueBy next (before ++ e ∷ []) later
+      → ((es : List Event) → on (at (back_of (e ∷ es))) (receptions (e ∷ es)) ≡ on (later (back_of es)) (receptions es)) → IsDueBy next before at
+      → IsDueBy next (before ++ e ∷ []) later
   past next before e at later same by es = ap (λ fs. next (receptions fs)) (append_assoc before (e ∷ []) es) ∙ by (e ∷ es) ∙ ap due (same es)
 
   module _ (dark : (c : C) → due c ≡ LightUp → ⊥) where

@@ -23,11 +23,11 @@ pub record Rested (c : Core) : Type 0 where
 abbrev pub IsWithin : EndState → Type 0
 IsWithin l = l.far_miu ≤ 2176
 
--- of a step something holds of the end that goes on in it, if one does
+-- something holds of the end of a step
 abbrev pub AtEnd : (EndState → Type 0) → Step → Type 0
 AtEnd P (Goes w) = P w.llc
-AtEnd P (Ends jobs l) = Unit {0}
-AtEnd P (GivesUp l) = Unit {0}
+AtEnd P (Ends jobs l) = P l
+AtEnd P (GivesUp g) = P g.llc
 
 -- What is due by where a first course stands is due by the second: of these events each request, and one that stands behind them. Both
 -- are over or neither is, and where they are they stand the same.

@@ -10,7 +10,7 @@ mod number;
 mod shown;
 mod side;
 
-pub use law::numbers_show;
+pub use law::calls_show;
 pub use shown::{Shown, numbers_shown};
 
 #[cfg(test)]

@@ -8,7 +8,7 @@ ghost use Rattle.t3t_access.specs.Answers.{numbers, Brings, RefusesCheck, Tells,
 ghost use Rattle.t3t_access.specs.Writing.{TellsDone, TellsUpdate, done_told};
 ghost use Rattle.t3t_access.specs.declared.fault.T3Fault.{T3Fault};
 
-use crate::fault::{T3Fault, of_link};
+use crate::fault::T3Fault;
 use arrayvec::ArrayVec;
 use nfc_base::{AskFault, Frame, TagLink};
 use std::alloc::Global;
@@ -109,7 +109,7 @@ pub fn check<T: TagLink>(
         blocks: numbers(first, count),
     };
     match ask(alloc, link, &command.to_frame()) {
-        Err(fault) => Err(of_link(fault)),
+        Err(fault) => Err(T3Fault::from(fault)),
         Ok(answer) => tell_check(id, count, &answer),
     }
 }
@@ -164,7 +164,7 @@ pub fn update<T: TagLink>(
 {
     let command = T3Command::Update { id, block, content };
     match ask(alloc, link, &command.to_frame()) {
-        Err(fault) => Err(of_link(fault)),
+        Err(fault) => Err(T3Fault::from(fault)),
         Ok(answer) => tell_update(id, &answer),
     }
 }

@@ -34,6 +34,19 @@ pub enum T3Fault {
     Unfinished,
 }
 
+impl From<AskFault> for T3Fault {
+    ghost from_gives = { λ fault f. f ≡ of_link fault };
+
+    fn from(fault: AskFault) -> T3Fault {
+        match fault {
+            AskFault::FieldLost => T3Fault::FieldLost,
+            AskFault::SixBad => T3Fault::SixBad,
+            AskFault::Memory => T3Fault::Memory,
+            AskFault::Protocol => T3Fault::Protocol,
+        }
+    }
+}
+
 impl T3Fault {
     /// Its number in reports and tests.
     pub fn number(&self) -> u8
@@ -52,16 +65,5 @@ impl T3Fault {
             T3Fault::Protocol => 15,
             T3Fault::Unfinished => 16,
         }
-    }
-}
-
-pub fn of_link(fault: AskFault) -> T3Fault
-    ensures { result ≡ of_link fault }
-{
-    match fault {
-        AskFault::FieldLost => T3Fault::FieldLost,
-        AskFault::SixBad => T3Fault::SixBad,
-        AskFault::Memory => T3Fault::Memory,
-        AskFault::Protocol => T3Fault::Protocol,
     }
 }

@@ -161,9 +161,12 @@ exactly_odd how a b result told is =
 over_same : (b : LinkView) (e f : AskFault) (result : Result Found ReadFault) → b.over ≡ Some e → b.over ≡ Some f → result ≡ Err (of_link f) → result ≡ Err (of_link e)
 over_same b e f result one two told = (let both : Some f ≡ Some e = sym two ∙ one in let same : f ≡ e = cc in told ∙ ap (λ g. Err (of_link g)) same)
 
+pub none_over : (how : How) (a b : LinkView) (f : form.Form) → IsNone how a b f → b.over ≡ None
+none_over how a b f (inl is) = is.over
+none_over how a b f (inr is) = is.stopped.over
+
 pub over_cut : (how : How) (a b : LinkView) (f : form.Form) (e : AskFault) (P : Type 0) → b.over ≡ Some e → IsNone how a b f → P
-over_cut how a b f e P over (inl is) = over_none b e P is.over over
-over_cut how a b f e P over (inr is) = over_none b e P is.stopped.over over
+over_cut how a b f e P over is = over_none b e P (none_over how a b f is) over
 
 pub exactly_over : (how : How) (a b : LinkView) (e : AskFault) (result : Result Found ReadFault) → IsToldBy how a b result → b.over ≡ Some e → result ≡ Err (of_link e)
 exactly_over how a b e (Ok found) told over = over_none b e _ told.over over

@@ -16,6 +16,7 @@ pub mod AreaSurveys
 pub mod Grounds
 pub mod Accesses
 pub mod Surveys
+pub mod Needing
 pub mod Lists
 pub mod SomeList
 pub mod Files
@@ -30,3 +31,4 @@ pub mod BlockEndings
 pub mod BlockSingles
 pub mod BlockSeldom
 pub mod BlockCounts
+pub mod Exits

@@ -27,13 +27,14 @@ use Rattle.tag_reader.specs.declared.known.Known.{Known}
 use Rattle.tag_reader.specs.Blocks.{ask_count}
 use Rattle.tag_reader.specs.Kinds.{area_of}
 use Rattle.tag_reader.specs.Survey.{block_size}
-use Rattle.tag_reader.specs.Heard.{IsBlocks, Brings, HasContainer, IsBroughtBy, IsNone, joined, first_size, ask_behind, next_command}
+use Rattle.tag_reader.specs.Heard.{IsBlocks, Brings, HasContainer, IsBroughtBy, IsFaultBy, IsNone, joined, first_size, ask_behind, next_command}
 use Rattle.tag_reader.specs.HeardSteps.{Under, Looks, Measured}
 use Rattle.tag_reader.specs.BlockSteps.{IsKnown, EndsBlocks, Names, LooksBlocks}
-use Rattle.tag_reader.specs.SurveyHeard.{surveyed_by, IsHeard, IsLeftBy, area_heard, known_heard, IsAreaHeard, IsSurveyedBy, IsGroundToldBy}
+use Rattle.tag_reader.specs.SurveyHeard.{surveyed_by, IsHeard, IsLeftBy, area_heard, known_heard, IsAreaHeard, IsSurveyedBy, IsUnsurveyedBy, IsGroundToldBy}
 use Rattle.tag_reader.specs.SurveySteps.{HearsAll, IsSettledOver, GroundIn}
 use Rattle.tag_reader.proofs.Knowing.{store_goes_on}
 use Rattle.tag_reader.proofs.Bringing.{went_of}
+use Rattle.tag_reader.proofs.Exact.{none_over}
 use Rattle.tag_reader.proofs.OneForm.{first_block}
 use Rattle.tag_reader.proofs.BlockEndings.{closed_here, names_store, some_known}
 use Rattle.tag_reader.proofs.Grounds.{whole_block}
@@ -65,7 +66,7 @@ looks_all a b known space n l =
     )
 
 -- blocks have all of an area
-area_named : (known : Known) (space : Space) → Names known space → (ps : List (List ℕ)) → IsKnown ps known → t5_area (first_size ps) (joined ps) ≡ Ok space
+pub area_named : (known : Known) (space : Space) → Names known space → (ps : List (List ℕ)) → IsKnown ps known → t5_area (first_size ps) (joined ps) ≡ Ok space
 area_named known space names ps is =
     ap (λ n. t5_area n (joined ps)) (sym is.size) ∙ ap (λ xs. t5_area known.size xs) (sym is.bytes ∙ sym (append-nil known.bytes.items)) ∙ names_store known space names []
 
@@ -231,6 +232,12 @@ module _ (how : How) (a b : LinkView) (size : ℕ) (known slice : List ℕ) (spa
   none_by (T5 id) f true heard area container is =
       inr (record { ps = h.ps; r = heard.0; stopped = heard.1; ends = heard.2; form = subst (λ r. IsFormBy r (joined h.ps) f) (sym area) is })
 
+  -- a fault that the pieces say
+  said_none : (f : form.Form) → form.IsForm space (joined h.ps) f → (e : ReadFault) → (IsNone how a b f → IsFaultBy how a b e) → IsUnsurveyedBy how a b e
+  said_none f is e told =
+      let none = none_by how f h.ended h.heard h.area h.container is in
+      record { by = told none; needs = λ ps brought says. none_over how a b f none }
+
   pub ground_told : (result : Result Ground ReadFault) → GroundIn space block slice result → IsGroundToldBy how a b result
   ground_told (Ok (Area known' block' m)) is =
       let seen : IsWalk space slice (walk.Held m) = subst (λ xs. IsWalk space xs (walk.Held m)) (append-nil slice) (is.2.front []) in
@@ -252,8 +259,8 @@ module _ (how : How) (a b : LinkView) (size : ℕ) (known slice : List ℕ) (spa
         ground' = subst (λ xs. IsAreaHeard how h.ps h.ended xs block' m) (sym is.0) (subst (λ n. IsAreaHeard how h.ps h.ended slice n m) (sym is.1) ground');
       }
   ground_told (Ok (File map' length')) is = absurd is
-  ground_told (Err fault.NoMessageTlv) is = none_by how form.NoMessageTlv h.ended h.heard h.area h.container (said_form walk.NoMessageTlv is)
-  ground_told (Err fault.BadTlv) is = none_by how form.BadTlv h.ended h.heard h.area h.container (said_form walk.BadTlv is)
+  ground_told (Err fault.NoMessageTlv) is = said_none form.NoMessageTlv (said_form walk.NoMessageTlv is) fault.NoMessageTlv (λ none. none)
+  ground_told (Err fault.BadTlv) is = said_none form.BadTlv (said_form walk.BadTlv is) fault.BadTlv (λ none. none)
   ground_told (Err fault.NotNdef) is = absurd is
   ground_told (Err fault.Version) is = absurd is
   ground_told (Err fault.NoRead) is = absurd is

@@ -34,6 +34,10 @@ pub record Went (a b : LinkView) : Type 0 where
   pub lit : b.dark ≡ false
   pub rises : Rises a b
 
+-- Where the link is over behind a command, nothing more was answered.
+abbrev pub IsCut : LinkView → LinkView → Type 0
+IsCut a b = (b.over ≡ None) ⊎ (b.answered ≡ a.answered)
+
 -- A reading under way: it brought these pieces.
 pub record Under (how : How) (a b : LinkView) (ps : List (List ℕ)) : Type 0 where
   pub kind : b.kind ≡ a.kind

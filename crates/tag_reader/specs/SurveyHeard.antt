@@ -76,7 +76,20 @@ pub record IsSurveyedBy (how : How) (a b : LinkView) (ground : Ground) : Type 0 
   pub left : IsLeftBy a b (surveyed_by how ps ended)
   pub ground' : IsGroundHeard how ps ended ground
 
--- what a survey tells, whatever the tag; each fault is one of a reading
+-- the pieces say all that a writer needs to know of the tag
+abbrev pub SaysGround : How → List (List ℕ) → Type 0
+SaysGround how ps = (ground : Ground) × IsGroundHeard how ps false ground
+
+-- Where the link is over, what was answered says no ground: nothing was asked that a survey doesn't need.
+abbrev pub AsksWhatItNeeds : How → LinkView → LinkView → Type 0
+AsksWhatItNeeds how a b = (ps : List (List ℕ)) → IsBrought how a b ps → SaysGround how ps → b.over ≡ None
+
+-- Why a survey found no ground: a fault as of a reading and, where the link ended it, no ground was said yet.
+pub record IsUnsurveyedBy (how : How) (a b : LinkView) (e : ReadFault) : Type 0 where
+  pub by : IsFaultBy how a b e
+  pub needs : AsksWhatItNeeds how a b
+
+-- what a survey tells, whatever the tag
 abbrev pub IsGroundToldBy : How → LinkView → LinkView → Result Ground ReadFault → Type 0
 IsGroundToldBy how a b (Ok ground) = IsSurveyedBy how a b ground
-IsGroundToldBy how a b (Err e) = IsFaultBy how a b e
+IsGroundToldBy how a b (Err e) = IsUnsurveyedBy how a b e

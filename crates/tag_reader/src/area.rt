@@ -1,6 +1,6 @@
 //! An area, read to its end whatever its TLVs are.
 
-ghost use Rattle.std.specs.Prelude.{◌≡◌, ℕ, suc, ◌≤◌, length, [], IfOk, OnOk};
+ghost use Rattle.std.specs.Prelude.{◌≡◌, ℕ, suc, ◌≤◌, length, [], IfOk, OnOk, OnErr};
 ghost use Rattle.nfc_base.specs.TagLinks.{LinkView};
 ghost use Rattle.tlv_area.specs.Layout.{IsArea};
 ghost use Rattle.tag_reader.specs.Asked.{ToWrite};
@@ -8,6 +8,7 @@ ghost use Rattle.tag_reader.specs.declared.how.How.TheVariants as hows;
 ghost use Rattle.tag_reader.specs.Heard.{IsOf};
 ghost use Rattle.tag_reader.specs.HeardSteps.{OrFault};
 ghost use Rattle.tag_reader.specs.BlockSteps.{Names, LooksBlocks, IsReading};
+ghost use Rattle.tag_reader.specs.SurveyHeard.{AsksWhatItNeeds};
 ghost use Rattle.tag_reader.specs.SurveySteps.{HearsAll, ReadsAll, KnowsAll};
 
 use crate::asking::ask_next;
@@ -35,6 +36,7 @@ pub fn read_all<T: TagLink>(
         × HearsAll hows.T2 (T.seen link.old) (T.seen link.new) size known.new.items space)
         hows.T2 (T.seen link.old) (T.seen link.new) result }
     ensures reads { ReadsAll (T.seen link.old) (T.seen link.new) known.new.items result }
+    ensures needs { OnErr result (AsksWhatItNeeds hows.T2 (T.seen link.old) (T.seen link.new)) }
     ensures ready { T.ready link.new }
     ensures same { T.lenders link.new ≡ T.lenders link.old }
     ensures moves { T.moves link.old link.new }
@@ -70,6 +72,8 @@ pub fn read_to_end<T: TagLink>(
         (hows.T5 id) a (T.seen link.new) result }
     ensures reads { (size n : ℕ) (a : LinkView) → IsReading ToWrite id size a (T.seen link.old) known.old (suc n) →
         KnowsAll id size a (T.seen link.new) known.new result }
+    ensures needs { (a : LinkView) → LooksBlocks id a (T.seen link.old) known.old →
+        OnErr result (AsksWhatItNeeds (hows.T5 id) a (T.seen link.new)) }
     ensures ready { T.ready link.new }
     ensures same { T.lenders link.new ≡ T.lenders link.old }
     ensures moves { T.moves link.old link.new }

@@ -2,28 +2,16 @@
 
 ghost use Rattle.std.specs.Prelude.{◌≡◌, ℕ, ◌*◌, ◌<◌, List, length};
 ghost use Rattle.nfc_base.specs.TagLinks.{LinkView};
-ghost use Rattle.nfc_base.specs.declared.tag_link.AskFault.{AskFault};
 ghost use Rattle.tag_reader.specs.declared.how.How.TheVariants as hows;
 ghost use Rattle.tag_reader.specs.Heard.{IsOf};
-ghost use Rattle.tag_reader.specs.HeardSteps.{Under, OrFault, Gains};
-ghost use Rattle.tag_reader.specs.Steps.{of_link, AsksNextOf};
+ghost use Rattle.tag_reader.specs.HeardSteps.{IsCut, Under, OrFault, Gains};
+ghost use Rattle.tag_reader.specs.Steps.{AsksNextOf};
 
 use crate::fault::ReadFault;
 use crate::told::tell_t2;
-use nfc_base::{AskFault, TagLink};
+use nfc_base::TagLink;
 use std::alloc::Global;
 use t2t_tag::T2Command;
-
-pub fn of_link(fault: AskFault) -> ReadFault
-    ensures { result ≡ of_link fault }
-{
-    match fault {
-        AskFault::FieldLost => ReadFault::FieldLost,
-        AskFault::SixBad => ReadFault::SixBad,
-        AskFault::Memory => ReadFault::Memory,
-        AskFault::Protocol => ReadFault::Protocol,
-    }
-}
 
 /// Asks the READ that is the `index`-th, counted from 0, and adds the four blocks that it brings to what is known.
 pub fn ask_next<T: TagLink>(
@@ -39,19 +27,14 @@ pub fn ask_next<T: TagLink>(
     // whatever the tag does
     ensures gains { (a : LinkView) (ps : List (List ℕ)) → Under hows.T2 a (T.seen link.old) ps → length ps ≡ index →
         OrFault (λ done. Gains a (T.seen link.new) ps known.old.items known.new.items) hows.T2 a (T.seen link.new) result }
+    ensures cut { IsCut (T.seen link.old) (T.seen link.new) }
     ensures ready { T.ready link.new }
     ensures same { T.lenders link.new ≡ T.lenders link.old }
     ensures moves { T.moves link.old link.new }
 {
     let read = T2Command::Read { block: 4 * index }.to_frame();
-    match link.ask(alloc, &read) {
-        Err(fault) => Err(of_link(fault)),
-        Ok(answer) => match tell_t2(&answer) {
-            Err(fault) => Err(fault),
-            Ok(content) => match known.extend_from_slice(&content) {
-                Err(_) => Err(ReadFault::Memory),
-                Ok(()) => Ok(()),
-            },
-        },
-    }
+    let answer = link.ask(alloc, &read)?;
+    let content = tell_t2(&answer)?;
+    known.extend_from_slice(&content)?;
+    Ok(())
 }

@@ -1,6 +1,6 @@
 //! Where the message of a Type 5 tag lies, by as few commands as its container allows.
 
-ghost use Rattle.std.specs.Prelude.{◌≡◌, ◌<◌, ◌≤◌, Bool, [], length, false, IfOk};
+ghost use Rattle.std.specs.Prelude.{◌≡◌, ◌<◌, ◌≤◌, Bool, [], length, false, IfOk, OnErr};
 ghost use Rattle.tlv_area.specs.Containers.{T5Area, t5_is_open};
 ghost use Rattle.tlv_area.specs.Form.{NeedsMore};
 ghost use Rattle.tlv_area.specs.Layout.{IsArea};
@@ -11,10 +11,11 @@ ghost use Rattle.tag_reader.specs.Heard.{IsOf};
 ghost use Rattle.tag_reader.specs.HeardSteps.{OrFault, SeesMap};
 ghost use Rattle.tag_reader.specs.BlockSteps.{Names, LooksBlocks, Opens, FindsMap};
 ghost use Rattle.tag_reader.specs.Steps.{IsCutFault};
+ghost use Rattle.tag_reader.specs.SurveyHeard.{AsksWhatItNeeds};
 
 use crate::blocks::ask_blocks;
 use crate::fault::ReadFault;
-use crate::finding::{front, of_container};
+use crate::finding::front;
 use crate::known::Known;
 use nfc_base::TagLink;
 use std::alloc::Global;
@@ -60,6 +61,7 @@ pub fn open_area<T: TagLink>(
     ensures sees { OrFault (λ space. LooksBlocks id (T.seen link.old) (T.seen link.new) known.new) (hows.T5 id)
         (T.seen link.old) (T.seen link.new) result }
     ensures opens { (aim : Aim) → Opens aim id (T.seen link.old) (T.seen link.new) known.new result }
+    ensures needs { OnErr result (AsksWhatItNeeds (hows.T5 id) (T.seen link.old) (T.seen link.new)) }
     ensures ready { T.ready link.new }
     ensures same { T.lenders link.new ≡ T.lenders link.old }
     ensures moves { T.moves link.old link.new }
@@ -70,16 +72,13 @@ pub fn open_area<T: TagLink>(
             return Err(ReadFault::BadSize);
         }
     }
-    match container_t5(known.bytes.as_slice()) {
-        Ok(
-            T5Container::Ready {
-                space,
-                wide,
-                many: _,
-            },
-        ) => Ok(reach(space, wide, known.size)),
-        Ok(T5Container::More) => unreachable!(),
-        Err(fault) => Err(of_container(fault)),
+    match container_t5(known.bytes.as_slice())? {
+        T5Container::Ready {
+            space,
+            wide,
+            many: _,
+        } => Ok(reach(space, wide, known.size)),
+        T5Container::More => unreachable!(),
     }
 }
 

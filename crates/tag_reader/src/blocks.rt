@@ -5,11 +5,10 @@ ghost use Rattle.nfc_base.specs.TagLinks.{LinkView};
 ghost use Rattle.tag_reader.specs.declared.how.How.TheVariants as hows;
 ghost use Rattle.tag_reader.specs.Asked.{Aim, IsDueFor};
 ghost use Rattle.tag_reader.specs.Heard.{IsOf};
-ghost use Rattle.tag_reader.specs.HeardSteps.{Under, OrFault};
+ghost use Rattle.tag_reader.specs.HeardSteps.{IsCut, Under, OrFault};
 ghost use Rattle.tag_reader.specs.BlockSteps.{CanAsk, Grows, IsKnown, SeesBlocks, IsReading, NextBlocks};
 
 use crate::ask::next_ask;
-use crate::asking::of_link;
 use crate::fault::ReadFault;
 use crate::known::Known;
 use crate::told::{BlocksTold, tell_blocks};
@@ -34,25 +33,23 @@ pub fn ask_blocks<T: TagLink>(
     ensures next { (aim : Aim) (size n : ℕ) (a : LinkView) → IsReading aim id size a (T.seen link.old) known.old n →
         IsDueFor aim (hows.T5 id) size a.state.store n →
         NextBlocks aim id size a (T.seen link.new) known.old known.new n result }
+    ensures cut { IsCut (T.seen link.old) (T.seen link.new) }
     ensures ready { T.ready link.new }
     ensures same { T.lenders link.new ≡ T.lenders link.old }
     ensures moves { T.moves link.old link.new }
 {
     let ask = next_ask(known);
     let command = ask.frame(id);
-    match link.ask(alloc, &command) {
-        Err(fault) => Err(of_link(fault)),
-        Ok(answer) => match tell_blocks(&ask, known.size, &answer) {
-            Err(fault) => Err(fault),
-            Ok(BlocksTold::Ended) => Ok(false),
-            Ok(BlocksTold::Single) => {
-                known.single = true;
-                Ok(true)
-            }
-            Ok(BlocksTold::Bytes(content)) => match known.learn(&content) {
-                Err(_) => Err(ReadFault::Memory),
-                Ok(()) => Ok(true),
-            },
-        },
+    let answer = link.ask(alloc, &command)?;
+    match tell_blocks(&ask, known.size, &answer)? {
+        BlocksTold::Ended => Ok(false),
+        BlocksTold::Single => {
+            known.single = true;
+            Ok(true)
+        }
+        BlocksTold::Bytes(content) => {
+            known.learn(&content)?;
+            Ok(true)
+        }
     }
 }

@@ -2,8 +2,13 @@
 
 ghost use Rattle.std.specs.Prelude.{◌≡◌};
 ghost use Rattle.tag_reader.specs.Numbers.{read_fault_number};
+ghost use Rattle.tag_reader.specs.Steps.{of_link, of_container};
+ghost use Rattle.tag_reader.specs.declared.fault.ReadFault.TheVariants.{Memory};
 
+use nfc_base::AskFault;
+use std::alloc::AllocError;
 use thiserror::Error;
+use tlv_area::ContainerFault;
 
 /// Why a reading gives no message: what the tag's store holds, that the tag refused a command, with its code, or that the
 /// link is over. The numbers are this project's own.
@@ -33,6 +38,41 @@ pub enum ReadFault {
     Memory,
     #[error("the tag sent a frame that is no allowed answer")]
     Protocol,
+}
+
+impl From<AskFault> for ReadFault {
+    ghost from_gives = { λ fault f. f ≡ of_link fault };
+
+    fn from(fault: AskFault) -> ReadFault {
+        match fault {
+            AskFault::FieldLost => ReadFault::FieldLost,
+            AskFault::SixBad => ReadFault::SixBad,
+            AskFault::Memory => ReadFault::Memory,
+            AskFault::Protocol => ReadFault::Protocol,
+        }
+    }
+}
+
+impl From<ContainerFault> for ReadFault {
+    ghost from_gives = { λ fault f. f ≡ of_container fault };
+
+    fn from(fault: ContainerFault) -> ReadFault {
+        match fault {
+            ContainerFault::NotNdef => ReadFault::NotNdef,
+            ContainerFault::Version => ReadFault::Version,
+            ContainerFault::NoRead => ReadFault::NoRead,
+            ContainerFault::Sectors => ReadFault::Sectors,
+            ContainerFault::BadSize => ReadFault::BadSize,
+        }
+    }
+}
+
+impl From<AllocError> for ReadFault {
+    ghost from_gives = { λ _ f. f ≡ Memory };
+
+    fn from(_error: AllocError) -> ReadFault {
+        ReadFault::Memory
+    }
 }
 
 impl ReadFault {

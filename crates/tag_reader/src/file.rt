@@ -1,6 +1,6 @@
 //! The file of a Type 4 tag (NFC Forum Type 4 Tag; ISO/IEC 7816-4).
 
-ghost use Rattle.std.specs.Prelude.{◌≡◌, ◌↔◌, ℕ, suc, ◌≤◌, min, List, [], ◌∷◌, ◌++◌, length, true, IfOk};
+ghost use Rattle.std.specs.Prelude.{◌≡◌, ◌↔◌, ℕ, suc, ◌≤◌, min, List, [], ◌∷◌, ◌++◌, length, true, IfOk, OnErr};
 ghost use Rattle.nfc_base.specs.TagLinks.{LinkView};
 ghost use Rattle.tlv_area.specs.declared.container.FileMap.{FileMap as Map};
 ghost use Rattle.tlv_area.specs.Containers.{t4_container};
@@ -9,14 +9,13 @@ ghost use Rattle.tag_reader.specs.Asked.{Aim, ToRead, IsNextFor};
 ghost use Rattle.tag_reader.specs.Files.{file_command, message_length, most_asked};
 ghost use Rattle.t4t_tag.specs.Spelling.{IsT4Command};
 ghost use Rattle.tag_reader.specs.Heard.{IsOf, HasSize, IsToldBy, file_next};
-ghost use Rattle.tag_reader.specs.HeardSteps.{Under, OrFault, HasSelected, Opened, Measured, ReadAll};
+ghost use Rattle.tag_reader.specs.HeardSteps.{IsCut, Under, OrFault, HasSelected, Opened, Measured, ReadAll};
 ghost use Rattle.tag_reader.specs.Kinds.{OfTag};
+ghost use Rattle.tag_reader.specs.SurveyHeard.{AsksWhatItNeeds};
 ghost use Rattle.tag_reader.specs.Steps.{ReadsTag};
 ghost use Rattle.tag_reader.specs.FileSteps.{IsUnder, BringsNext, OrEnds, IsOpen, IsMeasured, IsWhole};
 
-use crate::asking::of_link;
 use crate::fault::ReadFault;
-use crate::finding::of_container;
 use crate::found::{Found, Site};
 use crate::told::tell_t4;
 use arrayvec::ArrayVec;
@@ -89,25 +88,19 @@ fn ask_file<T: TagLink>(
     ensures next { (aim : Aim) (size n : ℕ) (a : LinkView) → IsUnder aim size a (T.seen link.old) n →
         IsNextFor aim hows.T4 size a.state.store n → command.now ≡ file_command a.state.store n →
         OrEnds aim (λ bytes. BringsNext aim size a (T.seen link.new) n bytes.items) size a (T.seen link.new) result }
+    ensures cut { IsCut (T.seen link.old) (T.seen link.new) }
     ensures ready { T.ready link.new }
     ensures same { T.lenders link.new ≡ T.lenders link.old }
     ensures moves { T.moves link.old link.new }
 {
-    let bytes = command.to_bytes();
-    let frame = Frame::whole(Tech::A, bytes.as_slice()).unwrap();
-    match link.ask(alloc, &frame) {
-        Err(fault) => Err(of_link(fault)),
-        Ok(answer) => match tell_t4(&answer) {
-            Err(fault) => Err(fault),
-            Ok(bytes) => {
-                if has_size(command, bytes.as_slice()) {
-                    Ok(bytes)
-                } else {
-                    Err(ReadFault::Protocol)
-                }
-            }
-        },
+    let spelled = command.to_bytes();
+    let frame = Frame::whole(Tech::A, spelled.as_slice()).unwrap();
+    let answer = link.ask(alloc, &frame)?;
+    let bytes = tell_t4(&answer)?;
+    if !has_size(command, bytes.as_slice()) {
+        return Err(ReadFault::Protocol);
     }
+    Ok(bytes)
 }
 
 /// The file that the first bytes of a container name.
@@ -129,6 +122,7 @@ fn select_container<T: TagLink>(alloc: Global, link: &mut T) -> Result<(), ReadF
     ensures selects { (aim : Aim) → OfTag hows.T4 (T.seen link.old) (λ size.
         OrEnds aim (λ done. IsUnder aim size (T.seen link.old) (T.seen link.new) 2)
         size (T.seen link.old) (T.seen link.new) result) }
+    ensures needs { OnErr result (AsksWhatItNeeds hows.T4 (T.seen link.old) (T.seen link.new)) }
     ensures ready { T.ready link.new }
     ensures same { T.lenders link.new ≡ T.lenders link.old }
     ensures moves { T.moves link.old link.new }
@@ -147,6 +141,7 @@ pub fn read_container<T: TagLink>(alloc: Global, link: &mut T) -> Result<FileMap
     ensures opens { (aim : Aim) → OfTag hows.T4 (T.seen link.old) (λ size.
         OrEnds aim (IsOpen aim size (T.seen link.old) (T.seen link.new))
         size (T.seen link.old) (T.seen link.new) result) }
+    ensures needs { OnErr result (AsksWhatItNeeds hows.T4 (T.seen link.old) (T.seen link.new)) }
     ensures ready { T.ready link.new }
     ensures same { T.lenders link.new ≡ T.lenders link.old }
     ensures moves { T.moves link.old link.new }
@@ -157,10 +152,7 @@ pub fn read_container<T: TagLink>(alloc: Global, link: &mut T) -> Result<FileMap
         count: CONTAINER_SIZE as u8,
     };
     let bytes = ask_file(alloc, link, &read)?;
-    match file_named(bytes.as_slice()) {
-        Err(fault) => Err(of_container(fault)),
-        Ok(map) => Ok(map),
-    }
+    Ok(file_named(bytes.as_slice())?)
 }
 
 /// The number that two bytes are, high first.
@@ -180,6 +172,8 @@ pub fn read_length<T: TagLink>(alloc: Global, link: &mut T, map: FileMap) -> Res
         OrFault (Measured a (T.seen link.new) map) hows.T4 a (T.seen link.new) result }
     ensures measures { (aim : Aim) (size : ℕ) (a : LinkView) → IsOpen aim size a (T.seen link.old) map →
         OrEnds aim (IsMeasured aim size a (T.seen link.new) map) size a (T.seen link.new) result }
+    ensures needs { (a : LinkView) → Opened a (T.seen link.old) map →
+        OnErr result (AsksWhatItNeeds hows.T4 a (T.seen link.new)) }
     ensures ready { T.ready link.new }
     ensures same { T.lenders link.new ≡ T.lenders link.old }
     ensures moves { T.moves link.old link.new }
@@ -225,10 +219,7 @@ fn read_message<T: TagLink>(
             count: most.min(length - taken) as u8,
         };
         let piece = ask_file(alloc, link, &read)?;
-        match message.extend_from_slice(&piece) {
-            Err(_) => return Err(ReadFault::Memory),
-            Ok(()) => {}
-        }
+        message.extend_from_slice(&piece)?;
     }
     Ok(message)
 }

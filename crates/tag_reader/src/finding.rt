@@ -1,6 +1,6 @@
 //! Where the message of a Type 2 tag lies, by as many READs as it takes to tell.
 
-ghost use Rattle.std.specs.Prelude.{◌≡◌, ℕ, ◌<◌, ◌≤◌, length, take, [], IfOk, IfErr, Ok, Err};
+ghost use Rattle.std.specs.Prelude.{◌≡◌, ℕ, ◌<◌, ◌≤◌, length, take, [], IfOk, IfErr, OnErr, Ok, Err};
 ghost use Rattle.tlv_area.specs.declared.container.ContainerFault.{ContainerFault};
 ghost use Rattle.tlv_area.specs.Layout.{IsArea};
 ghost use Rattle.tag_reader.specs.declared.how.How.TheVariants as hows;
@@ -8,25 +8,14 @@ ghost use Rattle.tag_reader.specs.Asked.{Aim};
 ghost use Rattle.tag_reader.specs.Kinds.{area_of};
 ghost use Rattle.tag_reader.specs.Heard.{IsOf};
 ghost use Rattle.tag_reader.specs.HeardSteps.{OrFault, Looks, SeesMap};
-ghost use Rattle.tag_reader.specs.Steps.{of_container, OpensArea, ReadsMap};
+ghost use Rattle.tag_reader.specs.SurveyHeard.{AsksWhatItNeeds};
+ghost use Rattle.tag_reader.specs.Steps.{OpensArea, ReadsMap};
 
 use crate::asking::ask_next;
 use crate::fault::ReadFault;
 use nfc_base::TagLink;
 use std::alloc::Global;
 use tlv_area::{AreaMap, ContainerFault, Space, Walk, Walker, container_t2};
-
-pub fn of_container(fault: ContainerFault) -> ReadFault
-    ensures { result ≡ of_container fault }
-{
-    match fault {
-        ContainerFault::NotNdef => ReadFault::NotNdef,
-        ContainerFault::Version => ReadFault::Version,
-        ContainerFault::NoRead => ReadFault::NoRead,
-        ContainerFault::Sectors => ReadFault::Sectors,
-        ContainerFault::BadSize => ReadFault::BadSize,
-    }
-}
 
 /// The area that the container in the answer to the first READ names.
 pub fn space_of(first: &[u8]) -> Result<Space, ContainerFault>
@@ -62,15 +51,13 @@ pub fn open_area<T: TagLink>(
     ensures sees { OrFault (λ space. Looks (T.seen link.old) (T.seen link.new) known.new.items space 0) hows.T2
         (T.seen link.old) (T.seen link.new) result }
     ensures opens { (aim : Aim) → OpensArea aim (T.seen link.old) (T.seen link.new) known.new.items result }
+    ensures needs { OnErr result (AsksWhatItNeeds hows.T2 (T.seen link.old) (T.seen link.new)) }
     ensures ready { T.ready link.new }
     ensures same { T.lenders link.new ≡ T.lenders link.old }
     ensures moves { T.moves link.old link.new }
 {
     ask_next(alloc, link, 0, known)?;
-    match space_of(known.as_slice()) {
-        Err(fault) => Err(of_container(fault)),
-        Ok(space) => Ok(space),
-    }
+    Ok(space_of(known.as_slice())?)
 }
 
 /// Asks a Type 2 tag for bytes until they tell where the message lies. What it learns is known then.

@@ -86,10 +86,8 @@ fn read_area<T: TagLink>(alloc: Global, link: &mut T) -> Result<Found, ReadFault
 {
     let mut known = Vec::new(alloc);
     let map = find_map(alloc, link, &mut known)?;
-    match copy_message(alloc, &map, known.as_slice()) {
-        Err(_) => Err(ReadFault::Memory),
-        Ok(message) => Ok(found_in(map, message)),
-    }
+    let message = copy_message(alloc, &map, known.as_slice())?;
+    Ok(found_in(map, message))
 }
 
 /// Reads the message of the Type 5 tag with this identifier.
@@ -105,10 +103,8 @@ fn read_blocks<T: TagLink>(alloc: Global, link: &mut T, id: [u8; 8]) -> Result<F
 {
     let mut known = Known::new(alloc);
     let map = find_in_blocks(alloc, link, id, &mut known)?;
-    match copy_message(alloc, &map, known.bytes.as_slice()) {
-        Err(_) => Err(ReadFault::Memory),
-        Ok(message) => Ok(found_in(map, message)),
-    }
+    let message = copy_message(alloc, &map, known.bytes.as_slice())?;
+    Ok(found_in(map, message))
 }
 
 /// A message that lies in an area.

@@ -47,6 +47,6 @@ why_lost how v b front next (fault.TooLong n) lost why = absurd why
 why_lost how v b front next fault.ShortMlc lost why = absurd why
 
 pub told_lost : (how : How) (message : List _) (a b : LinkView) (e : WriteFault) → IsWriteToldBy how message a b (Err e) → b.over ≡ Some ask.FieldLost → e ≡ fault.FieldLost
-told_lost how message a b e (inl (inl (f, is, told))) lost = is ∙ ap of_read (err_in f read.FieldLost (exactly_over how a b ask.FieldLost (Err f) told lost))
+told_lost how message a b e (inl (inl (f, is, told))) lost = is ∙ ap of_read (err_in f read.FieldLost (exactly_over how a b ask.FieldLost (Err f) told.by lost))
 told_lost how message a b e (inl (inr declined)) lost = lost_none b _ lost (heard_none how a b declined.surveyed.ps declined.surveyed.ended declined.surveyed.heard)
 told_lost how message a b e (inr (v, w, planned, stops)) lost = why_lost how v b stops.front stops.next e lost stops.why

@@ -10,7 +10,7 @@ use Rattle.tag_steps.specs.declared.turn.Turn.{Turn}
 use Rattle.tag_steps.specs.Replay.{Tag, Differs, first_link, link_behind}
 use Rattle.tag_steps.specs.Reading.{AreSent, IsOddBehind}
 
-none_some : (o : Option AskFault) → o ≡ None → o ≡ Some ask.Protocol → ⊥
+pub none_some : (o : Option AskFault) → o ≡ None → o ≡ Some ask.Protocol → ⊥
 none_some o n s = absurd (cc)
 
 pub one_some : (o : Option Signal) (x y : Signal) → o ≡ Some x → o ≡ Some y → x ≡ y

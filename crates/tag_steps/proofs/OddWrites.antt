@@ -8,8 +8,8 @@ use Rattle.tag_reader.specs.declared.how.How.{How}
 use Rattle.tag_reader.specs.declared.fault.ReadFault.{ReadFault}
 use Rattle.tag_reader.specs.declared.fault.ReadFault.TheVariants as read
 use Rattle.tag_reader.specs.Calls.{ByLink}
-use Rattle.tag_reader.specs.Heard.{IsEndedBy, IsFaultBy, next_command}
-use Rattle.tag_reader.specs.SurveyHeard.{IsSurveyedBy}
+use Rattle.tag_reader.specs.Heard.{IsEndedBy, next_command}
+use Rattle.tag_reader.specs.SurveyHeard.{AsksWhatItNeeds, IsSurveyedBy, IsUnsurveyedBy, SaysGround}
 use Rattle.tag_writer.specs.declared.fault.WriteFault.{WriteFault}
 use Rattle.tag_writer.specs.declared.fault.WriteFault.TheVariants as fault
 use Rattle.tag_writer.specs.declared.work.Work.{Work}
@@ -20,9 +20,9 @@ use Rattle.tag_writer.specs.WriteTold.{IsPlannedBy, IsWriteToldBy}
 use Rattle.tag_steps.specs.declared.turn.Turn.{Turn}
 use Rattle.tag_steps.specs.declared.writing.NextWrite.TheVariants.{Fault}
 use Rattle.tag_steps.specs.Replay.{Tag, Differs, first_link, link_behind}
-use Rattle.tag_steps.specs.Writing.{AreSentToWrite, IsOddToWriter, IsOddTo, SaysGround}
+use Rattle.tag_steps.specs.Writing.{AreSentToWrite, IsOddToWriter, IsOddTo}
 use Rattle.tag_steps.proofs.Losing.{heard_none}
-use Rattle.tag_steps.proofs.Odd.{asked_last, one_some}
+use Rattle.tag_steps.proofs.Odd.{asked_last, none_some, one_some}
 
 -- a fault of what is read first is a writer's `Protocol` only where it is a reader's
 read_odd : (f : ReadFault) → fault.Protocol ≡ of_read f → f ≡ read.Protocol
@@ -50,24 +50,25 @@ module _ (how : How) (message : List ℕ) (t : Tag) (turns : List Turn) (used : 
   odd_so : IsOddTo how message first behind → IsOddToWriter how message t turns
   odd_so odd = record { used = used; over = over; last = last; odd = odd }
 
-  by_place : (e : IsEndedBy how first behind (ByLink first behind ask.Protocol)) (d : Differs turns used last) → last ≡ Some (next_command how e.ps)
-      → (d.turn.command ≡ next_command how e.ps) ⊎ SaysGround how e.ps → IsOddToWriter how message t turns
-  by_place e d asked (inl next) = absurd (d.other (next ∙ sym (one_some last d.command (next_command how e.ps) d.asked asked)))
-  by_place e d asked (inr says) = odd_so (inr (inr (record {
-    ended = record { ps = e.ps; brought = e.brought; ends' = e.ends'.0; asked = e.asked };
-    says = says;
-  })))
+  -- the read that was asked is the one that was to be sent, and no ground was said before it
+  as_sent : (e : IsEndedBy how first behind (ByLink first behind ask.Protocol)) → AsksWhatItNeeds how first behind → (command : Signal)
+      → (command ≡ next_command how e.ps) ⊎ SaysGround how e.ps → command ≡ next_command how e.ps
+  as_sent e needs command (inl next) = next
+  as_sent e needs command (inr says) = absurd (none_some over (needs e.ps e.brought says) e.ends'.0)
 
-  by_read : IsFaultBy how first behind read.Protocol → IsOddToWriter how message t turns
-  by_read (inl odd) = odd_so (inl (inl odd))
-  by_read (inr e) =
-      let d : Differs turns used last = differs e.ends'.0 in
-      let asked : last ≡ Some (next_command how e.ps) = asked_last over (last ≡ Some (next_command how e.ps)) e.ends'.0 (e.asked refl) in
-      by_place e d asked (sent.reads used e.ps d.turn d.low d.there e.brought.pieces e.brought.answered)
+  by_read : (u : IsUnsurveyedBy how first behind read.Protocol) → IsOddToWriter how message t turns
+  by_read u = elim u.by [
+    | inl odd ↦ odd_so (inl odd)
+    | inr e ↦ (
+        let d : Differs turns used last = differs e.ends'.0 in
+        let asked : last ≡ Some (next_command how e.ps) = asked_last over (last ≡ Some (next_command how e.ps)) e.ends'.0 (e.asked refl) in
+        let next = as_sent e u.needs d.turn.command (sent.reads used e.ps d.turn d.low d.there e.brought.pieces e.brought.answered) in
+        absurd (d.other (next ∙ sym (one_some last d.command (next_command how e.ps) d.asked asked))))
+  ]
 
   by_write : (v : LinkView) (w : Work) → IsPlannedBy how message w first v → (s : StopsAmong how v behind (all_commands w) fault.Protocol)
       → IsWhy how v behind s.front s.next fault.Protocol → IsOddToWriter how message t turns
-  by_write v w planned s (inl (r, answered, odd)) = odd_so (inr (inl (record {
+  by_write v w planned s (inl (r, answered, odd)) = odd_so (inr (inr (record {
     v = v;
     w = w;
     planned = planned;
@@ -88,8 +89,8 @@ module _ (how : How) (message : List ℕ) (t : Tag) (turns : List Turn) (used : 
       absurd (d.other (is ∙ sym (one_some last d.command s.next d.asked asked)))
 
   by_writer : IsWriteToldBy how message first behind (Err fault.Protocol) → IsOddToWriter how message t turns
-  by_writer (inl (inl (f, is, told))) = by_read (subst (λ (x : ReadFault). IsFaultBy how first behind x) (read_odd f is) told)
-  by_writer (inl (inr declined)) = odd_so (inl (inr declined))
+  by_writer (inl (inl (f, is, told))) = by_read (subst (λ (x : ReadFault). IsUnsurveyedBy how first behind x) (read_odd f is) told)
+  by_writer (inl (inr declined)) = odd_so (inr (inl declined))
   by_writer (inr (v, w, planned, stops)) = by_write v w planned stops stops.why
 
 -- of the link's own tag and turns

@@ -1,13 +1,12 @@
 -- What a writing tells that goes on a command at a time.
-use Rattle.std.specs.Prelude.{◌≡◌, ℕ, ◌<◌, ◌≤◌, ◌⊎◌, List, [], ◌∷◌, ◌++◌, length, take, get_or, Option, Some, false, Result, Ok, Err}
+use Rattle.std.specs.Prelude.{◌≡◌, ℕ, ◌<◌, ◌≤◌, ◌⊎◌, List, [], ◌∷◌, ◌++◌, length, take, get_or, Option, Some, Result, Ok, Err}
 use Rattle.nfc_base.specs.Signal.{Signal}
 use Rattle.nfc_base.specs.TagLinks.{LinkView}
 use Rattle.nfc_base.specs.declared.tag_link.AskFault.{AskFault}
 use Rattle.nfc_base.specs.declared.tag_link.AskFault.TheVariants as ask
 use Rattle.tag_reader.specs.declared.how.How.{How}
-use Rattle.tag_reader.specs.declared.ground.Ground.{Ground}
-use Rattle.tag_reader.specs.Heard.{IsBroughtBy, IsEndedBy, IsOddly, asked_for, next_command}
-use Rattle.tag_reader.specs.SurveyHeard.{IsGroundHeard}
+use Rattle.tag_reader.specs.Heard.{IsBroughtBy, IsOddly, asked_for, next_command}
+use Rattle.tag_reader.specs.SurveyHeard.{SaysGround}
 use Rattle.tag_writer.specs.declared.fault.WriteFault.{WriteFault}
 use Rattle.tag_writer.specs.declared.fault.WriteFault.TheVariants as faults
 use Rattle.tag_writer.specs.declared.work.Work.{Work}
@@ -48,10 +47,6 @@ pub record TellsWrite (how : How) (message : List ℕ) (t : Tag) (turns : List T
   pub ok : TellsSuccess how message (first_link t) (link_behind t turns used over last) (writing_of next)
   pub err : TellsCause how message (first_link t) (link_behind t turns used over last) (writing_of next)
 
--- the pieces say all that a writer needs to know of the tag
-abbrev pub SaysGround : How → List (List ℕ) → Type 0
-SaysGround how ps = (ground : Ground) × IsGroundHeard how ps false ground
-
 -- The turns' commands are those that were to be sent. Where the turns before one brought pieces, one a command, its own
 -- is the command that follows them, unless they say a ground. Where they say one, and the writes on it so far were
 -- acknowledged, its own is the next write.
@@ -79,16 +74,9 @@ pub record IsOddWrite (how : How) (message : List ℕ) (a b : LinkView) : Type 0
   pub answered : IsAnsweredBy v b front next r
   pub odd : IsOddAnswer how r
 
--- The pieces say a ground, and a read was asked behind them; of `survey` no contract says that this doesn't come.
-pub record IsReadOn (how : How) (a b : LinkView) : Type 0 where
-  pub ended : IsEndedBy how a b (b.over ≡ Some ask.Protocol)
-  pub says : SaysGround how ended.ps
-
--- The tag's last answer is one that may not come, to a read or to a write, or the tag says blocks of more than 32 bytes;
--- or a read was asked too much.
+-- The tag's last answer is one that may not come, to a read or to a write, or the tag says blocks of more than 32 bytes.
 abbrev pub IsOddTo : How → List ℕ → LinkView → LinkView → Type 0
-IsOddTo how message a b =
-    (IsOddly how a b ⊎ IsDeclinedBy how message a b faults.Protocol) ⊎ (IsOddWrite how message a b ⊎ IsReadOn how a b)
+IsOddTo how message a b = IsOddly how a b ⊎ (IsDeclinedBy how message a b faults.Protocol ⊎ IsOddWrite how message a b)
 
 pub record IsOddToWriter (how : How) (message : List ℕ) (t : Tag) (turns : List Turn) : Type 0 where
   pub used : ℕ

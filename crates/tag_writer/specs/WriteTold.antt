@@ -8,8 +8,7 @@ use Rattle.tag_reader.specs.declared.how.How.TheVariants.{T4}
 use Rattle.tag_reader.specs.declared.fault.ReadFault.{ReadFault}
 use Rattle.tag_reader.specs.declared.ground.Ground.{Ground}
 use Rattle.tag_reader.specs.declared.ground.Ground.TheVariants.{Area, File}
-use Rattle.tag_reader.specs.Heard.{IsFaultBy}
-use Rattle.tag_reader.specs.SurveyHeard.{IsSurveyedBy}
+use Rattle.tag_reader.specs.SurveyHeard.{IsSurveyedBy, IsUnsurveyedBy}
 use Rattle.tag_writer.specs.declared.fault.WriteFault.{WriteFault}
 use Rattle.tag_writer.specs.declared.fault.WriteFault.TheVariants as fault
 use Rattle.tag_writer.specs.declared.phase.Prepared.{Prepared}
@@ -53,7 +52,7 @@ pub record IsDeclinedBy (how : How) (message : List ℕ) (a b : LinkView) (e : W
 
 -- why nothing is written: by the answers to what is read first, or by the ground that they say
 abbrev pub IsUnplannedBy : How → List ℕ → LinkView → LinkView → WriteFault → Type 0
-IsUnplannedBy how message a b e = ((f : ReadFault) × (e ≡ of_read f) × IsFaultBy how a b f) ⊎ IsDeclinedBy how message a b e
+IsUnplannedBy how message a b e = ((f : ReadFault) × (e ≡ of_read f) × IsUnsurveyedBy how a b f) ⊎ IsDeclinedBy how message a b e
 
 -- what preparing a write tells
 abbrev pub TellsPlan : How → List ℕ → LinkView → LinkView → Result Prepared WriteFault → Type 0

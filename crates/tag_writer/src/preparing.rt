@@ -7,7 +7,6 @@ ghost use Rattle.tag_reader.specs.Heard.{IsOf};
 ghost use Rattle.tag_reader.specs.Kinds.{OfTag};
 ghost use Rattle.tag_reader.specs.Reading.{KeepsStore, AsksInOrder};
 ghost use Rattle.tag_writer.specs.Faults.{OnTold};
-ghost use Rattle.tag_writer.specs.Planning.{of_read};
 ghost use Rattle.tag_writer.specs.WriteTold.{TellsPlan};
 ghost use Rattle.tag_writer.specs.Writing.{IsPrepared, LeavesLink, LeavesUntaken, TellsCause, TellsInCalm};
 
@@ -16,26 +15,7 @@ use crate::phase::Prepared;
 use crate::planning::{plan_area, plan_file};
 use nfc_base::TagLink;
 use std::alloc::Global;
-use tag_reader::{Ground, How, ReadFault, survey};
-
-fn of_read(fault: ReadFault) -> WriteFault
-    ensures { result ≡ of_read fault }
-{
-    match fault {
-        ReadFault::NotNdef => WriteFault::NotNdef,
-        ReadFault::Version => WriteFault::Version,
-        ReadFault::NoRead => WriteFault::NoRead,
-        ReadFault::Sectors => WriteFault::Sectors,
-        ReadFault::BadSize => WriteFault::BadSize,
-        ReadFault::NoMessageTlv => WriteFault::NoMessageTlv,
-        ReadFault::BadTlv => WriteFault::BadTlv,
-        ReadFault::Refused(code) => WriteFault::Refused(code),
-        ReadFault::FieldLost => WriteFault::FieldLost,
-        ReadFault::SixBad => WriteFault::SixBad,
-        ReadFault::Memory => WriteFault::Memory,
-        ReadFault::Protocol => WriteFault::Protocol,
-    }
-}
+use tag_reader::{Ground, How, survey};
 
 /// Reads what a write needs to know, plans all contents and takes all memory. It writes nothing.
 pub fn prepare<T: TagLink>(
@@ -68,7 +48,7 @@ pub fn prepare<T: TagLink>(
     ensures moves { T.moves link.old link.new }
 {
     match survey(alloc, link, how) {
-        Err(fault) => Err(of_read(fault)),
+        Err(fault) => Err(WriteFault::from(fault)),
         Ok(Ground::Area { known, block, map }) => {
             plan_area(alloc, how, known.as_slice(), block, &map, message)
         }

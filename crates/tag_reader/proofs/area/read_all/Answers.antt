@@ -9,6 +9,7 @@ use Rattle.tag_reader.proofs.Looking.{of_under, next_number, looks_more}
 use Rattle.tag_reader.proofs.Endings.{ends_later}
 use Rattle.tag_reader.proofs.AreaSurveys.{left, brings_more}
 use Rattle.tag_reader.proofs.Surveys.{looks_all}
+use Rattle.tag_reader.proofs.Needing.{on_err, looks_needs}
 use Rattle.tag_reader.proofs.area.read_all.Goals as goal
 
 pub returns-in_err-space-clause-reads : goal.returns-in_err-space-clause-reads
@@ -93,3 +94,14 @@ returns-in_err-ask_next-clause-hears g c =
 
 pub returns-clause-hears : goal.returns-clause-hears
 returns-clause-hears g c = looks_all (g.T.TagLink.seen c.args.link.now) (g.T.TagLink.seen c.area.link) c.area.known.items c.in_ok-space.space c.area.index c.area.invariant.looks
+
+-- it asks for what it needs
+pub returns-in_err-space-clause-needs : goal.returns-in_err-space-clause-needs
+returns-in_err-space-clause-needs g c = on_err _ c.from_residual.result c.in_err-space.ensures.needs
+
+pub returns-in_err-ask_next-clause-needs : goal.returns-in_err-ask_next-clause-needs
+returns-in_err-ask_next-clause-needs g c =
+    let short : length c.area.known.items < c.in_ok-space.space.end = omega (arith, c.len.ensures, c.area-test.true) in
+    on_err _ c.from_residual-in_err-ask_next.result
+    (looks_needs (g.T.TagLink.seen c.args.link.now) (g.T.TagLink.seen c.area.link) (g.T.TagLink.seen c.ask_next.new.link) c.area.known.items c.in_ok-space.space c.area.index c.area.invariant.looks short
+    c.in_err-ask_next.ensures.cut)

@@ -8,6 +8,7 @@ use Rattle.tag_reader.proofs.BlockEndings.{names_more, names_begins}
 use Rattle.tag_reader.proofs.AreaSurveys.{area_due, all_is_known, tag_is_known, cut_area, still_of}
 use Rattle.tag_reader.proofs.Filing.{or_fault}
 use Rattle.tag_reader.proofs.Surveys.{blocks_all, blocks_ended}
+use Rattle.tag_reader.proofs.Needing.{on_err, blocks_needs}
 use Rattle.tag_reader.proofs.area.read_to_end.Goals as goal
 
 pub returns-in_err-goes_on-clause-reads : goal.returns-in_err-goes_on-clause-reads
@@ -96,3 +97,10 @@ returns-then-not-goes_on-clause-hears g c a begun =
 
 pub returns-clause-hears : goal.returns-clause-hears
 returns-clause-hears g c a begun = blocks_all c.args.id a (g.T.TagLink.seen c.area.link) c.area.known c.args.space (c.area.invariant.seen a begun) c.area.invariant.names
+
+-- it asks for what it needs
+pub returns-in_err-goes_on-clause-needs : goal.returns-in_err-goes_on-clause-needs
+returns-in_err-goes_on-clause-needs g c a begun =
+    let short : length c.area.known.bytes.items < c.args.space.end = omega (arith, c.len.ensures, c.area-test.true) in
+    on_err _ c.from_residual.result
+    (blocks_needs c.args.id a (g.T.TagLink.seen c.area.link) (g.T.TagLink.seen c.ask_blocks.new.link) c.area.known c.args.space (c.area.invariant.seen a begun) c.area.invariant.names short c.in_err-goes_on.ensures.cut)

@@ -1,9 +1,11 @@
 use Rattle.std.proofs.Common.{rules, ℕ, List, [], ◌∷◌, ◌++◌, length, refl, sym, ◌∙◌, ap, arith}
+use Rattle.nfc_base.specs.TagLinks.{LinkView}
 use Rattle.tag_reader.specs.FileSteps.{EndsBy}
 use Rattle.tag_reader.proofs.FileReading.{head_due, selected_file, length_told, too_long}
 use Rattle.tag_reader.specs.declared.how.How.TheVariants.{T4}
 use Rattle.tag_reader.specs.Heard.{IsFaultBy}
 use Rattle.tag_reader.proofs.Filing.{opened_room, selects, measures, measured, file_too_long}
+use Rattle.tag_reader.proofs.Needing.{on_err, opened_needs, selected_needs, none_needs}
 use Rattle.tag_reader.proofs.file.read_length.Goals as goal
 
 pub returns-in_err-ask_file-clause-measures : goal.returns-in_err-ask_file-clause-measures
@@ -80,3 +82,18 @@ returns-then-length-map-clause-moves g c = g.met.T.TagLink.goes_on c.args.link.n
 
 pub returns-clause-moves : goal.returns-clause-moves
 returns-clause-moves g c = g.met.T.TagLink.goes_on c.args.link.now c.ask_file.new.link c.ask_file-2.new.link c.in_ok-ask_file.ensures.moves c.in_ok-bytes.ensures.moves
+
+-- it asks for what it needs
+pub returns-in_err-ask_file-clause-needs : goal.returns-in_err-ask_file-clause-needs
+returns-in_err-ask_file-clause-needs g c a o =
+    on_err _ c.from_residual.result (opened_needs a (g.T.TagLink.seen c.args.link.now) (g.T.TagLink.seen c.ask_file.new.link) c.args.map o c.in_err-ask_file.ensures.cut)
+
+pub returns-in_err-bytes-clause-needs : goal.returns-in_err-bytes-clause-needs
+returns-in_err-bytes-clause-needs g c a o =
+    let old : LinkView = g.T.TagLink.seen c.args.link.now in
+    let first = c.in_ok-ask_file.ensures.brings a o.ps o.under (selects a old c.args.map o) in
+    on_err _ c.from_residual-in_err-bytes.result
+    (selected_needs a old (g.T.TagLink.seen c.ask_file-2.new.link) c.args.map c.in_ok-ask_file.field-0.items o (g.T.TagLink.seen c.ask_file.new.link) first c.in_err-bytes.ensures.cut)
+
+pub returns-then-length-map-clause-needs : goal.returns-then-length-map-clause-needs
+returns-then-length-map-clause-needs g c a o = none_needs T4 a (g.T.TagLink.seen c.ask_file-2.new.link) _ (returns-then-length-map-clause-brings g c a o)

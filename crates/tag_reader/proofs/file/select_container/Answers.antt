@@ -6,6 +6,7 @@ use Rattle.tag_reader.specs.declared.how.How.TheVariants.{T4}
 use Rattle.tag_reader.specs.Heard.{IsFaultBy}
 use Rattle.tag_reader.proofs.Bringing.{under_none}
 use Rattle.tag_reader.proofs.Looking.{of_under}
+use Rattle.tag_reader.proofs.Needing.{on_err, few_needs}
 use Rattle.tag_reader.proofs.file.select_container.Goals as goal
 
 pub returns-in_err-ask_file-clause-selects : goal.returns-in_err-ask_file-clause-selects
@@ -55,3 +56,16 @@ returns-clause-brings g c =
       container = c.in_ok-ask_file-2.field-0.items;
       under = c.in_ok-ask_file-2.ensures.brings a (c.in_ok-ask_file.field-0.items ∷ []) first refl;
     }
+
+-- it asks for what it needs
+pub returns-in_err-ask_file-clause-needs : goal.returns-in_err-ask_file-clause-needs
+returns-in_err-ask_file-clause-needs g c =
+    let a : LinkView = g.T.TagLink.seen c.args.link.now in
+    on_err _ c.from_residual.result (few_needs a a (g.T.TagLink.seen c.ask_file.new.link) [] (under_none T4 a) (omega arith) c.in_err-ask_file.ensures.cut)
+
+pub returns-in_err-ask_file-2-clause-needs : goal.returns-in_err-ask_file-2-clause-needs
+returns-in_err-ask_file-2-clause-needs g c =
+    let a : LinkView = g.T.TagLink.seen c.args.link.now in
+    let first = c.in_ok-ask_file.ensures.brings a [] (under_none T4 a) refl in
+    on_err _ c.from_residual-in_err-ask_file-2.result
+    (few_needs a (g.T.TagLink.seen c.ask_file.new.link) (g.T.TagLink.seen c.ask_file-2.new.link) (c.in_ok-ask_file.field-0.items ∷ []) first (omega arith) c.in_err-ask_file-2.ensures.cut)

@@ -8,6 +8,8 @@ use Rattle.tag_reader.specs.declared.how.How.TheVariants.{T2}
 use Rattle.tag_reader.specs.Reading.{IsFound}
 use Rattle.tag_reader.specs.Steps.{IsRead}
 use Rattle.tag_reader.proofs.Endings.{read_ended}
+use Rattle.tag_reader.specs.declared.fault.ReadFault.TheVariants as fault
+use Rattle.tag_reader.proofs.Exits.{exit_is}
 use Rattle.tag_reader.proofs.reader.read_area.Goals as goal
 
 pub returns-in_err-map-clause-reads : goal.returns-in_err-map-clause-reads
@@ -16,10 +18,11 @@ returns-in_err-map-clause-reads g c size is =
     read_ended T2 size _ _ c.find_map.new.known.items c.in_err-map.field-0.0 (c.in_err-map.ensures.reads size is) in
     search rules
 
-pub returns-in-Err-clause-reads : goal.returns-in-Err-clause-reads
-returns-in-Err-clause-reads g c size is =
+pub returns-in_err-message-clause-reads : goal.returns-in_err-message-clause-reads
+returns-in_err-message-clause-reads g c size is =
+    let a : LinkView = g.T.TagLink.seen c.args.link.now in
     let r = c.in_ok-map.ensures.reads size is in
-    record {
+    subst (λ x. IsRead T2 size a (g.T.TagLink.seen c.find_map.new.link) x) (sym (exit_is c.from_residual-in_err-message.result fault.Memory c.from_residual-in_err-message.ensures.1)) (record {
       stays = r.stays;
       asked = r.asked;
       whole = λ told. absurd (let clash : false ≡ true = told in cc);
@@ -27,14 +30,14 @@ returns-in-Err-clause-reads g c size is =
       ok = tt;
       err = inl r.goes_on.over;
       calm = λ quiet. inr refl;
-    }
+    })
 
 pub returns-clause-reads : goal.returns-clause-reads
 returns-clause-reads g c size is =
     let a : LinkView = g.T.TagLink.seen c.args.link.now in
     let r = c.in_ok-map.ensures.reads size is in
-    let bytes : c.in-Ok.message.items ≡ bytes_at c.find_map.new.known.items (message_cells c.in_ok-map.map) =
-    c.in-Ok.ensures.bytes ∙ ap (λ xs. bytes_at xs (message_cells c.in_ok-map.map)) c.as_slice.ensures.value in
+    let bytes : c.in_ok-message.message.items ≡ bytes_at c.find_map.new.known.items (message_cells c.in_ok-map.map) =
+    c.in_ok-message.ensures.bytes ∙ ap (λ xs. bytes_at xs (message_cells c.in_ok-map.map)) c.as_slice.ensures.value in
     record {
       stays = r.stays;
       asked = r.asked;

@@ -2,7 +2,7 @@ use Rattle.std.proofs.Common.{rules, ◌≡◌, length, arith, refl, sym, ◌∙
 use Rattle.std.proofs.lemmas.List.{length-take-le}
 use Rattle.nfc_base.specs.TagLinks.{LinkView}
 use Rattle.tag_reader.specs.declared.how.How.TheVariants.{T2}
-use Rattle.tag_reader.specs.Heard.{IsFaultBy}
+use Rattle.tag_reader.specs.SurveyHeard.{IsUnsurveyedBy}
 use Rattle.tag_reader.specs.SurveySteps.{IsSurveyMade}
 use Rattle.tag_reader.proofs.Endings.{read_ended}
 use Rattle.tag_reader.proofs.Grounds.{made, area_grounded}
@@ -40,7 +40,8 @@ ground_in-requires-clause-blocks g c =
 
 pub returns-in_err-space-clause-told : goal.returns-in_err-space-clause-told
 returns-in_err-space-clause-told g c =
-    let h : IsFaultBy T2 (g.T.TagLink.seen c.args.link.now) (g.T.TagLink.seen c.read_all.new.link) c.in_err-space.field-0.0 = c.in_err-space.ensures.hears in
+    let h : IsUnsurveyedBy T2 (g.T.TagLink.seen c.args.link.now) (g.T.TagLink.seen c.read_all.new.link) c.in_err-space.field-0.0 =
+    record { by = c.in_err-space.ensures.hears; needs = c.in_err-space.ensures.needs } in
     search rules
 
 pub returns-clause-told : goal.returns-clause-told

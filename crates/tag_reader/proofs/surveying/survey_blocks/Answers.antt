@@ -5,7 +5,7 @@ use Rattle.tag_reader.specs.Asked.{ToWrite}
 use Rattle.tag_reader.specs.SurveySteps.{IsSurveyMade}
 use Rattle.tag_reader.proofs.Endings.{read_ended}
 use Rattle.tag_reader.proofs.Grounds.{made, blocks_grounded}
-use Rattle.tag_reader.specs.Heard.{IsFaultBy}
+use Rattle.tag_reader.specs.SurveyHeard.{IsUnsurveyedBy}
 use Rattle.tag_reader.proofs.Surveys.{t5_blocks, ground_told}
 use Rattle.tag_reader.proofs.surveying.survey_blocks.Goals as goal
 
@@ -54,13 +54,15 @@ ground_in-requires-clause-blocks g c =
 
 pub returns-in_err-named-clause-told : goal.returns-in_err-named-clause-told
 returns-in_err-named-clause-told g c =
-    let h : IsFaultBy (T5 c.args.id) (g.T.TagLink.seen c.args.link.now) (g.T.TagLink.seen c.open_area.new.link) c.in_err-named.field-0.0 = c.in_err-named.ensures.sees in
+    let h : IsUnsurveyedBy (T5 c.args.id) (g.T.TagLink.seen c.args.link.now) (g.T.TagLink.seen c.open_area.new.link) c.in_err-named.field-0.0 =
+    record { by = c.in_err-named.ensures.sees; needs = c.in_err-named.ensures.needs } in
     search rules
 
 pub returns-in_err-space-clause-told : goal.returns-in_err-space-clause-told
 returns-in_err-space-clause-told g c =
     let a : LinkView = g.T.TagLink.seen c.args.link.now in
-    let h : IsFaultBy (T5 c.args.id) a (g.T.TagLink.seen c.read_to_end.new.link) c.in_err-space.field-0.0 = c.in_err-space.ensures.hears a c.in_ok-named.ensures.sees in
+    let h : IsUnsurveyedBy (T5 c.args.id) a (g.T.TagLink.seen c.read_to_end.new.link) c.in_err-space.field-0.0 =
+    record { by = c.in_err-space.ensures.hears a c.in_ok-named.ensures.sees; needs = c.in_err-space.ensures.needs a c.in_ok-named.ensures.sees } in
     search rules
 
 pub returns-clause-told : goal.returns-clause-told

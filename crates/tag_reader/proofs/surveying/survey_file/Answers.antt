@@ -5,7 +5,7 @@ use Rattle.tag_reader.specs.Asked.{ToWrite}
 use Rattle.tag_reader.specs.SurveySteps.{IsSurveyMade}
 use Rattle.tag_reader.proofs.FileReading.{is_ended}
 use Rattle.tag_reader.proofs.Grounds.{file_made}
-use Rattle.tag_reader.specs.Heard.{IsFaultBy}
+use Rattle.tag_reader.specs.SurveyHeard.{IsUnsurveyedBy}
 use Rattle.tag_reader.proofs.Surveys.{file_told}
 use Rattle.tag_reader.proofs.surveying.survey_file.Goals as goal
 
@@ -31,13 +31,15 @@ returns-clause-surveys g c size is =
 -- whatever the tag does
 pub returns-in_err-map-clause-told : goal.returns-in_err-map-clause-told
 returns-in_err-map-clause-told g c =
-    let h : IsFaultBy T4 (g.T.TagLink.seen c.args.link.now) (g.T.TagLink.seen c.read_container.new.link) c.in_err-map.field-0.0 = c.in_err-map.ensures.brings in
+    let h : IsUnsurveyedBy T4 (g.T.TagLink.seen c.args.link.now) (g.T.TagLink.seen c.read_container.new.link) c.in_err-map.field-0.0 =
+    record { by = c.in_err-map.ensures.brings; needs = c.in_err-map.ensures.needs } in
     search rules
 
 pub returns-in_err-length-clause-told : goal.returns-in_err-length-clause-told
 returns-in_err-length-clause-told g c =
     let a : LinkView = g.T.TagLink.seen c.args.link.now in
-    let h : IsFaultBy T4 a (g.T.TagLink.seen c.read_length.new.link) c.in_err-length.field-0.0 = c.in_err-length.ensures.brings a c.in_ok-map.ensures.brings in
+    let h : IsUnsurveyedBy T4 a (g.T.TagLink.seen c.read_length.new.link) c.in_err-length.field-0.0 =
+    record { by = c.in_err-length.ensures.brings a c.in_ok-map.ensures.brings; needs = c.in_err-length.ensures.needs a c.in_ok-map.ensures.brings } in
     search rules
 
 pub returns-clause-told : goal.returns-clause-told

@@ -46,7 +46,7 @@ pub returns-in-Err-clause-err : goal.returns-in-Err-clause-err
 returns-in-Err-clause-err g c size is =
     let a : LinkView = g.T.TagLink.seen c.args.link.now in
     let b : LinkView = g.T.TagLink.seen c.survey.new.link in
-    subst (IsWriteFault c.args.how size c.args.message.now a b) (sym c.of_read.ensures)
+    subst (IsWriteFault c.args.how size c.args.message.now a b) (sym c.from.ensures)
     (read_cause c.args.how size c.args.message.now a b c.in-Err.fault (c.in-Err.ensures.asked size is) (c.in-Err.ensures.err size is))
 
 pub returns-in-Ok-Area-clause-err : goal.returns-in-Ok-Area-clause-err
@@ -62,7 +62,7 @@ returns-in-Ok-Area-clause-err g c size is =
 
 pub returns-in-Err-clause-untaken : goal.returns-in-Err-clause-untaken
 returns-in-Err-clause-untaken g c size is t =
-    let e : c.of_read.result ≡ of_read c.in-Err.fault = c.of_read.ensures in
+    let e : c.from.result ≡ of_read c.in-Err.fault = c.from.ensures in
     read_takes_not c.args.how size c.args.message.now (g.T.TagLink.seen c.args.link.now) (g.T.TagLink.seen c.survey.new.link) c.in-Err.fault (c.in-Err.ensures.err size is)
     (ap is_told (sym e) ∙ t)
 
@@ -156,7 +156,7 @@ plan_file-requires g c =
     record { named = (s.ground'.file.head, s.ground'.file.names) }
 
 pub returns-in-Err-clause-told : goal.returns-in-Err-clause-told
-returns-in-Err-clause-told g c = inl (c.in-Err.fault, c.of_read.ensures, c.in-Err.ensures.told)
+returns-in-Err-clause-told g c = inl (c.in-Err.fault, c.from.ensures, c.in-Err.ensures.told)
 
 pub returns-in-Ok-Area-clause-told : goal.returns-in-Ok-Area-clause-told
 returns-in-Ok-Area-clause-told g c =

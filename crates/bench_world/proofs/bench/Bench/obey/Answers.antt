@@ -72,6 +72,7 @@ invariant_of-self-in-Ok-run_command c = λ sound.
     let m : Machines = c.self.inside.machines in
     let n : Machines = c.run_command.new.machines in
     let before = c.self.invariant c.if-self.false in
-    subst (λ (x : Machines). IsSettled x × CutsWell (state_at x)) (sym c.take_trace.ensures.left)
-    (settled_untraced (joins_for c.args.command.now c.most-joins.result) m n c.args.command.now c.in-Ok-run_command.answer before.0 c.in-Ok-run_command.ensures.ok,
-    untraced_cuts (joins_for c.args.command.now c.most-joins.result) m n c.args.command.now c.in-Ok-run_command.answer before.1 c.in-Ok-run_command.ensures.ok)
+    subst (λ (x : Machines). IsSettled x × CutsWell (state_at x)) (sym c.take_trace.ensures.left) (
+      settled_untraced (joins_for c.args.command.now c.most-joins.result) m n c.args.command.now c.in-Ok-run_command.answer before.0 c.in-Ok-run_command.ensures.ok,
+      untraced_cuts (joins_for c.args.command.now c.most-joins.result) m n c.args.command.now c.in-Ok-run_command.answer before.1 c.in-Ok-run_command.ensures.ok,
+    )

@@ -1,5 +1,5 @@
 use Rattle.link_numbers.proofs.OwnShown as shown
-use Rattle.link_numbers.proofs.law.numbers_show.Goals as goal
+use Rattle.link_numbers.proofs.law.calls_show.Goals as goal
 
 pub returns-clause-own : goal.returns-clause-own
 returns-clause-own c = shown.own_shows

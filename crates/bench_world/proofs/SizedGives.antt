@@ -1,0 +1,328 @@
+-- An end that asks for no connection itself, and whose payloads are short, goes on so: whatever it takes and gives.
+use Rattle.std.proofs.Common.{◌≡◌, ◌≤◌, ◌+◌, ◌-◌, ◌*◌, ◌/◌, ◌==◌, ◌&&◌, nat_lt, nat_le, ℕ, zero, suc, Bool, true, false, not, List, [], ◌∷◌, ◌++◌, length, take, Option, Some, None, if◌then◌else◌, arith, refl, sym, ap, subst, length-append}
+use Rattle.std.specs.Prelude.{IfSome}
+use Rattle.std.specs.List.{AllByRecursion, cons_option, filter_map}
+use Rattle.llcp_pdu.specs.declared.param.Param.{Param}
+use Rattle.llcp_pdu.specs.declared.param.Param.TheVariants.{Miux, Rw, SdReq}
+use Rattle.llcp_pdu.specs.declared.part.Part.{Part}
+use Rattle.llcp_pdu.specs.declared.part.Part.TheVariants.{Symm, Ui, Connect, Disc, Cc, Dm, Frmr, Snl, Info, Rr, Rnr}
+use Rattle.llcp_pdu.specs.General.{miu_by}
+use Rattle.llcp_pdu.specs.Params.{last_of, miux_in}
+use Rattle.llcp_pdu.specs.Wire.{least_miu, rr_type, rnr_type}
+use Rattle.llcp_pdu.specs.Writing.{params_bytes, part_bytes, parts_bytes, inner_bytes}
+use Rattle.llcp_conn.specs.declared.conn.Taken.{Taken}
+use Rattle.llcp_conn.specs.declared.conn.Taken.TheVariants as taking
+use Rattle.llcp_conn.specs.Conn as conn
+use Rattle.llcp_conn.specs.Conn.{ConnState, Took, fresh, gives, gives_ack, gives_from, queued, report, takes}
+use Rattle.llcp_link.specs.Serving.{Serving}
+use Rattle.llcp_link.specs.State.{LlcState, OwnState, Queued, Holder, Nobody, Served, Asked, conn_from, holder, own_from, own_holder, served_holder, sap_count, with_conn, without_conn}
+use Rattle.llcp_link.specs.Names.{answer_to, answers_to, miu_of, name_of, own_params, reached, rw_of, told_all}
+use Rattle.llcp_link.specs.Taking as t
+use Rattle.llcp_link.specs.Taking.{Item, Good, Broken, brought, step, steps, taken_from}
+use Rattle.llcp_link.specs.Giving as g
+use Rattle.llcp_link.specs.Giving.{Gave, GaveAll, after_giving, first_from, gave, gave_first, gave_none, given, given_parts, given_so, joined, joined_so, may_send, or_else, others, payload_of, sap_after}
+use Rattle.llcp_link.proofs.Ranged.{either}
+use Rattle.link_numbers.proofs.Payload.{given_fit}
+use Rattle.bench_world.specs.Cutting.{ConnShort, GivesShort, QueuedShort}
+use Rattle.bench_world.proofs.SizedEnds.{IsLess}
+use Rattle.bench_world.proofs.SizedItems.{ItemSmall, brought_small}
+use Rattle.bench_world.proofs.SizedWorld.{all_more}
+
+-- connections
+found_short : (s : ℕ) (cs : List ConnState) → AllByRecursion ConnShort cs → IfSome (conn_from s cs) ConnShort
+found_short s [] h = tt
+found_short s (c ∷ cs) h = either (λ o. IfSome o ConnShort) (c.there == s) (Some c) (conn_from s cs) (λ e. h.0) (λ e. found_short s cs h.1)
+
+with_short : (c : ConnState) (cs : List ConnState) → ConnShort c → AllByRecursion ConnShort cs → AllByRecursion ConnShort (with_conn c cs)
+with_short c [] k h = tt
+with_short c (d ∷ ds) k h =
+    either {X = List ConnState} (AllByRecursion ConnShort) (d.there == c.there) (c ∷ ds) (d ∷ with_conn c ds) (λ e. (k, h.1)) (λ e. (h.0, with_short c ds k h.1))
+
+without_short : (s : ℕ) (cs : List ConnState) → AllByRecursion ConnShort cs → AllByRecursion ConnShort (without_conn s cs)
+without_short s [] h = tt
+without_short s (c ∷ cs) h = either {X = List ConnState} (AllByRecursion ConnShort) (c.there == s) cs (c ∷ without_conn s cs) (λ e. h.1) (λ e. (h.0, without_short s cs h.1))
+
+-- what a connection takes leaves it so
+unit_takes : (c : ConnState) (ns nr : ℕ) (xs : List ℕ) → ConnShort c → ConnShort (conn.takes_unit c ns nr xs).conn
+unit_takes c ns nr xs h =
+    either {X = Took} (λ x. ConnShort x.conn) (nat_lt c.near_miu (length xs)) _ _ (λ e. h)
+    (λ e. either {X = Took} (λ x. ConnShort x.conn) (conn.is_outside c nr) _ _ (λ e. h) (λ e. either {X = Took} (λ x. ConnShort x.conn) (ns == c.vr) _ _ (λ e. h) (λ e. h)))
+
+nr_takes : (c : ConnState) (ptype nr : ℕ) (held : Bool) → ConnShort c → ConnShort (conn.takes_nr c ptype nr held).conn
+nr_takes c ptype nr held h = either {X = Took} (λ x. ConnShort x.conn) (conn.is_outside c nr) _ _ (λ e. h) (λ e. h)
+
+-- who has a connection; none that this end asked for
+abbrev HolderShort : Holder → Type 0
+HolderShort Nobody = Unit {0}
+HolderShort (Served c) = ConnShort c
+HolderShort (Asked o c) = ⊥
+
+holds_short : (d : ℕ) (q : Option ConnState) (x : Holder) → IfSome q ConnShort → HolderShort x → HolderShort (served_holder d q x)
+holds_short d None x h k = k
+holds_short d (Some c) x h k = either {X = Holder} HolderShort (c.here == d) (Served c) x (λ e. h) (λ e. k)
+
+-- how long PDUs are that an end answers with
+dm_short : (d s r : ℕ) → length (part_bytes (Dm d s r)) ≤ 2178
+dm_short d s r = omega arith
+
+frmr_short : (d s : ℕ) (r : _) → length (part_bytes (Frmr d s r)) ≤ 2178
+frmr_short d s r = omega arith
+
+-- what tells a service's SAP has four bytes
+abbrev IsRes : Param → Type 0
+IsRes p = length (params_bytes (p ∷ [])) ≡ 4
+
+told_res : (bound : List _) (p : Param) (more : List Param) → AllByRecursion IsRes more → AllByRecursion IsRes (cons_option (answer_to bound p) more)
+told_res bound (SdReq tid name) more h = (refl, h)
+told_res bound p more h = h
+
+all_res : (bound : List _) (ps : List Param) → AllByRecursion IsRes (filter_map (answer_to bound) ps)
+all_res bound [] = tt
+all_res bound (p ∷ ps) = told_res bound p (filter_map (answer_to bound) ps) (all_res bound ps)
+
+res_long : (n : ℕ) (ps : List Param) → AllByRecursion IsRes ps → length (params_bytes (take n ps)) ≤ 4 * n
+res_long zero ps h = omega arith
+res_long (suc n) [] h = omega arith
+res_long (suc n) (p ∷ ps) h = (let one : length (params_bytes (p ∷ [])) ≡ 4 = h.0 in let more = res_long n ps h.1 in omega (arith, length-append {A = ℕ}))
+
+-- what an end says of itself where it accepts a connection
+own_long : (miu window : ℕ) → length (params_bytes (own_params miu window)) ≤ 7
+own_long miu window =
+    either {X = List Param} (λ xs. length (params_bytes (xs ++ (if window == 1 then [] else Rw window ∷ []))) ≤ 7) (miu == least_miu) [] (Miux (miu - least_miu) ∷ [])
+    (λ e. either {X = List Param} (λ ys. length (params_bytes ys) ≤ 7) (window == 1) [] (Rw window ∷ []) (λ e. omega arith) (λ e. omega arith))
+    (λ e. either {X = List Param} (λ ys. length (params_bytes (Miux (miu - least_miu) ∷ ys)) ≤ 7) (window == 1) [] (Rw window ∷ []) (λ e. omega arith) (λ e. omega arith))
+
+-- the MIU that a CONNECT says
+miu_short : (ps : List Param) → IfSome (last_of miux_in ps) IsLess → miu_of ps ≤ 2175
+miu_short ps h = go (last_of miux_in ps) h
+  where
+    go : (o : Option ℕ) → IfSome o IsLess → miu_by least_miu o ≤ 2175
+    go None k = omega arith
+    go (Some n) k = omega arith
+
+module _ {S : Type 0} where
+  -- this end asked for no connection
+  holder_short : (l : LlcState S) (d s : ℕ) → GivesShort l → HolderShort (holder l d s)
+  holder_short l d s h =
+      holds_short d (conn_from s l.served) (own_holder s (own_from d l.own)) (found_short s l.served h.served)
+      (subst (λ os. HolderShort (own_holder s (own_from d os))) (sym h.own) tt)
+
+  none_own : (l : LlcState S) (d : ℕ) → GivesShort l → own_from d l.own ≡ None
+  none_own l d h = ap (own_from d) h.own
+
+  -- an answer that waits
+  answered_short : (l : LlcState S) (p : Part) → length (part_bytes p) ≤ 2178 → GivesShort l → GivesShort (t.answered l p)
+  answered_short l p k h =
+      either {X = LlcState S} (λ x. GivesShort x) (t.is_full l) l _ (λ e. h)
+      (λ e. record { miu = h.miu; queue = all_more QueuedShort l.queue _ h.queue k; served = h.served; own = h.own })
+
+  -- a connection ends
+  ends_short : (l : LlcState S) (x : Holder) → HolderShort x → GivesShort l → GivesShort (t.ends l x)
+  ends_short l Nobody k h = h
+  ends_short l (Served c) k h = record { miu = h.miu; queue = h.queue; served = without_short c.there l.served h.served; own = h.own }
+  ends_short l (Asked o c) k h = absurd k
+
+  leaves_short : (l : LlcState S) (d s : ℕ) (x : Holder) → HolderShort x → GivesShort l → GivesShort (t.leaves l d s x)
+  leaves_short l d s Nobody k h = answered_short l _ (dm_short s d t.not_connected) h
+  leaves_short l d s (Served c) k h = answered_short (t.ends l (Served c)) _ (dm_short s d t.disconnected) (ends_short l (Served c) k h)
+  leaves_short l d s (Asked o c) k h = absurd k
+
+  breaks_short : (l : LlcState S) (ty q : ℕ) (x : Holder) → HolderShort x → GivesShort l → GivesShort (t.breaks l ty q x)
+  breaks_short l ty q Nobody k h = h
+  breaks_short l ty q (Served c) k h =
+      answered_short (t.ends l (Served c)) _ (frmr_short c.there c.here (report c t.flag_w ty q)) (ends_short l (Served c) k h)
+  breaks_short l ty q (Asked o c) k h = absurd k
+
+  awaited_short : (l : LlcState S) (s : ℕ) (f : OwnState → LlcState S) (q : Option OwnState) → q ≡ None → GivesShort l → GivesShort (t.awaited l s f q)
+  awaited_short l s f None e h = h
+  awaited_short l s f (Some o) e h = absurd cc
+
+  -- service discovery
+  tells_short : (l : LlcState S) (ps : List Param) → length (params_bytes ps) ≤ 2176 → GivesShort l → GivesShort (t.tells l ps)
+  tells_short l [] k h = h
+  tells_short l (p ∷ ps) k h = answered_short l (Snl (p ∷ ps)) (let z : length (part_bytes (Snl (p ∷ ps))) ≤ 2178 = omega arith in z) h
+
+  discovers_short : (l : LlcState S) (ps : List Param) → GivesShort l → GivesShort (t.discovers l ps)
+  discovers_short l ps h =
+      let few : length (params_bytes (answers_to l.bound (l.far_miu / 4) ps)) ≤ 4 * (l.far_miu / 4) = res_long (l.far_miu / 4) (filter_map (answer_to l.bound) ps) (all_res l.bound ps) in
+      let miu : l.far_miu ≤ 2176 = h.miu in
+      tells_short (record l { lookups = told_all ps l.lookups }) (answers_to l.bound (l.far_miu / 4) ps) (omega (arith, few, miu))
+      (record { miu = h.miu; queue = h.queue; served = h.served; own = h.own })
+
+  -- a connection is asked for
+  refused_short : (l : LlcState S) (d s : ℕ) (q : Option ℕ) → GivesShort l → GivesShort (t.refused_at l d s q)
+  refused_short l d s None h = answered_short l _ (dm_short s d t.no_service) h
+  refused_short l d s (Some sap) h = answered_short l _ (dm_short s sap t.busy) h
+
+module _ {S : Type 0} (m : Serving S) where
+  connects_short : (l : LlcState S) (d s : ℕ) (ps : List Param) (q : Option ℕ) → IfSome (last_of miux_in ps) IsLess → GivesShort l → GivesShort (t.connects_to m l d s ps q)
+  connects_short l d s ps (Some sap) k h =
+      let long = own_long l.miu l.window in
+      record {
+        miu = h.miu;
+        queue = all_more QueuedShort l.queue _ h.queue (let z : length (part_bytes (Cc s sap (own_params l.miu l.window))) ≤ 2178 = omega (arith, long) in z);
+        served = all_more ConnShort l.served (fresh sap s l.miu (miu_of ps) (rw_of ps)) h.served (miu_short ps k, refl);
+        own = h.own;
+      }
+  connects_short l d s ps None k h =
+      either {X = LlcState S} (λ x. GivesShort x) (rw_of ps == 0) (t.answered l (Dm s d t.not_taken)) (t.refused_at l d s (reached l.bound d (name_of ps)))
+      (λ e. answered_short l _ (dm_short s d t.not_taken) h) (λ e. refused_short l d s (reached l.bound d (name_of ps)) h)
+
+  -- what a PDU does to one
+  served_short : (l : LlcState S) (c : ConnState) (x : Taken) → ConnShort c → GivesShort l → GivesShort (t.served_so m l c x)
+  served_short l c taking.Nothing k h = record { miu = h.miu; queue = h.queue; served = with_short c l.served k h.served; own = h.own }
+  served_short l c (taking.Unit u) k h = record { miu = h.miu; queue = h.queue; served = with_short c l.served k h.served; own = h.own }
+  served_short l c (taking.Closed r) k h = answered_short (t.ends l (Served c)) _ (frmr_short c.there c.here r) (ends_short l (Served c) k h)
+
+  numbered_short : (l : LlcState S) (f : ConnState → Took) (d s : ℕ) (x : Holder) → ((c : ConnState) → ConnShort c → ConnShort (f c).conn) → HolderShort x → GivesShort l
+      → GivesShort (t.numbered m l f d s x)
+  numbered_short l f d s Nobody each k h = answered_short l _ (dm_short s d t.not_connected) h
+  numbered_short l f d s (Served c) each k h = served_short l (f c).conn (f c).does (each c k) h
+  numbered_short l f d s (Asked o c) each k h = absurd k
+
+  -- all PDUs of a payload
+  step_short : (l : LlcState S) (i : Item) → ItemSmall i → GivesShort l → GivesShort (step m l i)
+  step_short l (Good Symm) k h = h
+  step_short l (Good (Ui d s info)) k h = h
+  step_short l (Good (Connect d s ps)) k h =
+      either {X = LlcState S} (λ x. GivesShort x) (t.is_full l) l (t.connects_to m l d s ps (t.accepted l d s ps)) (λ e. h) (λ e. connects_short l d s ps (t.accepted l d s ps) k h)
+  step_short l (Good (Cc d s ps)) k h = awaited_short l s (λ o. t.heard_cc l o ps o.is) (own_from d l.own) (none_own l d h) h
+  step_short l (Good (Dm d s r)) k h = awaited_short l s (λ o. t.heard_dm l o o.is) (own_from d l.own) (none_own l d h) h
+  step_short l (Good (Disc d s)) k h = leaves_short l d s (holder l d s) (holder_short l d s h) h
+  step_short l (Good (Frmr d s r)) k h = ends_short l (holder l d s) (holder_short l d s h) h
+  step_short l (Good (Snl ps)) k h = discovers_short l ps h
+  step_short l (Good (Info d s ns nr xs)) k h = numbered_short l (λ c. takes c (Info d s ns nr xs)) d s (holder l d s) (λ c x. unit_takes c ns nr xs x) (holder_short l d s h) h
+  step_short l (Good (Rr d s nr)) k h = numbered_short l (λ c. takes c (Rr d s nr)) d s (holder l d s) (λ c x. nr_takes c rr_type nr false x) (holder_short l d s h) h
+  step_short l (Good (Rnr d s nr)) k h = numbered_short l (λ c. takes c (Rnr d s nr)) d s (holder l d s) (λ c x. nr_takes c rnr_type nr true x) (holder_short l d s h) h
+  step_short l (Broken ty d s q) k h = breaks_short l ty q (holder l d s) (holder_short l d s h) h
+
+  steps_short : (l : LlcState S) (is : List Item) → AllByRecursion ItemSmall is → GivesShort l → GivesShort (steps m l is)
+  steps_short l [] k h = h
+  steps_short l (i ∷ is) k h = steps_short (step m l i) is k.1 (step_short l i k.0 h)
+
+  -- it takes a payload
+  pub taken_short : (l : LlcState S) (b : List ℕ) → GivesShort l → GivesShort (taken_from m l b)
+  taken_short l b h = steps_short l (brought l b) (brought_small l b) h
+
+  -- a PDU that is given
+  abbrev GaveShort : Gave S → Type 0
+  GaveShort x = GivesShort x.llc × (length (part_bytes x.part) ≤ 2178)
+
+  else_short : (a b : Option (Gave S)) → IfSome a GaveShort → IfSome b GaveShort → IfSome (or_else a b) GaveShort
+  else_short None b h k = k
+  else_short (Some x) b h k = h
+
+  round_short : (n s : ℕ) (f : ℕ → Option (Gave S)) → ((s : ℕ) → IfSome (f s) GaveShort) → IfSome (first_from n s f) GaveShort
+  unfolding first_from
+  round_short zero s f all = tt
+  round_short (suc n) s f all = else_short (f s) (first_from n (sap_after s) f) (all s) (round_short n (sap_after s) f all)
+
+  -- of a connection
+  abbrev PduShort : ConnState → Part → Type 0
+  PduShort c p = ConnShort c × (length (part_bytes p) ≤ 2178)
+
+  conn_gives : (l : LlcState S) (c : ConnState) (q : Option Part) → IfSome q (PduShort c) → GivesShort l → IfSome (g.gave_conn l c q) GaveShort
+  conn_gives l c None k h = tt
+  conn_gives l c (Some p) k h = (record { miu = h.miu; queue = h.queue; served = with_short c l.served k.0 h.served; own = h.own }, k.1)
+
+  ack_short : (c : ConnState) → ConnShort c → IfSome (gives_ack c).pdu (PduShort (gives_ack c).conn)
+  ack_short c h = either {X = conn.Gave} (λ x. IfSome x.pdu (PduShort x.conn)) c.owed _ _ (λ e. (h, (let z : length (part_bytes (Rr c.there c.here c.vr)) ≤ 2178 = omega arith in z))) (λ e. tt)
+
+  -- a unit of the service, where the window allows one
+  from_short : (c : ConnState) (u : List ℕ) (q : List (List ℕ)) → q ≡ u ∷ [] → c.far_miu ≤ 2175 → length u ≤ c.far_miu → IfSome (gives_from c q).pdu (PduShort (gives_from c q).conn)
+  from_short c u q e k h =
+      subst (λ q. IfSome (gives_from c q).pdu (PduShort (gives_from c q).conn)) (sym e)
+      ((k, refl), (let z : length (part_bytes (Info c.there c.here (conn.vs c) c.vr u)) ≤ 2178 = omega (arith, k, h) in z))
+
+  unit_short : (c : ConnState) (u : List ℕ) → ConnShort c → c.held ≡ false → length u ≤ c.far_miu → IfSome (gives (queued c u)).pdu (PduShort (gives (queued c u)).conn)
+  unit_short c u h e k =
+      either {X = conn.Gave} (λ x. IfSome x.pdu (PduShort x.conn)) c.live (if c.held then gives_ack (queued c u) else gives_from (queued c u) (c.queue ++ u ∷ [])) _
+      (λ i. subst (λ (v : Bool). IfSome (if v then gives_ack (queued c u) else gives_from (queued c u) (c.queue ++ u ∷ [])).pdu
+      (PduShort (if v then gives_ack (queued c u) else gives_from (queued c u) (c.queue ++ u ∷ [])).conn)) (sym e)
+      (from_short (queued c u) u (c.queue ++ u ∷ []) (ap (λ q. q ++ u ∷ []) h.1) h.0 k))
+      (λ i. tt)
+
+  not_held : (c : ConnState) → may_send c ≡ true → c.held ≡ false
+  not_held c e = go c.held e
+    where
+      go : (v : Bool) → (not v && conn.has_room c) ≡ true → v ≡ false
+      go true k = absurd cc
+      go false k = refl
+
+  module _ (fits : (s : S) (client miu : ℕ) → IfSome (m.due s client miu) (λ u. length u ≤ miu)) where
+    sends_short : (l : LlcState S) (c : ConnState) (q : Option (List ℕ)) → IfSome q (λ u. length u ≤ c.far_miu) → ConnShort c → c.held ≡ false → GivesShort l
+        → IfSome (g.sends m l c q) GaveShort
+    sends_short l c None k i e h = tt
+    sends_short l c (Some u) k i e h =
+        conn_gives (record l { service = m.sent l.service c.there c.far_miu }) (gives (queued c u)).conn (gives (queued c u)).pdu (unit_short c u i e k)
+        (record { miu = h.miu; queue = h.queue; served = h.served; own = h.own })
+
+    informs_served_short : (l : LlcState S) (q : Option ConnState) → IfSome q ConnShort → GivesShort l → IfSome (g.informs_served m l q) GaveShort
+    informs_served_short l None k h = tt
+    informs_served_short l (Some c) k h =
+        either {X = Option (Gave S)} (λ o. IfSome o GaveShort) (may_send c) (g.sends m l c (m.due l.service c.there c.far_miu)) None
+        (λ e. sends_short l c (m.due l.service c.there c.far_miu) (fits l.service c.there c.far_miu) k (not_held c e) h) (λ e. tt)
+
+    informs_own_short : (l : LlcState S) (q : Option OwnState) → q ≡ None → IfSome (g.informs_own l q) GaveShort
+    informs_own_short l None e = tt
+    informs_own_short l (Some o) e = absurd cc
+
+    acks_served_short : (l : LlcState S) (q : Option ConnState) → IfSome q ConnShort → GivesShort l → IfSome (g.acknowledges_served l q) GaveShort
+    acks_served_short l None k h = tt
+    acks_served_short l (Some c) k h = conn_gives l (gives_ack c).conn (gives_ack c).pdu (ack_short c k) h
+
+    acks_own_short : (l : LlcState S) (q : Option OwnState) → q ≡ None → IfSome (g.acknowledges_own l q) GaveShort
+    acks_own_short l None e = tt
+    acks_own_short l (Some o) e = absurd cc
+
+    -- what waits comes first
+    from_queue : (l : LlcState S) (q : List Queued) → AllByRecursion QueuedShort q → GivesShort l → IfSome (g.gave_from m l q) GaveShort
+    from_queue l [] k h =
+        else_short _ _
+        (round_short sap_count (g.circle_start l.last) (g.informs m l)
+        (λ s. else_short _ _ (informs_served_short l (conn_from s l.served) (found_short s l.served h.served) h) (informs_own_short l (own_from s l.own) (none_own l s h))))
+        (round_short sap_count (g.circle_start l.last) (g.acknowledges l)
+        (λ s. else_short _ _ (acks_served_short l (conn_from s l.served) (found_short s l.served h.served) h) (acks_own_short l (own_from s l.own) (none_own l s h))))
+    from_queue l (q ∷ qs) k h = (record { miu = h.miu; queue = k.1; served = h.served; own = h.own }, k.0)
+
+    gave_short : (l : LlcState S) → GivesShort l → IfSome (gave m l) GaveShort
+    gave_short l h = from_queue l l.queue h.queue h
+
+    so_short : (l : LlcState S) (used : ℕ) (q : Option (Gave S)) (more : ℕ → LlcState S → GaveAll m) → IfSome q GaveShort → ((u : ℕ) (k : LlcState S) → GivesShort k → GivesShort (more u k).llc)
+        → GivesShort l → GivesShort (joined_so m l used q more).llc
+    so_short l used None more k all h = h
+    so_short l used (Some x) more k all h =
+        either {X = GaveAll m} (λ z. GivesShort z.llc) (nat_le (used + length (inner_bytes x.part)) l.far_miu)
+        (gave_first m x.part (more (used + length (inner_bytes x.part)) x.llc)) (gave_none m l) (λ e. all (used + length (inner_bytes x.part)) x.llc k.0) (λ e. h)
+
+    joined_short : (n used : ℕ) (l : LlcState S) → GivesShort l → GivesShort (joined m n used l).llc
+    joined_short zero used l h = h
+    joined_short (suc n) used l h = so_short l used (gave m l) (joined m n) (gave_short l h) (joined_short n) h
+
+    given_so_short : (l : LlcState S) (q : Option (Gave S)) (n : ℕ) → IfSome q GaveShort → GivesShort l → GivesShort (given_so m l q n).llc
+    given_so_short l None n k h = h
+    given_so_short l (Some x) n k h = joined_short n (length (inner_bytes x.part)) x.llc k.0
+
+    -- it gives one
+    pub after_short : (n : ℕ) (l : LlcState S) → GivesShort l → GivesShort (after_giving m n l)
+    after_short n l h =
+        either {X = LlcState S} (λ x. GivesShort x) l.readable (given_parts m n l).llc l (λ e. given_so_short l (gave m l) (others m l n) (gave_short l h) h) (λ e. h)
+
+    -- how long that is
+    alone_short : (l : LlcState S) (q : Option (Gave S)) (n : ℕ) (p : Part) → IfSome q GaveShort → (given_so m l q n).parts ≡ p ∷ [] → length (part_bytes p) ≤ 2178
+    alone_short l None n p k e = absurd cc
+    alone_short l (Some x) n p k e = (let is : x.part ≡ p = cc in subst (λ z. length (part_bytes z) ≤ 2178) is k.1)
+
+    payload_short : (l : LlcState S) (n : ℕ) (ps : List Part) → (given_parts m n l).parts ≡ ps → GivesShort l → length (payload_of ps) ≤ 2178
+    payload_short l n [] e h = (let z : length (part_bytes Symm) ≤ 2178 = omega arith in z)
+    payload_short l n (p ∷ []) e h = alone_short l (gave m l) (others m l n) p (gave_short l h) e
+    payload_short l n (p ∷ q ∷ ps) e h =
+        let two : 2 ≤ length (given_parts m n l).parts = subst (λ xs. 2 ≤ length xs) (sym e) (omega arith) in
+        let fit : length (parts_bytes (p ∷ q ∷ ps)) ≤ l.far_miu = subst (λ xs. length (parts_bytes xs) ≤ l.far_miu) e (given_fit m l n two) in
+        let miu : l.far_miu ≤ 2176 = h.miu in
+        let z : length (payload_of (p ∷ q ∷ ps)) ≡ 2 + length (parts_bytes (p ∷ q ∷ ps)) = omega arith in
+        omega (arith, fit, miu, z)
+
+    pub gives_short : (n : ℕ) (l : LlcState S) → GivesShort l → length (given m n l) ≤ 2178
+    gives_short n l h =
+        either {X = List ℕ} (λ xs. length xs ≤ 2178) l.readable (payload_of (given_parts m n l).parts) [] (λ e. payload_short l n (given_parts m n l).parts refl h) (λ e. omega arith)
