@@ -1,5 +1,5 @@
 -- ATR_REQ is sent to a selected peer that stands alone: it begins a link there whenever the frame passes, and hands no payload over.
-use Rattle.std.proofs.Common.{◌≡◌, ℕ, zero, suc, ◌≤◌, ◌||◌, Bool, true, false, if◌then◌else◌, List, [], ◌∷◌, ◌++◌, length, Option, Some, None, refl, sym, ◌∙◌, ap, subst, arith}
+use Rattle.std.proofs.Common.{◌≡◌, ℕ, ◌≤◌, ◌||◌, Bool, true, false, if◌then◌else◌, List, [], ◌∷◌, ◌++◌, length, Option, Some, None, refl, sym, ◌∙◌, ap, subst, arith}
 use Rattle.std.specs.Prelude.{get_or, ◌-◌, ◌==◌}
 use Rattle.nfc_base.specs.Far.{FarUse, Untouched, Restarts, Hands}
 use Rattle.nfc_base.specs.Signal.{Signal}
@@ -26,12 +26,12 @@ use Rattle.far_air.specs.FarEnds.{by_link, moved, numbers_left, reply_to}
 use Rattle.far_air.specs.FarWorld.{AllMet, far_stepped, met_first}
 use Rattle.far_air.specs.Staying.{NoPayload}
 use Rattle.peer_air.specs.PeerFars.{peer_ends}
-use Rattle.link_numbers.proofs.FarAlone.{Around, AreAround, IsAmid, alone, amid, around_all, is_placed, placed, same_joint, turned}
+use Rattle.link_numbers.proofs.FarAlone.{Around, AreAround, IsAmid, alone, amid, around_all, is_placed, same_joint, turned}
 use Rattle.link_numbers.proofs.FarCourse.{Made, made_events, made_world}
 use Rattle.link_numbers.proofs.FarLaw.{IsWhole}
 use Rattle.bench_devices.specs.declared.device.Device.{Device}
 use Rattle.bench_devices.specs.declared.device.Device.TheVariants.{T2, T4, Peer, T5, T3}
-use Rattle.bench_devices.specs.Device.{device_end, device_id, device_linked, device_selected, devices}
+use Rattle.bench_devices.specs.Device.{device_linked, devices}
 use Rattle.bench_devices.specs.Keeping.{ghosts}
 use Rattle.bench_devices.specs.Peers.{PeerDid, PeerNear, asked_if, by_turn, peer_did, peer_if, peer_machine, takes_frame}
 use Rattle.bench_devices.proofs.OpenPeer.{atr_range, is_atr, peer_in}

@@ -1,6 +1,6 @@
 -- The course of a sending of payloads that were written by hand: a device is selected, ATR_REQ is asked of it, and behind ATR_RES the payloads are
 -- exchanged on a link of their own. No payload is handed over before.
-use Rattle.std.proofs.Common.{◌≡◌, ◌⊎◌, inl, inr, ℕ, suc, Bool, true, false, if◌then◌else◌, List, [], ◌∷◌, ◌++◌, length, Option, Some, None, Result, Ok, Err, refl, sym, ◌∙◌, ap, subst, append_assoc}
+use Rattle.std.proofs.Common.{◌≡◌, ℕ, suc, Bool, true, false, if◌then◌else◌, List, [], ◌∷◌, ◌++◌, Option, Some, None, Result, Ok, Err, refl, sym, ◌∙◌, ap, subst, append_assoc}
 use Rattle.std.specs.Prelude.{nat_lt}
 use Rattle.std.proofs.lemmas.List.{append-nil}
 use Rattle.nfc_base.specs.Signal.{Signal}
@@ -8,34 +8,33 @@ use Rattle.nfc_base.specs.Trace.{back_of, by_fate, heard_back, heard_by}
 use Rattle.nfc_base.specs.Trace as backs
 use Rattle.nfc_base.specs.declared.carrier.EndCause.TheVariants as cause
 use Rattle.nfc_base.specs.declared.event.Event.{Event}
-use Rattle.nfc_base.specs.declared.event.Event.TheVariants.{Reset, Request, Answer, Clash}
+use Rattle.nfc_base.specs.declared.event.Event.TheVariants.{Reset, Request}
 use Rattle.nfc_base.specs.declared.event.Fate.{Fate}
 use Rattle.nfc_base.specs.declared.event.Fate.TheVariants.{Pass, Damage, Lose, Break}
 use Rattle.nfc_base.specs.declared.event.Heard.{Heard}
 use Rattle.nfc_base.specs.declared.event.Heard.TheVariants.{Whole, Collided, Damaged, Silent}
 use Rattle.air_core.specs.Joint.{Joint, Nothing, Single, Clashing}
-use Rattle.air_core.specs.Conversation.{AreTurns, Asks, EachDue, FatesFrom, LightUp, Lit, Lost, Got, Moment, Next, Note, Over, TurnsTo, first_fate, joint_back, joint_events, later_fates, note, queue_after, receptions, replay, turn_events, turn_heard, with_events}
+use Rattle.air_core.specs.Conversation.{AreTurns, Asks, EachDue, FatesFrom, LightUp, Lit, Moment, Next, Note, Over, TurnsTo, first_fate, joint_back, joint_events, later_fates, note, queue_after, receptions, replay, turn_events, turn_heard, with_events}
 use Rattle.air_core.specs.Turning.{due-append, events-append, receptions-append, replay-append, turns-append}
-use Rattle.air_core.proofs.Following.{light_is_no_request, no_demand, over_is_no_request, same_asked, turn_first, turn_known}
+use Rattle.air_core.proofs.Following.{light_is_no_request, over_is_no_request, same_asked, turn_first, turn_known}
 use Rattle.arrayvec.specs.ArrayVec.{ArrayVec}
 use Rattle.nfca_poll.specs.Rounds.{device_of, picking}
 use Rattle.nfca_poll.specs.declared.fault.PollFault.{PollFault}
 use Rattle.nfca_poll.specs.declared.kind.Kind.{Kind}
 use Rattle.nfca_poll.specs.declared.kind.Kind.TheVariants as kinds
 use Rattle.dep_link.specs.Activating.{told_atr}
-use Rattle.dep_link.specs.Frames.{is_atr_req, spelled}
+use Rattle.dep_link.specs.Frames.{spelled}
 use Rattle.dep_link.specs.Initiator.{waiting}
 use Rattle.link_calls.specs.Exchanging.{by_hand, sending}
-use Rattle.link_calls.specs.Walk.{walk_at, walk_due, walk_due_at, walk_stand}
+use Rattle.link_calls.specs.Walk.{walk_at, walk_due, walk_stand}
 use Rattle.link_numbers.proofs.FarWalk.{walk_never}
-use Rattle.bench_devices.specs.declared.polling.SeenKind.{SeenKind}
 use Rattle.bench_devices.specs.declared.polling.SeenKind.TheVariants as seen
 use Rattle.bench_devices.specs.Polling as polls
 use Rattle.bench_devices.specs.Polling.{Followed, Told, follows, kind_by, seen_kind, selecting}
 use Rattle.bench_devices.proofs.Following.{follows_on}
 use Rattle.bench_devices.proofs.Polls.{IsFresh, Polls, poll_lit, poll_start, poll_turn}
 use Rattle.bench_devices.proofs.Searching.{search_closes}
-use Rattle.bench_world.specs.Forging.{Activates, Forging, Unlinked, bad_again, forge_due, forge_noted, forge_stand, forging, linked_by, then_forges}
+use Rattle.bench_world.specs.Forging.{Activates, Unlinked, bad_again, forge_due, forge_noted, forge_stand, forging, linked_by, then_forges}
 use Rattle.bench_world.specs.ShownForged.{behind_opening, behind_res, tells_atr}
 use Rattle.bench_world.specs.World.{WholeWorld, bench_air}
 use Rattle.bench_world.proofs.ForgingDue.{exchanges}
@@ -282,7 +281,8 @@ module _ (id : List ℕ) (payloads : List (List ℕ)) (w : WholeWorld) (q : List
       turn_due v since f Break y e = (e, tt)
 
   -- A peer was just selected.
-  kind_due : (p : Followed Kind) (before : List Event) (n : Next) → follows (picking id) (receptions before) ≡ p → forging id payloads (receptions before) ≡ n → then_forges payloads (kind_by seen_kind p) ≡ n
+  kind_due : (p : Followed Kind) (before : List Event) (n : Next) → follows (picking id) (receptions before) ≡ p → forging id payloads (receptions before) ≡ n
+      → then_forges payloads (kind_by seen_kind p) ≡ n
   kind_due p before n told due = sym (ap (λ o. then_forges payloads (kind_by seen_kind o)) told) ∙ due
 
   selected : (before : List Event) (p : Polling before) (kind : Kind) → follows (picking id) (receptions before) ≡ Told (Ok kind) [] → seen_kind kind ≡ seen.Peer → Readies before
@@ -308,7 +308,8 @@ module _ (id : List ℕ) (payloads : List (List ℕ)) (w : WholeWorld) (q : List
   never_told : (e : PollFault) (before : List Event) (ns : List Note) (f : Signal) → follows (picking id) (receptions before) ≡ Told (Err e) ns → forging id payloads (receptions before) ≡ Asks f → ⊥
   never_told e before ns f told due = over_is_no_request f (kind_due (Told (Err e) ns) before (Asks f) told due)
 
-  fresh_told : (before : List Event) (p : Polling before) (r : Result Kind PollFault) (ns : List Note) → follows (picking id) (receptions before) ≡ Told r ns → follows (picking id) (receptions before) ≡ Told r []
+  fresh_told : (before : List Event) (p : Polling before) (r : Result Kind PollFault) (ns : List Note) → follows (picking id) (receptions before) ≡ Told r ns
+      → follows (picking id) (receptions before) ≡ Told r []
   fresh_told before p r ns told = let none : ns ≡ [] = subst IsFresh told p.fresh in told ∙ ap (λ ks. Told r ks) none
 
   abbrev x1 : List Event → Fate
@@ -353,7 +354,8 @@ module _ (id : List ℕ) (payloads : List (List ℕ)) (w : WholeWorld) (q : List
   lit_more : (before : List Event) → receptions (before ++ Reset ∷ []) ≡ receptions before ++ Lit ∷ []
   lit_more before = receptions-append before (Reset ∷ []) refl
 
-  polling_lit : (before : List Event) → Polling before → forging id payloads (receptions before) ≡ LightUp → (o : Followed Kind) → follows (picking id) (receptions before) ≡ o → Course (before ++ Reset ∷ [])
+  polling_lit : (before : List Event) → Polling before → forging id payloads (receptions before) ≡ LightUp → (o : Followed Kind) → follows (picking id) (receptions before) ≡ o
+      → Course (before ++ Reset ∷ [])
   polling_lit before p due (polls.Asks n) told =
       polling (subst (Polls (picking id) bench_air a (at (before ++ Reset ∷ []))) (sym (lit_more before))
       (poll_lit (picking id) bench_air (search_closes (device_of id)) a (at before) (at (before ++ Reset ∷ [])) (receptions before) n p told (kind_due (polls.Asks n) before LightUp told due)

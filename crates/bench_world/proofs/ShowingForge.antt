@@ -1,11 +1,7 @@
 -- A sending of payloads that were written by hand goes the same way by the numbers that the replies behind its ATR_RES show.
-use Rattle.std.proofs.Common.{◌≡◌, ℕ, ◌≤◌, List, [], ◌∷◌, ◌++◌, length, Option, Some, None, refl, sym, ◌∙◌, ap, subst, append_assoc}
-use Rattle.std.specs.Prelude.{IfSome}
+use Rattle.std.proofs.Common.{◌≡◌, ℕ, ◌≤◌, List, [], ◌∷◌, ◌++◌, length, Option, refl, sym, ◌∙◌, ap, subst, append_assoc}
 use Rattle.std.specs.List.{AllByRecursion}
-use Rattle.nfc_base.specs.Signal.{Signal}
 use Rattle.nfc_base.specs.declared.event.Event.{Event}
-use Rattle.nfc_base.specs.declared.event.Event.TheVariants.{Request}
-use Rattle.nfc_base.specs.declared.event.Fate.{Fate}
 use Rattle.air_core.specs.Conversation.{AreTurns, EachDue, FatesFrom, Note, Over, receptions, replay}
 use Rattle.air_core.specs.Turning.{replay-append, turns-append}
 use Rattle.dep_link.specs.Asking as dep
@@ -23,18 +19,17 @@ use Rattle.link_numbers.proofs.FarShown.{SameDark}
 use Rattle.link_numbers.proofs.FarWalk.{HasCome, Outs}
 use Rattle.bench_script.specs.declared.command.Command.{Command}
 use Rattle.bench_script.specs.declared.command.Command.TheVariants.{Forge}
-use Rattle.bench_devices.specs.declared.device.Device.{Device}
 use Rattle.bench_devices.specs.Device.{device_end, device_linked, devices}
 use Rattle.bench_world.specs.declared.entry.Answer.{Answer}
 use Rattle.bench_world.specs.Cutting.{CutsReplies, GivesShort, WorldCuts}
 use Rattle.bench_world.specs.Forging.{forging}
-use Rattle.bench_world.specs.Legal.{FrontOf, Given, IsPayload, Joins, State, begun, changed, due}
+use Rattle.bench_world.specs.Legal.{FrontOf, Given, IsPayload, Joins, State, begun, due}
 use Rattle.bench_world.specs.Obeying.{state_at}
 use Rattle.bench_world.specs.ShownForged.{behind_opening, forged_shown}
 use Rattle.bench_world.specs.Showing.{BeginsSame, IsBetween}
 use Rattle.bench_world.specs.World.{FarEnd, WholeWorld, bench_air}
 use Rattle.bench_world.proofs.FarDevices.{ShowsWell, TalksTo, walk_shows}
-use Rattle.bench_world.proofs.ShowingAtr.{BeginsLink, talks_then}
+use Rattle.bench_world.proofs.ShowingAtr.{talks_then}
 use Rattle.bench_world.proofs.ShowingCourse.{Course, Opens, Quietly, courses, ends, opens, polling, polls_quietly, readies}
 use Rattle.bench_world.proofs.ShowingFar.{CutsOn, replies_fit}
 use Rattle.bench_world.proofs.ShowingSelected.{MayBegin}
@@ -135,11 +130,13 @@ module _ (s : State) (b : IsBetween s) (g : Given) (id : List ℕ) (payloads : L
       let talks : TalksTo v place i end = talks_then v o.begins o.code in
       let cuts : WorldCuts v = midst_cuts s g.joins c o.front b.cuts in
       let gives : GivesShort end = far_so GivesShort v.fars place end cuts.ends talks.above in
-      let most : 2 ≤ (device_end talks.device).most = (all_among CutsReplies talks.alone.before talks.device talks.alone.behind (subst (AllByRecursion CutsReplies) talks.alone.split cuts.targets)).0 in
+      let most : 2 ≤ (device_end talks.device).most =
+      (all_among CutsReplies talks.alone.before talks.device talks.alone.behind (subst (AllByRecursion CutsReplies) talks.alone.split cuts.targets)).0 in
       let ks : List ℕ = far_shown 0 (o.since ++ more) in
       let k : ShowsWell v ks o.since (HasCome by_hand (walk_stand by_hand (sending payloads []) i (receptions o.since))) =
       walk_shows v place i end talks gives.miu most o.since more by_hand (sending payloads []) o.goes o.each (replies_fit o.since v (cuts_at o.front))
-      (λ before f y rest is. hand_outs (walk_stand by_hand (sending payloads []) i (receptions before)) (walk_short (receptions before) (walk_at by_hand (sending payloads []) i) (sending_short payloads [] i (all_short payloads may)))) in
+      (λ before f y rest is. hand_outs (walk_stand by_hand (sending payloads []) i (receptions before))
+      (walk_short (receptions before) (walk_at by_hand (sending payloads []) i) (sending_short payloads [] i (all_short payloads may)))) in
       let same : behind_opening (es ++ more) ≡ o.since ++ more = ap (λ t. behind_opening (t ++ more)) o.is ∙ ap behind_opening (append_assoc o.front o.since more) ∙ o.counts (o.since ++ more) in
       let free : replay bench_air (with_numbers w ks) o.front ≡ with_numbers v ks = replay_free devices device_linked peer_ends o.front w ks o.quietly.payless in
       let first : ForgesWell ks o.front = quiet_shows o.front ks o.quietly in
@@ -167,12 +164,12 @@ module _ (s : State) (b : IsBetween s) (g : Given) (id : List ℕ) (payloads : L
   begins_forged h es rest fs more p q t u is front over front_by over_by =
       begins_same bench_air (due s g c) (due s h c) w (begun s h.joins c) s.queue es rest fs front.turns front.each front.fates over front_by.turns front_by.each front_by.fates over_by more
       (λ turned tail split turns each.
-        let all : es ++ rest ≡ turned ++ (tail ++ rest) = ap (λ z. z ++ rest) split ∙ append_assoc turned tail rest in
-        let far : far_shown 0 (behind_opening (turned ++ (tail ++ more))) ≡ h.joins.far =
-        ap shown (sym (ap (λ z. z ++ more) split ∙ append_assoc turned tail more)) ∙ sym (ap (λ (j : Joins). j.far) is) in
-        let made : AreTurns bench_air (with_numbers w (shown (turned ++ (tail ++ more)))) turned =
-        (forge_shows turned (tail ++ more) turns each (fates_front s.queue turned (tail ++ rest) (subst (FatesFrom s.queue) all front.fates))).turns in
-        same_by turned (tail ++ more) (subst (λ ks. AreTurns bench_air (with_numbers w ks) turned) far made) each)
+      let all : es ++ rest ≡ turned ++ (tail ++ rest) = ap (λ z. z ++ rest) split ∙ append_assoc turned tail rest in
+      let far : far_shown 0 (behind_opening (turned ++ (tail ++ more))) ≡ h.joins.far =
+      ap shown (sym (ap (λ z. z ++ more) split ∙ append_assoc turned tail more)) ∙ sym (ap (λ (j : Joins). j.far) is) in
+      let made : AreTurns bench_air (with_numbers w (shown (turned ++ (tail ++ more)))) turned =
+      (forge_shows turned (tail ++ more) turns each (fates_front s.queue turned (tail ++ rest) (subst (FatesFrom s.queue) all front.fates))).turns in
+      same_by turned (tail ++ more) (subst (λ ks. AreTurns bench_air (with_numbers w ks) turned) far made) each)
     where
       same_by : (turned more : List Event) → AreTurns bench_air (begun s h.joins c) turned → EachDue (due s g c) [] turned → GoesSame bench_air (begun s h.joins c) (due s g c) (due s h c) turned more
       same_by turned more turns each = record { turns = turns; each = each; asks = λ f x tail is e. e; over = λ e. e; over_back = λ e. e }

@@ -1,6 +1,6 @@
 -- What a sending of payloads that were written by hand leaves is alike by the numbers that its events show.
-use Rattle.std.proofs.Common.{◌≡◌, ℕ, Bool, true, false, List, [], ◌++◌, Option, Some, None, refl, sym, ◌∙◌, ap, subst}
-use Rattle.std.specs.Prelude.{IsSome, map}
+use Rattle.std.proofs.Common.{◌≡◌, ℕ, Bool, true, false, List, [], ◌++◌, Option, Some, None, refl, sym, ◌∙◌, ap}
+use Rattle.std.specs.Prelude.{map}
 use Rattle.std.specs.List.{AllByRecursion}
 use Rattle.nfc_base.specs.declared.event.Event.{Event}
 use Rattle.air_core.specs.Conversation.{AreTurns, EachDue, FatesFrom, replay}
@@ -15,9 +15,8 @@ use Rattle.bench_devices.specs.Device.{device_linked, devices}
 use Rattle.bench_world.specs.declared.entry.Answer.{Answer}
 use Rattle.bench_world.specs.Alike.{Alike}
 use Rattle.bench_world.specs.Forging.{forging, opens_link}
-use Rattle.bench_world.specs.Legal.{Given, IsPayload, Joins, State, begun, link_after, peers_after, peers_forged, state_after, unlinked, world_after}
+use Rattle.bench_world.specs.Legal.{Given, IsPayload, Joins, State, begun, peers_forged, state_after, unlinked, world_after}
 use Rattle.bench_world.specs.Links.{accepted_at, with_link, with_link_if}
-use Rattle.bench_world.specs.Obeying.{state_at}
 use Rattle.bench_world.specs.Peers.{Peers, placed_under}
 use Rattle.bench_world.specs.Showing.{IsBetween}
 use Rattle.bench_world.specs.ShownForged.{forged_shown}

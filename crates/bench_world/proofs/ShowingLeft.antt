@@ -65,7 +65,8 @@ module _ (s t u : State) (g h : Given) (e : Entry) (between : IsBetween s) (swap
       subst A (sym is)
       (alike_on (state_after s g.joins c e.events (Some e.answer)) (state_after s k c e.events (Some e.answer)) (state_after s h.joins c e.events (Some e.answer))
       (forged_alike s between g id payloads may e.events e.answer front.turns front.each front.fates)
-      (alike_back (state_after s h.joins c e.events (Some e.answer)) (state_after s k c e.events (Some e.answer)) (forged_alike s between h id payloads may e.events e.answer front_by.turns front_by.each front_by.fates)))
+      (alike_back (state_after s h.joins c e.events (Some e.answer)) (state_after s k c e.events (Some e.answer))
+      (forged_alike s between h id payloads may e.events e.answer front_by.turns front_by.each front_by.fates)))
 
   by_kind : IsForge e.command ⊎ IsNumberless s e.command → Alike (after g.joins) (after h.joins)
   by_kind (inl f) = by_hand f

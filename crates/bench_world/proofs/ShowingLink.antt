@@ -14,7 +14,7 @@ use Rattle.bench_script.specs.declared.command.Command.TheVariants.{Skip, Fates,
 use Rattle.bench_world.specs.declared.entry.Answer.{Answer}
 use Rattle.bench_world.specs.Asked.{asked_on_link}
 use Rattle.bench_world.specs.Calls.{due_asked, due_if}
-use Rattle.bench_world.specs.Legal.{FrontOf, Given, Joins, State, begun, changed, due, due_by, joins_by}
+use Rattle.bench_world.specs.Legal.{FrontOf, Given, Joins, State, begun, changed, due, due_by}
 use Rattle.bench_world.specs.Links.{OpenLink}
 use Rattle.bench_world.specs.World.{bench_air}
 use Rattle.bench_world.specs.Showing.{BeginsSame, IsBetween, OwnShort, PayloadsShort, first_pni, joins_shown, shown_by, shown_of}

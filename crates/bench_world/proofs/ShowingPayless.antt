@@ -1,5 +1,5 @@
 -- Events in which no device hands a payload over, one after another; and the numbers decide nothing in them.
-use Rattle.std.proofs.Common.{◌≡◌, ℕ, List, [], ◌∷◌, ◌++◌, Bool, true, if◌then◌else◌, refl, sym, ◌∙◌, ap, subst}
+use Rattle.std.proofs.Common.{◌≡◌, ℕ, List, [], ◌∷◌, ◌++◌, Bool, true, if◌then◌else◌, sym, ◌∙◌, ap, subst}
 use Rattle.std.proofs.lemmas.List.{append-nil}
 use Rattle.nfc_base.specs.Far.{Untouched, Hands}
 use Rattle.nfc_base.specs.Signal.{Signal}
@@ -9,9 +9,8 @@ use Rattle.nfc_base.specs.declared.event.Fate.{Fate}
 use Rattle.nfc_base.specs.declared.event.Fate.TheVariants.{Pass, Damage, Lose, Break}
 use Rattle.air_core.specs.Joint.{Joint, Nothing, Single, Clashing}
 use Rattle.air_core.specs.Quiet.{EachQuiet}
-use Rattle.air_core.specs.World.{World, hands_over}
+use Rattle.air_core.specs.World.{World}
 use Rattle.air_core.specs.Conversation.{AreTurns, Ask, joint_events, move_events, replay, turn_events}
-use Rattle.far_air.specs.FarWorld.{far_happens}
 use Rattle.far_air.specs.Quietly.{NoneHands, QuietAt}
 use Rattle.far_air.specs.Staying.{NoPayload, NoPayloadAt, NoPayloads}
 use Rattle.far_air.proofs.OnField.{quiet_fields}

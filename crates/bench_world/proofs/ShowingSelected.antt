@@ -1,13 +1,13 @@
 -- A peer is selected while payloads that were written by hand are to be sent to it: no payload was handed over, no ATR_REQ was asked, and it awaits
 -- one, with its far end above it.
-use Rattle.std.proofs.Common.{◌≡◌, ℕ, zero, suc, ◌≤◌, Bool, true, false, if◌then◌else◌, List, [], ◌∷◌, ◌++◌, map, length, Option, Some, None, Result, Ok, Err, refl, sym, ◌∙◌, ap, subst}
+use Rattle.std.proofs.Common.{◌≡◌, ℕ, zero, suc, ◌≤◌, Bool, true, false, if◌then◌else◌, List, [], ◌∷◌, ◌++◌, map, length, Option, Some, None, Ok, refl, sym, ◌∙◌, ap, subst}
 use Rattle.std.specs.Prelude.{get_or}
 use Rattle.std.specs.List.{AllByRecursion}
-use Rattle.nfc_base.specs.Far.{Untouched, Restarts}
+use Rattle.nfc_base.specs.Far.{Untouched}
 use Rattle.nfc_base.specs.Signal.{Signal}
 use Rattle.nfc_base.specs.declared.event.Event.{Event}
 use Rattle.nfc_base.specs.declared.event.Event.TheVariants.{Reset, Request, Answer, Clash}
-use Rattle.air_core.specs.Conversation.{AreTurns, EachDue, Going, Moment, Note, Next, queue_after, receptions, replay, with_events}
+use Rattle.air_core.specs.Conversation.{EachDue, Going, Moment, Note, queue_after, replay}
 use Rattle.air_core.specs.Turning.{due_weaker}
 use Rattle.air_core.specs.PlainTags.{IsAside}
 use Rattle.nfca_poll.specs.Crowd.{Card, Each}
@@ -24,21 +24,21 @@ use Rattle.dep_link.specs.Frames.{is_atr_req, names_atr, spelled}
 use Rattle.dep_link.specs.Initiator.{longest_extension}
 use Rattle.dep_link.specs.Peers.{target_use}
 use Rattle.dep_link.specs.Target.{TargetState, fresh, most_busy, obeyed}
-use Rattle.far_air.specs.FarEnds.{by_link, first_far, later_fars, rests}
+use Rattle.far_air.specs.FarEnds.{by_link, later_fars, rests}
 use Rattle.far_air.specs.FarLaws.{shown}
 use Rattle.far_air.specs.Quietly.{AreCalm, IsCalm, NoneHands}
 use Rattle.far_air.specs.Staying.{HasFars, Stays}
 use Rattle.far_air.proofs.OnField.{quiet_fields}
 use Rattle.far_air.proofs.Staying.{fars_stay}
 use Rattle.peer_air.specs.PeerFars.{peer_ends}
-use Rattle.link_numbers.proofs.FarAlone.{Around, amid}
+use Rattle.link_numbers.proofs.FarAlone.{Around}
 use Rattle.bench_script.specs.declared.command.DeviceId.TheVariants.{A}
 use Rattle.bench_devices.specs.declared.device.Device.{Device}
 use Rattle.bench_devices.specs.declared.device.Device.TheVariants.{T2, T4, Peer, T5, T3}
 use Rattle.bench_devices.specs.declared.polling.SeenKind.TheVariants as seen
 use Rattle.bench_devices.specs.Device.{BenchWorld, air, device_id, device_linked, device_selected, devices, is_tag}
 use Rattle.bench_devices.specs.Keeping.{AreTame, IsSound, ghosts, kept}
-use Rattle.bench_devices.specs.Peers.{asked_if, takes_frame}
+use Rattle.bench_devices.specs.Peers.{asked_if}
 use Rattle.bench_devices.specs.Phases.{AreTidy}
 use Rattle.bench_devices.specs.Polling.{Told, asks, follows, seen_kind, selecting}
 use Rattle.bench_devices.proofs.CalmDues.{calm_selecting}

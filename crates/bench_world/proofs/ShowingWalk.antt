@@ -1,11 +1,11 @@
 -- Turns that are due, from a moment on: what holds of the events so far, and is kept by each reset and by each turn, holds of all: over any air.
-use Rattle.std.proofs.Common.{◌≡◌, List, [], ◌∷◌, ◌++◌, Bool, true, false, if◌then◌else◌, refl, sym, ◌∙◌, ap, subst, append_assoc}
+use Rattle.std.proofs.Common.{◌≡◌, List, [], ◌∷◌, ◌++◌, Bool, true, false, if◌then◌else◌, refl, sym, subst, append_assoc}
 use Rattle.std.proofs.lemmas.List.{append-nil}
 use Rattle.nfc_base.specs.Signal.{Signal}
 use Rattle.nfc_base.specs.declared.event.Event.{Event}
 use Rattle.nfc_base.specs.declared.event.Event.TheVariants.{Reset}
 use Rattle.nfc_base.specs.declared.event.Fate.{Fate}
-use Rattle.air_core.specs.Conversation.{AirModel, Note, Next, LightUp, Asks, receptions, EachDue, first_fate, later_fates, queue_after, FatesFrom, replay, turn_events, Move, Light, Ask, trace_of}
+use Rattle.air_core.specs.Conversation.{AirModel, Note, Next, LightUp, Asks, receptions, EachDue, queue_after, FatesFrom, replay, turn_events, Move, Light, Ask, trace_of}
 use Rattle.air_core.specs.Turning.{queue_after-append, replay-append}
 use Rattle.air_core.proofs.Following.{turn_split}
 use Rattle.bench_world.proofs.ShowingTurns.{fated, turn_fated}
@@ -61,7 +61,8 @@ module _ {W : Type 0} (m : AirModel W) (next : List Note → Next) (w : W) (q : 
       E = turn_events m v f x y
 
       by : (b : Bool) → m.lit v ≡ b → At before ks
-          → (m.lit v ≡ true → P before → EachDue next before (E ++ trace_of m (replay m v E) ks) → FatesFrom (queue_after q before) (E ++ trace_of m (replay m v E) ks) → P (before ++ (E ++ trace_of m (replay m v E) ks)))
+          → (m.lit v ≡ true → P before → EachDue next before (E ++ trace_of m (replay m v E) ks) → FatesFrom (queue_after q before) (E ++ trace_of m (replay m v E) ks)
+          → P (before ++ (E ++ trace_of m (replay m v E) ks)))
           → P before
           → EachDue next before ((if b then E else []) ++ trace_of m (replay m v (if b then E else [])) ks)
           → FatesFrom (queue_after q before) ((if b then E else []) ++ trace_of m (replay m v (if b then E else [])) ks)
