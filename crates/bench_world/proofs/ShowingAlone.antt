@@ -17,7 +17,7 @@ use Rattle.bench_world.specs.Legal.{FrontOf, Given, Joins, State, begun, changed
 use Rattle.bench_world.specs.Rawing.{raw_opens}
 use Rattle.bench_world.specs.World.{WholeWorld, bench_air}
 use Rattle.bench_world.proofs.OneJournal.{same_events}
-use Rattle.bench_world.specs.Showing.{IsSwapped}
+use Rattle.bench_world.specs.Showing.{MayShow}
 use Rattle.bench_world.proofs.ShowingTags.{none_handed}
 
 -- Numbers decide nothing: no peer is placed, and they have a part in the world alone.
@@ -35,7 +35,7 @@ IsNumberless s c = ((joins : Joins) → joins_for c joins ≡ no_joins) ⊎ IsFr
 abbrev pub IsForge : Command → Type 0
 IsForge c = (id : List ℕ) × (payloads : List (List ℕ)) × (c ≡ Forge id payloads)
 
-pub numberless : (s : State) (c : Command) → asked_on_link c ≡ None → IsSwapped s c → IsForge c ⊎ IsNumberless s c
+pub numberless : (s : State) (c : Command) → asked_on_link c ≡ None → MayShow s c → IsForge c ⊎ IsNumberless s c
 numberless s Skip e k = inr (inl (λ joins. refl))
 numberless s (Fates fates) e k = inr (inl (λ joins. refl))
 numberless s (PlaceT2 id blocks head) e k = inr (inl (λ joins. refl))

@@ -14,7 +14,7 @@ use Rattle.bench_world.specs.Calls.{told_asked}
 use Rattle.bench_world.specs.Legal.{FrontOf, Given, IsPayload, Joins, LegalStep, State, due, state_after}
 use Rattle.bench_world.specs.Links.{OpenLink}
 use Rattle.bench_world.specs.Alike.{Alike}
-use Rattle.bench_world.specs.Showing.{EntriesLeaveAlike, EventsTell, IsBetween, IsSwapped, PayloadsShort, shown_of}
+use Rattle.bench_world.specs.Showing.{EntriesLeaveAlike, EventsTell, IsBetween, MayShow, PayloadsShort, shown_of}
 use Rattle.bench_world.proofs.ShowingAlike.{alike_back, alike_on, alike_same, alike_shown, same_none, told_shown}
 use Rattle.bench_world.specs.ShownForged.{forged_shown}
 use Rattle.bench_world.proofs.ShowingAlone.{IsForge, IsNumberless, alone_left, numberless}
@@ -35,7 +35,7 @@ events_tell s t u g h e f between step step_by same events asked l on open_ =
     sym (told_by_shown s t g e.command e.events e.answer between step.front step.over asked l on open_)
     ∙ told_by_shown s u h e.command e.events f.answer between front over asked l on open_
 
-module _ (s t u : State) (g h : Given) (e : Entry) (between : IsBetween s) (swapped : IsSwapped s e.command) (p : LegalStep s g e t) (short : PayloadsShort s g e.command e.events)
+module _ (s t u : State) (g h : Given) (e : Entry) (between : IsBetween s) (swapped : MayShow s e.command) (p : LegalStep s g e t) (short : PayloadsShort s g e.command e.events)
     (q : LegalStep s h e u) (short_by : PayloadsShort s h e.command e.events) where
   abbrev after : Joins → State
   after joins = state_after s joins e.command e.events (Some e.answer)

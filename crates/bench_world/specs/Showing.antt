@@ -63,11 +63,11 @@ pub record BeginsSame (es rest fs : List Event) : Type 0 where
   pub ends : rest ≡ [] → other ≡ []
   pub ended : other ≡ [] → back_of rest ≡ backs.Nothing → rest ≡ []
 
--- Numbers of PDUs have no part in a command but one that is asked on the open link, or in which payloads or frames are
--- written by hand: where it is frames something is said only where no peer is placed.
-abbrev pub IsSwapped : State → Command → Type 0
-IsSwapped s (Raw id frames) = peers_in s.world.field.listeners ≡ 0
-IsSwapped s c = Unit {0}
+-- Numbers show in each command, but of frames that are written by hand only where no peer is placed: else one may cut off
+-- a reply while its link goes on.
+abbrev pub MayShow : State → Command → Type 0
+MayShow s (Raw id frames) = peers_in s.world.field.listeners ≡ 0
+MayShow s c = Unit {0}
 
 -- what a call carries, and a closing, is no longer than a payload may be
 abbrev pub CarriesShort : CallStanding → Type 0
@@ -101,7 +101,7 @@ PayloadsShort s g c es =
 abbrev pub NumbersShow : Type 0
 NumbersShow =
     (s t u : State) (g h : Given) (e f : Entry) (es rest more : List Event)
-    → IsBetween s → IsSwapped s e.command
+    → IsBetween s → MayShow s e.command
     → LegalStep s g e t → PayloadsShort s g e.command e.events → e.events ≡ es ++ rest
     → LegalStep s h f u → f.command ≡ e.command → h.joins ≡ shown_of s e.command (es ++ more)
     → BeginsSame es rest f.events
@@ -118,7 +118,7 @@ EventsTell =
 abbrev pub EntriesLeaveAlike : Type 0
 EntriesLeaveAlike =
     (s t u : State) (g h : Given) (e : Entry)
-    → IsBetween s → IsSwapped s e.command
+    → IsBetween s → MayShow s e.command
     → LegalStep s g e t → PayloadsShort s g e.command e.events
     → LegalStep s h e u → PayloadsShort s h e.command e.events
     → Alike t u
