@@ -180,7 +180,7 @@ module _ (first m k : ℕ) (out : List ℕ) where
       → heeded t (Extend false t.times) ≡ record { state = t; does = Answers v }
   time_again t v e d f l = rw (e, d, f, l) refl
 
-  request_again : (c : Core) (t : TargetState) (v : DepFrame) → t.mute ≡ false → c.extension ≡ None → t.expected ≡ after c.number → t.last ≡ Some v
+  pub request_again : (c : Core) (t : TargetState) (v : DepFrame) → t.mute ≡ false → c.extension ≡ None → t.expected ≡ after c.number → t.last ≡ Some v
       → heeded t (request c) ≡ record { state = t; does = Answers v }
   request_again c t v e1 e0 e2 e3 = go c.drawing refl
     where
@@ -188,15 +188,15 @@ module _ (first m k : ℕ) (out : List ℕ) where
       go true d = rw (e0, d, e1, e2, not_after c.number, same (after c.number), e3) refl
       go false d = rw (e0, d, e1, e2, not_after c.number, same (after c.number), e3) refl
 
-  nack_again : (c : Core) (t : TargetState) (v : DepFrame) → t.mute ≡ false → t.expected ≡ after c.number → t.last ≡ Some v
+  pub nack_again : (c : Core) (t : TargetState) (v : DepFrame) → t.mute ≡ false → t.expected ≡ after c.number → t.last ≡ Some v
       → heeded t (Nack c.number) ≡ record { state = t; does = Answers v }
   nack_again c t v e1 e2 e3 = rw (e1, e2, same (after c.number), e3) refl
 
-  attention_answered : (t : TargetState) → t.mute ≡ false → heeded t (Attention false) ≡ record { state = t; does = Answers (Attention true) }
+  pub attention_answered : (t : TargetState) → t.mute ≡ false → heeded t (Attention false) ≡ record { state = t; does = Answers (Attention true) }
   attention_answered t e = rw e refl
 
   -- the initiator's request is in range, and so is an extension that it grants
-  is_request : (c : Core) → c.extension ≡ None → c.number < 4 → c.most ≤ 251 → IsDepFrame (request c)
+  pub is_request : (c : Core) → c.extension ≡ None → c.number < 4 → c.most ≤ 251 → IsDepFrame (request c)
   is_request c z p q = go c.drawing refl
     where
       go : (d : Bool) → c.drawing ≡ d → IsDepFrame (request c)

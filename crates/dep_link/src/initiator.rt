@@ -173,8 +173,8 @@ impl Initiator {
         }
     }
 
-    /// The PNI of its next frame.
-    pub(crate) fn number(&self) -> u8
+    /// The PNI of its next frame. Whoever reads off a trace how many PDUs a payload had begins its count here.
+    pub fn pni(&self) -> u8
         ensures number { result ≡ self.now.core.number }
         ensures bound { result < 4 }
     {

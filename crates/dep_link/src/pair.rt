@@ -43,7 +43,7 @@ impl<'a, L: PeerListener> DepPair<'a, L> {
             → IsDepReady L.Listener L.target (seen_pair result) }
     {
         let start = field.trace().len();
-        let first = initiator.number();
+        let first = initiator.pni();
         let over = initiator.over(field.is_lit());
         DepPair {
             field,
@@ -103,7 +103,7 @@ impl<'a, L: PeerListener> DepPair<'a, L> {
             (seen_pair self.new) out.now far.old far.new result }
     {
         let request = self.initiator.begin(out);
-        let number = self.initiator.number();
+        let number = self.initiator.pni();
         let start = self.field.trace().len();
         let Ok(mut reply) = Vec::with_capacity(alloc, LIMIT) else {
             return Err(self.end(EndCause::Memory, false));

@@ -12,7 +12,7 @@ use Rattle.dep_link.specs.Moves.{le_from_not}
 use Rattle.dep_link.specs.Payloads.{Cut}
 use Rattle.dep_link.specs.Replies.{taken_up}
 use Rattle.dep_link.specs.Target.{TargetState, Answers, target_table, heeded, framed}
-use Rattle.dep_link.proofs.Landing.{last_of, stands_heeds}
+use Rattle.dep_link.proofs.Landing.{last_of, stands_heeds, is_request, request_again, nack_again, attention_answered}
 use Rattle.dep_link.proofs.Standing.{same, not_after, after_small, not_lt, chain_fits, Asking, Held, of_chain, of_reply, of_time, Stands, asking, drawing, granting, held, granted, Ask, asks, nacks, attends}
 use Rattle.dep_link.proofs.Wire.{target_heeds, is_piece}
 use Rattle.link_numbers.proofs.Spoken as spoken
@@ -58,35 +58,12 @@ module _ (m k : ℕ) (out : List ℕ) where
       → f ≡ air_frame w → IsDepFrame w → heeded t w ≡ record { state = t; does = Answers v } → Turn t g f
   again_turn c t g f n bads v w h l e r q = turns_by t g f w (spoken.repeats v) e r q (let o = held_old c t g n bads v h l in (l, o.0, o.1))
 
-  -- the initiator's request is in range
-  is_request : (c : Core) → c.extension ≡ None → c.number < 4 → c.most ≤ 251 → IsDepFrame (request c)
-  is_request c z p q = go c.drawing refl
-    where
-      go : (d : Bool) → c.drawing ≡ d → IsDepFrame (request c)
-      go true e = rw (z, e) p
-      go false e = rw (z, e) (is_piece false c.most c.number c.rest p q)
-
-  request_again : (c : Core) (t : TargetState) (v : DepFrame) → t.mute ≡ false → c.extension ≡ None → t.expected ≡ after c.number → t.last ≡ Some v
-      → heeded t (request c) ≡ record { state = t; does = Answers v }
-  request_again c t v e1 e0 e2 e3 = go c.drawing refl
-    where
-      go : (d : Bool) → c.drawing ≡ d → heeded t (request c) ≡ record { state = t; does = Answers v }
-      go true d = rw (e0, d, e1, e2, not_after c.number, same (after c.number), e3) refl
-      go false d = rw (e0, d, e1, e2, not_after c.number, same (after c.number), e3) refl
-
-  nack_again : (c : Core) (t : TargetState) (v : DepFrame) → t.mute ≡ false → t.expected ≡ after c.number → t.last ≡ Some v
-      → heeded t (Nack c.number) ≡ record { state = t; does = Answers v }
-  nack_again c t v e1 e2 e3 = rw (e1, e2, same (after c.number), e3) refl
-
-  attention_answered : (t : TargetState) → t.mute ≡ false → heeded t (Attention false) ≡ record { state = t; does = Answers (Attention true) }
-  attention_answered t e = rw e refl
-
   -- a piece of the payload comes
   asking_turn : (c : Core) (t : TargetState) (g : Option (List ℕ)) (f : Signal) → f ≡ air_frame (request c) → Asking m k out c t g → Turn t g f
   asking_turn c t g f e h = go (nat_lt c.most (length c.rest)) refl
     where
       r : IsDepFrame (request c)
-      r = is_request c h.plain h.number h.bounds.fits
+      r = is_request 0 m k out c h.plain h.number h.bounds.fits
 
       go : (d : Bool) → nat_lt c.most (length c.rest) ≡ d → Turn t g f
       go true d =
@@ -102,11 +79,11 @@ module _ (m k : ℕ) (out : List ℕ) where
   request_turn : (c : Core) (bads : ℕ) (t : TargetState) (g : Option (List ℕ)) (f : Signal) (n : ℕ) → f ≡ air_frame (request c) → Stands m k out c bads t g n → Turn t g f
   request_turn c bads t g f n e (asking z h b) = asking_turn c t g f e h
   request_turn c bads t g f n e (drawing h b) =
-      turns_by t g f (request c) spoken.draws e (is_request c h.plain h.number h.bounds.fits)
+      turns_by t g f (request c) spoken.draws e (is_request 0 m k out c h.plain h.number h.bounds.fits)
       (rw (h.plain, h.receiving, h.bounds.heeds, h.expects, same c.number, h.none_due, h.unsent) refl) (h.none_due, h.unsent, (c.got ++ t.left, h.reply))
   request_turn c bads t g f n e (held w h) =
       let a = last_of 0 m k out c t g n bads h in
-      again_turn c t g f n bads a.value (request c) h a.last e (is_request c w a.number a.fits) (request_again c t a.value a.heeds w a.expects a.last)
+      again_turn c t g f n bads a.value (request c) h a.last e (is_request 0 m k out c w a.number a.fits) (request_again 0 m k out c t a.value a.heeds w a.expects a.last)
   request_turn c bads t g f n e (granting z w h b) = go (nat_lt 1 t.due) refl
     where
       y : f ≡ air_frame (Extend false t.times)
@@ -128,9 +105,9 @@ module _ (m k : ℕ) (out : List ℕ) where
   turn_at i t g f n (asks p e s) = request_turn i.core i.bads t g f n e s
   turn_at i t g f n (nacks p e h) =
       let a = last_of 0 m k out i.core t g n i.bads h in
-      again_turn i.core t g f n i.bads a.value (Nack i.core.number) h a.last e a.number (nack_again i.core t a.value a.heeds a.expects a.last)
+      again_turn i.core t g f n i.bads a.value (Nack i.core.number) h a.last e a.number (nack_again 0 m k out i.core t a.value a.heeds a.expects a.last)
   turn_at i t g f n (attends p e q s l) =
-      turns_by t g f (Attention false) spoken.attends e tt (attention_answered t (stands_heeds 0 m k out i.core i.bads t g q s)) tt
+      turns_by t g f (Attention false) spoken.attends e tt (attention_answered 0 m k out t (stands_heeds 0 m k out i.core i.bads t g q s)) tt
 
   -- what stays in range
   held_range : (c : Core) (t : TargetState) (g : Option (List ℕ)) (n bads : ℕ) → Held m k out c t g n bads → InRange t
