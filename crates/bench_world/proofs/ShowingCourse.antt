@@ -1,6 +1,6 @@
 -- The course of a sending of payloads that were written by hand: a device is selected, ATR_REQ is asked of it, and behind ATR_RES the payloads are
 -- exchanged on a link of their own. No payload is handed over before.
-use Rattle.std.proofs.Common.{◌≡◌, ℕ, suc, Bool, true, false, if◌then◌else◌, List, [], ◌∷◌, ◌++◌, Option, Some, None, Result, Ok, Err, refl, sym, ◌∙◌, ap, subst, append_assoc}
+use Rattle.std.proofs.Common.{◌≡◌, ℕ, suc, Bool, true, false, if◌then◌else◌, List, [], ◌∷◌, ◌++◌, Option, Some, None, is_some, Result, Ok, Err, refl, sym, ◌∙◌, ap, subst, append_assoc}
 use Rattle.std.specs.Prelude.{nat_lt}
 use Rattle.std.proofs.lemmas.List.{append-nil}
 use Rattle.nfc_base.specs.Signal.{Signal}
@@ -35,7 +35,7 @@ use Rattle.bench_devices.proofs.Following.{follows_on}
 use Rattle.bench_devices.proofs.Polls.{IsFresh, Polls, poll_lit, poll_start, poll_turn}
 use Rattle.bench_devices.proofs.Searching.{search_closes}
 use Rattle.bench_world.specs.Forging.{Activates, Unlinked, bad_again, forge_due, forge_noted, forge_stand, forging, linked_by, then_forges}
-use Rattle.bench_world.specs.ShownForged.{behind_opening, behind_res, tells_atr}
+use Rattle.bench_world.specs.ShownForged.{behind_opening, behind_res}
 use Rattle.bench_world.specs.World.{WholeWorld, bench_air}
 use Rattle.bench_world.proofs.ForgingDue.{exchanges}
 use Rattle.bench_world.proofs.ShowingAtr.{AwaitsAtr, Behind, BeginsLink, atr, atr_is, atr_payless, atr_turn}
@@ -68,11 +68,11 @@ rest_counts w f Lose y z n = refl
 rest_counts w f Break y z n = refl
 
 -- where it was ATR_RES they are counted from there
-joint_opens : (j : Joint) (y : Fate) (z : List Event) (g : Signal) → heard_by Pass (joint_back j y) ≡ Some (Whole g) → tells_atr (told_atr (spelled g)) ≡ true → behind_res (joint_events j y ++ z) ≡ z
+joint_opens : (j : Joint) (y : Fate) (z : List Event) (g : Signal) → heard_by Pass (joint_back j y) ≡ Some (Whole g) → is_some (told_atr (spelled g)) ≡ true → behind_res (joint_events j y ++ z) ≡ z
 joint_opens Nothing y z g e t = absurd cc
 joint_opens (Single f) Pass z g e t =
     let same : f ≡ g = cc in
-    ap (λ v. if v then z else behind_res z) (ap (λ h. tells_atr (told_atr (spelled h))) same ∙ t)
+    ap (λ v. if v then z else behind_res z) (ap (λ h. is_some (told_atr (spelled h))) same ∙ t)
 joint_opens (Single f) Damage z g e t = absurd cc
 joint_opens (Single f) Lose z g e t = absurd cc
 joint_opens (Single f) Break z g e t = absurd cc
@@ -81,7 +81,7 @@ joint_opens (Clashing f) Damage z g e t = absurd cc
 joint_opens (Clashing f) Lose z g e t = absurd cc
 joint_opens (Clashing f) Break z g e t = absurd cc
 
-rest_opens : (w : WholeWorld) (f : Signal) (x y : Fate) (z : List Event) (g : Signal) → turn_heard bench_air w f x y ≡ Some (Whole g) → tells_atr (told_atr (spelled g)) ≡ true
+rest_opens : (w : WholeWorld) (f : Signal) (x y : Fate) (z : List Event) (g : Signal) → turn_heard bench_air w f x y ≡ Some (Whole g) → is_some (told_atr (spelled g)) ≡ true
     → behind_res (rest_of w f x y ++ z) ≡ z
 rest_opens w f Pass y z g e t = joint_opens (bench_air.joint w f) y z g e t
 rest_opens w f Damage y z g e t = absurd cc
@@ -231,7 +231,7 @@ module _ (id : List ℕ) (payloads : List (List ℕ)) (w : WholeWorld) (q : List
           stands_then (Some (Whole g)) is ms ∙ ap (λ o. forge_due (forge_stand payloads (linked_by payloads o) ms)) told
           ∙ ap forge_due (exchanges payloads ms (walk_at by_hand (sending payloads []) (waiting p.0)));
       known = sym (append-nil (receptions all));
-      counts = λ z. behind_req z ∙ rest_opens v atr x y z g is (ap tells_atr told);
+      counts = λ z. behind_req z ∙ rest_opens v atr x y z g is (ap is_some told);
     })
 
     by_heard : (h : Option Heard) → turn_heard bench_air v atr x y ≡ h → Behind (replay bench_air v E) h → Course all

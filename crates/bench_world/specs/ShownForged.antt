@@ -1,27 +1,21 @@
 -- The numbers of PDUs that events show of payloads that were written by hand: they are sent over a link of their own,
 -- whose PNIs count from 0 behind its ATR_RES (NFCIP-1, ISO/IEC 18092; that numbers are read off a trace is this project's
 -- own).
-use Rattle.std.specs.Prelude.{ℕ, List, [], ◌∷◌, Bool, true, false, if◌then◌else◌, Option, Some, None}
+use Rattle.std.specs.Prelude.{ℕ, List, [], ◌∷◌, if◌then◌else◌}
 use Rattle.nfc_base.specs.declared.event.Event.{Event}
 use Rattle.nfc_base.specs.declared.event.Event.TheVariants.{Reset, Request, Answer, Clash}
 use Rattle.nfc_base.specs.declared.event.Fate.TheVariants.{Pass, Damage, Lose, Break}
-use Rattle.arrayvec.specs.ArrayVec.{ArrayVec}
-use Rattle.dep_link.specs.Activating.{told_atr}
-use Rattle.dep_link.specs.Frames.{is_atr_req, spelled}
+use Rattle.dep_link.specs.Activating.{is_atr_res}
+use Rattle.dep_link.specs.Frames.{is_atr_req}
 use Rattle.link_numbers.specs.Shown.{far_shown}
 use Rattle.bench_world.specs.Legal.{Joins}
-
--- what was told is an ATR_RES
-abbrev pub tells_atr : Option (ℕ × ArrayVec ℕ) → Bool
-tells_atr None = false
-tells_atr (Some told) = true
 
 -- the events behind the first ATR_RES that came
 abbrev pub behind_res : List Event → List Event
 behind_res [] = []
 behind_res (Reset ∷ es) = behind_res es
 behind_res (Request f x ∷ es) = behind_res es
-behind_res (Answer g Pass ∷ es) = if tells_atr (told_atr (spelled g)) then es else behind_res es
+behind_res (Answer g Pass ∷ es) = if is_atr_res g then es else behind_res es
 behind_res (Answer g Damage ∷ es) = behind_res es
 behind_res (Answer g Lose ∷ es) = behind_res es
 behind_res (Answer g Break ∷ es) = behind_res es

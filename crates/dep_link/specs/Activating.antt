@@ -1,6 +1,6 @@
 -- How an initiator activates a peer by ATR_REQ (NFCIP-1, ISO/IEC 18092). The NFCID3 of the initiator, and how often ATR_REQ is sent
 -- again, are this project's own.
-use Rattle.std.specs.Prelude.{◌≡◌, ◌⊎◌, ℕ, zero, suc, ◌<◌, List, [], ◌∷◌, ◌++◌, length, true, false, Option, Some, None, Result, Ok, Err}
+use Rattle.std.specs.Prelude.{◌≡◌, ◌⊎◌, ℕ, zero, suc, ◌<◌, List, [], ◌∷◌, ◌++◌, length, Bool, true, false, Option, Some, None, is_some, Result, Ok, Err}
 use Rattle.nfc_base.specs.Signal.{Signal}
 use Rattle.nfc_base.specs.declared.frame.Tech.TheVariants.{A}
 use Rattle.nfc_base.specs.LinkTurns as turns
@@ -20,7 +20,7 @@ use Rattle.dep_pdu.specs.declared.frame.DepFrame.{DepFrame}
 use Rattle.dep_pdu.specs.declared.frame.DepFrame.TheVariants.{AtrReq, AtrRes}
 use Rattle.dep_pdu.specs.Spelling.{IsDepFrame}
 use Rattle.dep_link.specs.Sizes.{initiator_lr}
-use Rattle.dep_link.specs.Frames.{air_frame}
+use Rattle.dep_link.specs.Frames.{air_frame, spelled}
 use Rattle.dep_link.specs.Target.{TargetState, atr_res}
 use Rattle.dep_link.specs.Initiator.{InitState, waiting}
 use Rattle.dep_link.specs.Sessions.{IsBusy}
@@ -44,6 +44,10 @@ abbrev pub told_atr : Option DepFrame → Option (ℕ × ArrayVec ℕ)
 told_atr None = None
 told_atr (Some (AtrRes id timeout lr general)) = Some (lr, general)
 told_atr (Some _) = None
+
+-- whether a frame is one
+abbrev pub is_atr_res : Signal → Bool
+is_atr_res f = is_some (told_atr (spelled f))
 
 -- a far end that was restarted so often with these general bytes
 abbrev pub RestartedTimes : {F : Type 0} → (F → List ℕ → F → Type 0) → List ℕ → ℕ → F → F → Type 0

@@ -2,6 +2,7 @@
 
 ghost use Rattle.std.specs.Prelude.{◌≡◌, ◌≤◌, ◌<◌, length, IfSome};
 ghost use Rattle.dep_pdu.specs.Spelling.{IsDepFrame};
+ghost use Rattle.dep_link.specs.Activating.{is_atr_res};
 ghost use Rattle.dep_link.specs.Sizes.{piece_size};
 ghost use Rattle.dep_link.specs.Frames.{air_frame, spelled, is_atr_req, IsSpelled, after, piece};
 
@@ -67,6 +68,14 @@ pub fn is_atr_req(frame: &Frame) -> bool
     ensures { result ≡ is_atr_req frame.now }
 {
     matches!(spelled(frame), Some(DepFrame::AtrReq { .. }))
+}
+
+/// Whether a frame is a well-formed ATR_RES, by which a target tells that it was activated (NFCIP-1, ISO/IEC 18092).
+/// Whoever reads a trace finds by it where a link begins.
+pub fn is_atr_res(frame: &Frame) -> bool
+    ensures { result ≡ is_atr_res frame.now }
+{
+    matches!(spelled(frame), Some(DepFrame::AtrRes { .. }))
 }
 
 /// The number after a PNI.

@@ -18,7 +18,7 @@ mod pair;
 mod target;
 
 pub use activation::activate;
-pub use frames::is_atr_req;
+pub use frames::{is_atr_req, is_atr_res};
 pub use initiator::{InitKind, InitStep, Initiator};
 pub use law::{delivered_anew, faults_stay, handed_once, replies_heard};
 pub use listener::PeerListener;

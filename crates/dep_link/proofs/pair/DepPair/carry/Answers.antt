@@ -51,9 +51,9 @@ returns-in-Ok-ask_peer-clause-carries g c =
 pub returns-in-Err-clause-carries : goal.returns-in-Err-clause-carries
 returns-in-Err-clause-carries g c =
     λ r.
-    let came : Bool = brings_payload c.number-number.result (frames_of (arrived (drop (length c.trace-start.result.now) c.ask_peer.new.field.trace))) in
+    let came : Bool = brings_payload c.pni-number.result (frames_of (arrived (drop (length c.trace-start.result.now) c.ask_peer.new.field.trace))) in
     let number : came ≡ brings_payload c.args.self.now.initiator.now.core.number (frames_of (arrived (drop (length c.args.self.now.field.now.trace) c.ask_peer.new.field.trace))) =
-    ap (λ n. brings_payload n (frames_of (arrived (drop (length c.trace-start.result.now) c.ask_peer.new.field.trace)))) (c.number-number.ensures.number ∙ ap (λ i. i.core.number) c.begin-request.ensures.step)
+    ap (λ n. brings_payload n (frames_of (arrived (drop (length c.trace-start.result.now) c.ask_peer.new.field.trace)))) (c.pni-number.ensures.number ∙ ap (λ i. i.core.number) c.begin-request.ensures.step)
     ∙ ap (λ es. brings_payload c.args.self.now.initiator.now.core.number (frames_of (arrived (drop (length es) c.ask_peer.new.field.trace)))) c.trace-start.ensures in
     let P : LinkEnd → Type 0 = λ e. Carries g.L.Listener g.L.PeerListener.target g.A.Answerer.steps g.A.Answerer.stops (seen_pair c.args.self.now)
     (record { air = c.ask_peer.new.field; initiator = c.ask_peer.new.initiator; first = c.args.self.now.first; start = c.args.self.now.start; over = Some e.cause }) c.args.out.now c.args.far.now c.ask_peer.new.far (Err e) in
@@ -88,9 +88,9 @@ returns-in-Ok-ask_peer-clause-turns g c =
 pub returns-in-Err-clause-turns : goal.returns-in-Err-clause-turns
 returns-in-Err-clause-turns g c =
     let begun : IsBegun c.args.self.now.initiator.now c.args.out.now c.begin-request.new.self c.begin-request.result = record { now_is = c.begin-request.ensures.step; sent_is = c.begin-request.ensures.request } in
-    let came : Bool = brings_payload c.number-number.result (frames_of (arrived (drop (length c.trace-start.result.now) c.ask_peer.new.field.trace))) in
+    let came : Bool = brings_payload c.pni-number.result (frames_of (arrived (drop (length c.trace-start.result.now) c.ask_peer.new.field.trace))) in
     let number : came ≡ brings_payload c.args.self.now.initiator.now.core.number (frames_of (arrived (drop (length c.args.self.now.field.now.trace) c.ask_peer.new.field.trace))) =
-    ap (λ n. brings_payload n (frames_of (arrived (drop (length c.trace-start.result.now) c.ask_peer.new.field.trace)))) (c.number-number.ensures.number ∙ ap (λ i. i.core.number) c.begin-request.ensures.step)
+    ap (λ n. brings_payload n (frames_of (arrived (drop (length c.trace-start.result.now) c.ask_peer.new.field.trace)))) (c.pni-number.ensures.number ∙ ap (λ i. i.core.number) c.begin-request.ensures.step)
     ∙ ap (λ es. brings_payload c.args.self.now.initiator.now.core.number (frames_of (arrived (drop (length es) c.ask_peer.new.field.trace)))) c.trace-start.ensures in
     let P : LinkEnd → Type 0 = λ e. Swaps g.L.Listener.machine g.A.Answerer.restarts g.A.Answerer.steps g.A.Answerer.stops g.A.Answerer.is_stuck (seen_pair c.args.self.now) c.args.far.now
     (record { air = c.ask_peer.new.field; initiator = c.ask_peer.new.initiator; first = c.args.self.now.first; start = c.args.self.now.start; over = Some e.cause }) c.ask_peer.new.far c.args.out.now (Err e) in
