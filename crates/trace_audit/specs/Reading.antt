@@ -1,0 +1,45 @@
+-- What a line of a report doesn't tell of an event: its technology. The command tells it. (Scripts and reports are this
+-- project's own; the inventory is ISO/IEC 15693.)
+use Rattle.std.specs.Prelude.{◌≡◌, ℕ, List, [], ◌∷◌, Bool, true, false, ◌==◌, ◌&&◌, if◌then◌else◌}
+use Rattle.nfc_base.specs.Signal.{IsSignal}
+use Rattle.nfc_base.specs.declared.frame.Tech.{Tech}
+use Rattle.nfc_base.specs.declared.frame.Tech.TheVariants.{A, V, F}
+use Rattle.nfc_base.specs.declared.event.Event.{Event}
+use Rattle.nfc_base.specs.declared.event.Event.TheVariants.{Reset, Request, Answer, Clash}
+use Rattle.bench_script.specs.declared.command.Command.{Command}
+use Rattle.bench_script.specs.declared.command.Command.TheVariants.{Skip, Fates, PlaceT2, PlaceT3, PlaceT4, PlaceT5, PlacePeer, Lock, Busy, Offer, Remove, Dump, Inbox, Find, Crowd, Poll3, Read, Read3, Write, Write3, Link, Forge, Raw, Put, Get, Lookup, OnPut, OnGet, Puts, Unlink}
+use Rattle.bench_script.specs.DeviceIds.{tech_for}
+
+-- the whole frame that asks all NFC-V devices for their identifiers
+abbrev pub is_inventory : List ℕ → ℕ → Bool
+is_inventory (a ∷ b ∷ c ∷ []) tail = (a == 0x26) && (b == 0x01) && (c == 0x00) && (tail == 0)
+is_inventory bytes tail = false
+
+-- the technology of a command's request with these bytes and this tail
+abbrev pub sent_tech : Command → List ℕ → ℕ → Tech
+sent_tech Find bytes tail = if is_inventory bytes tail then V else A
+sent_tech Crowd bytes tail = V
+sent_tech Poll3 bytes tail = F
+sent_tech (Read3 id) bytes tail = F
+sent_tech (Write3 id message) bytes tail = F
+sent_tech (Read id) bytes tail = tech_for id
+sent_tech (Write id message) bytes tail = tech_for id
+sent_tech (Raw id frames) bytes tail = tech_for id
+sent_tech c bytes tail = A
+
+-- The events have the technologies of their command: an answer and a clash that of the request before them, which is the last
+-- one where none of these events comes before.
+abbrev pub HaveTech : Command → Tech → List Event → Type 0
+HaveTech c last [] = Unit {0}
+HaveTech c last (Reset ∷ es) = HaveTech c last es
+HaveTech c last (Request f x ∷ es) = (f.tech ≡ sent_tech c f.bytes f.tail) × HaveTech c f.tech es
+HaveTech c last (Answer f x ∷ es) = (f.tech ≡ last) × HaveTech c last es
+HaveTech c last (Clash f x ∷ es) = (f.tech ≡ last) × HaveTech c last es
+
+-- each frame is one that may be on the air
+abbrev pub AreOnAir : List Event → Type 0
+AreOnAir [] = Unit {0}
+AreOnAir (Reset ∷ es) = AreOnAir es
+AreOnAir (Request f x ∷ es) = IsSignal f × AreOnAir es
+AreOnAir (Answer f x ∷ es) = IsSignal f × AreOnAir es
+AreOnAir (Clash f x ∷ es) = IsSignal f × AreOnAir es
