@@ -1,7 +1,5 @@
 -- What is found in the text of an event: its parts, where it is such a text. (The form of a report is this project's own.)
-use Rattle.std.specs.Prelude.{◌≡◌, ◌≢◌, ℕ, ◌<◌, ◌^◌, List, ◌∷◌, ◌++◌, Option, Some}
-use Rattle.std.specs.Borrow.{Bor}
-use Rattle.std.specs.List.{All}
+use Rattle.std.specs.Prelude.{◌≡◌, ℕ, ◌<◌, ◌^◌, List, Option, Some}
 use Rattle.nfc_base.specs.Signal.{Signal, IsSignal}
 use Rattle.nfc_base.specs.declared.frame.Tech.{Tech}
 use Rattle.nfc_base.specs.declared.event.Event.{Event}
@@ -9,10 +7,6 @@ use Rattle.nfc_base.specs.declared.event.Fate.{Fate}
 use Rattle.bench_script.specs.Canonical.{hex_text, frame_text}
 use Rattle.bench_world.specs.Report.{sent_text, event_text, line_text}
 use Rattle.bench_world.specs.ReadBack.{IsOf}
-
--- these stand before and behind the first such byte of a text
-abbrev pub IsCutAt : ℕ → List ℕ → Bor (List ℕ) × Bor (List ℕ) → Type 0
-IsCutAt byte text x = (text ≡ x.0.now ++ byte ∷ x.1.now) × All (λ b. b ≢ byte) x.0.now
 
 -- what the text is of is found
 abbrev pub Finds : {T : Type 0} → (T → Type 0) → Option T → Type 0

@@ -1,7 +1,5 @@
 -- What is read of a report: the events of one command, up to the first line that isn't one of them.
-use Rattle.std.specs.Prelude.{◌≡◌, ◌≢◌, ℕ, List, [], ◌∷◌, ◌++◌}
-use Rattle.std.specs.Borrow.{Bor}
-use Rattle.std.specs.List.{All}
+use Rattle.std.specs.Prelude.{◌≡◌, ℕ, List, [], ◌∷◌, ◌++◌}
 use Rattle.nfc_base.specs.declared.frame.Tech.{Tech}
 use Rattle.nfc_base.specs.declared.frame.Tech.TheVariants.{A}
 use Rattle.nfc_base.specs.declared.event.Event.{Event}
@@ -9,10 +7,6 @@ use Rattle.nfc_base.specs.declared.event.Event.TheVariants.{Reset, Request, Answ
 use Rattle.bench_script.specs.declared.command.Command.{Command}
 use Rattle.bench_world.specs.Report.{event_text, line_text, events_text}
 use Rattle.trace_audit.specs.Reading.{HaveTech, AreOnAir}
-
--- the first line with its LF, and what stands behind
-abbrev pub IsFirstLine : List ℕ → Bor (List ℕ) × Bor (List ℕ) → Type 0
-IsFirstLine text x = (body : List ℕ) × (x.0.now ≡ body ++ 10 ∷ []) × All (λ b. b ≢ 10) body × (text ≡ x.0.now ++ x.1.now)
 
 -- the technology of the last request
 abbrev pub tech_behind : Tech → Event → Tech

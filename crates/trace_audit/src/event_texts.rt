@@ -1,14 +1,14 @@
 //! Reads the line of an event back.
 
 ghost use Rattle.std.specs.Prelude.{◌≡◌, ◌≢◌, ℕ, ◌+◌, ◌/◌, ◌<◌, List, [], ◌∷◌, length, true, MatchOption, IfSome};
-ghost use Rattle.std.specs.List.{All};
 ghost use Rattle.nfc_base.specs.declared.event.Fate.{Fate as Becomes};
 ghost use Rattle.hex.specs.Hex.{encode_upper, IsBytes};
 ghost use Rattle.nfc_base.specs.Signal.{signal, IsSignal};
 ghost use Rattle.bench_world.specs.Report.{fate_text};
 ghost use Rattle.bench_world.specs.ReadBack.{IsOf};
-ghost use Rattle.trace_audit.specs.Finding.{IsCutAt, Finds, IsDigitsOf, IsWordOf, IsSentOf, IsTextOf, IsLineOf};
+ghost use Rattle.trace_audit.specs.Finding.{Finds, IsDigitsOf, IsWordOf, IsSentOf, IsTextOf, IsLineOf};
 
+use crate::cutting::cut_at;
 use nfc_base::{Event, Fate, Frame, Tech};
 
 /// How many bytes a frame has at most.
@@ -123,16 +123,4 @@ fn part_of(tech: Tech, bytes: &[u8], tail: u8) -> Option<Frame>
     ensures of { IfSome result (λ f. f.tech ≡ tech) }
 {
     Frame::part(tech, bytes, tail).ok()
-}
-
-/// What stands before and behind the first such byte of a text.
-pub fn cut_at(text: &[u8], byte: u8) -> Option<(&[u8], &[u8])>
-    ensures { MatchOption result (All (λ b. b ≢ byte) text.now) (IsCutAt byte text.now) }
-{
-    for (i, b) in text.iter().enumerate() {
-        if *b == byte {
-            return Some((&text[..i], &text[i + 1..]));
-        }
-    }
-    None
 }

@@ -1,15 +1,15 @@
 //! Reads the events of a command off a report.
 
 ghost use Rattle.std.specs.Prelude.{◌≡◌, ◌≢◌, ℕ, List, MatchOption, IfOk};
-ghost use Rattle.std.specs.List.{All};
 ghost use Rattle.nfc_base.specs.Signal.{signal};
 ghost use Rattle.nfc_base.specs.declared.event.Event.{Event as Happens};
 ghost use Rattle.bench_world.specs.Report.{event_text, line_text};
 ghost use Rattle.bench_world.specs.ReadBack.{IsOf};
 ghost use Rattle.trace_audit.specs.Reading.{is_inventory as asks_all, sent_tech as tech_sent};
-ghost use Rattle.trace_audit.specs.ReadEvents.{AreRead, IsFirstLine, IsInFront, IsNext, tech_behind as behind};
+ghost use Rattle.trace_audit.specs.ReadEvents.{AreRead, IsInFront, IsNext, tech_behind as behind};
 
-use crate::event_texts::{cut_at, likely_event};
+use crate::cutting::first_line;
+use crate::event_texts::likely_event;
 use bench_script::Command;
 use bench_world::event_line;
 use nfc_base::{Event, Frame, Tech};
@@ -65,14 +65,6 @@ fn front_event<'a>(
     let (first, rest) = first_line(text)?;
     let event = next_event(line, command, last, first)?;
     Some((event, rest))
-}
-
-/// The first line with its LF, and what stands behind.
-fn first_line(text: &[u8]) -> Option<(&[u8], &[u8])>
-    ensures { MatchOption result (All (λ b. b ≢ 10) text.now) (IsFirstLine text.now) }
-{
-    let (line, _) = cut_at(text, b'\n')?;
-    Some(text.split_at(line.len() + 1))
 }
 
 /// The event of a command of which a text is the line, behind a request of this technology.

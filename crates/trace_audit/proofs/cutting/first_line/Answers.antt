@@ -1,7 +1,7 @@
 use Rattle.std.proofs.Common.{◌≡◌, ◌++◌, ◌+◌, ℕ, List, drop, length, sym, ◌∙◌, ap}
 use Rattle.std.proofs.lemmas.List.{take-append-drop}
 use Rattle.trace_audit.proofs.FrontLines.{line_cut}
-use Rattle.trace_audit.proofs.reading.first_line.Goals as goal
+use Rattle.trace_audit.proofs.cutting.first_line.Goals as goal
 
 pub returns : goal.returns
 returns c =
