@@ -1,3 +1,15 @@
 pub mod FirstLines
 pub mod CleanLines
 pub mod ReportLines
+pub mod Laws
+pub mod TellsEvents
+pub mod TellsEntry
+pub mod Entries
+pub mod TellsJournal
+pub mod Standing
+pub mod Audited
+pub mod Stopping
+pub mod Walking
+pub mod NoneGoOn
+pub mod Straying
+pub mod Settled

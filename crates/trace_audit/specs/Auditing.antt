@@ -6,8 +6,9 @@ use Rattle.nfc_io.specs.Lines.{joined, whole_lines}
 use Rattle.bench_script.specs.declared.command.Command.{Command}
 use Rattle.bench_script.specs.Script.{Spells}
 use Rattle.bench_world.specs.declared.entry.Entry.{Entry}
+use Rattle.bench_world.specs.Following.{MayFollow}
 use Rattle.bench_world.specs.Journal.{LeadsTo, Legal}
-use Rattle.bench_world.specs.Legal.{State, Joins, Accepts, changed, first_state}
+use Rattle.bench_world.specs.Legal.{State, Joins, changed, first_state}
 use Rattle.bench_world.specs.Obeying.{Benched}
 use Rattle.bench_world.specs.Report.{report_text}
 use Rattle.bench_world.specs.Showing.{MayShow}
@@ -58,10 +59,10 @@ pub record IsReportOf (lines : List (List ℕ)) (report : List ℕ) (bench : Ben
   pub on_air : IsOnAir bench.journal
   pub is : report ≡ report_text false bench.journal
 
--- A line is audited in a state: it spells a command that is accepted there, and isn't a `raw` while a peer is placed, whose numbers
--- of PDUs need not show.
+-- A line is audited in a state: it spells a command that may be followed there, so it is accepted and isn't a `raw` while a peer is
+-- placed.
 abbrev pub IsAudited : State → List ℕ → Type 0
-IsAudited s line = (c : Command) × Spells line c × Accepts s c × MayShow s c
+IsAudited s line = (c : Command) × Spells line c × MayFollow s c
 
 -- none of these commands is such a `raw`, each behind those before it
 abbrev pub AllShow : State → List Command → Type 0
@@ -83,3 +84,15 @@ pub record IsUnauditedAt (lines : List (List ℕ)) (n : ℕ) : Type 0 where
   pub commands : List Command
   pub audited : AreAudited before commands
   pub refused : IsAudited (standing_of commands) line → ⊥
+
+-- What an audit says is settled by the lines and the report: at most one line of a report is the first that no run can have, ...
+abbrev pub OneFault : Type 0
+OneFault = (lines : List (List ℕ)) (report : List ℕ) (n m : ℕ) → IsFaultyAt lines report n → IsFaultyAt lines report m → n ≡ m
+
+-- ... at most one line of a script is the first that isn't audited, ...
+abbrev pub OneUnaudited : Type 0
+OneUnaudited = (lines : List (List ℕ)) (n m : ℕ) → IsUnauditedAt lines n → IsUnauditedAt lines m → n ≡ m
+
+-- ... and none where all are.
+abbrev pub NoneUnaudited : Type 0
+NoneUnaudited = (lines : List (List ℕ)) (commands : List Command) (n : ℕ) → AreAudited lines commands → IsUnauditedAt lines n → ⊥
