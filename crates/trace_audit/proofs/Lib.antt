@@ -13,3 +13,5 @@ pub mod Walking
 pub mod NoneGoOn
 pub mod Straying
 pub mod Settled
+pub mod Finding
+pub mod FrontLines

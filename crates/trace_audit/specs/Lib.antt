@@ -1,2 +1,4 @@
 pub mod Auditing
 pub mod Reading
+pub mod Finding
+pub mod ReadEvents

@@ -1,7 +1,14 @@
 //! Judges a stored report against its script: whether it is one that the script may have, and if not, which is its first
 //! line that no run can have.
+//!
+//! `reading` reads the events of a command off a report, and `event_texts` the line of one. A line doesn't tell the
+//! technology of a frame: the command does (`specs/Reading.antt`).
+//! `specs/Auditing.antt` says what an audit says, and `verdicts` that the lines and the report alone settle it.
 #![tactic(auto)]
 
+mod event_texts;
+mod reading;
 mod verdicts;
 
+pub use reading::{Read, read_event, read_events};
 pub use verdicts::verdicts_settled;
