@@ -1,3 +1,4 @@
+pub mod Auditing
 pub mod Reading
 pub mod Cutting
 pub mod Finding

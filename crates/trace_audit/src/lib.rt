@@ -3,10 +3,13 @@
 //!
 //! `cutting` cuts texts, `event_texts` reads the line of an event, and `reading` the events of a command off a report. A line
 //! doesn't tell the technology of a frame: the command does (`specs/Reading.antt`).
+//! `specs/Auditing.antt` says what an audit says, and `verdicts` that the lines and the report alone settle it.
 #![tactic(auto)]
 
 mod cutting;
 mod event_texts;
 mod reading;
+mod verdicts;
 
 pub use reading::{Read, read_event, read_events};
+pub use verdicts::verdicts_settled;
