@@ -1,0 +1,10 @@
+pub mod TechTurns
+pub mod TechPolling
+pub mod TechThrees
+pub mod TechCommands
+pub mod TechTags
+pub mod TechRaws
+pub mod TechLinks
+pub mod TechNames
+pub mod TechSteps
+pub mod TechJournals
