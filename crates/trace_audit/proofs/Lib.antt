@@ -18,3 +18,13 @@ pub mod FrontLines
 pub mod ScriptLines
 pub mod AllTags
 pub mod Counts
+pub mod TechTurns
+pub mod TechPolling
+pub mod TechThrees
+pub mod TechCommands
+pub mod TechTags
+pub mod TechRaws
+pub mod TechLinks
+pub mod TechNames
+pub mod TechSteps
+pub mod TechJournals

@@ -3,3 +3,4 @@ pub mod Reading
 pub mod Cutting
 pub mod Finding
 pub mod ReadEvents
+pub mod Technologies

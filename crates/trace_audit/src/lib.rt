@@ -2,14 +2,16 @@
 //! line that no run can have.
 //!
 //! `cutting` cuts texts, `event_texts` reads the line of an event, and `reading` the events of a command off a report. A line
-//! doesn't tell the technology of a frame: the command does (`specs/Reading.antt`).
+//! doesn't tell the technology of a frame: the command does (`specs/Reading.antt`), as `law` says.
 //! `specs/Auditing.antt` says what an audit says, and `verdicts` that the lines and the report alone settle it.
 #![tactic(auto)]
 
 mod cutting;
 mod event_texts;
+mod law;
 mod reading;
 mod verdicts;
 
+pub use law::technologies_told;
 pub use reading::{Read, read_event, read_events};
 pub use verdicts::verdicts_settled;
