@@ -14,6 +14,7 @@ pub record HasGivenFrom (a : Lined) (lines : List (List ℕ)) (left : Option (Li
   pub bytes : List ℕ
   pub read : left ≡ with_front bytes left'
   pub spelled : AreSpelled (a.held ++ bytes) lines b.held
+  pub whole : b.is_ended ≡ false → a.held ++ bytes ≡ joined lines ++ b.held
   pub first : (more : List ℕ) → (b.is_ended ≡ true → more ≡ []) → lines_of ((a.held ++ bytes) ++ more) ≡ lines ++ lines_of (b.held ++ more)
   pub ended : (a.is_ended ≡ true → IfSome left (λ rest. rest ≡ [])) → b.is_ended ≡ true → IfSome left' (λ rest. rest ≡ [])
 
@@ -49,6 +50,7 @@ from_none a b left left' same stays =
       bytes = [];
       read = sym (with_front-nil left);
       spelled = inl (append-nil a.held);
+      whole = λ _. append-nil a.held;
       first = λ more _. ap (λ x. lines_of (x ++ more)) (append-nil a.held);
       ended = λ first over. first over;
     } in
@@ -76,6 +78,7 @@ from_lf a m b ls left mid left' adv lf tail =
       bytes = got ++ tail.bytes;
       read = read_on left mid left' got tail.bytes adv.fetched.read tail.read;
       spelled = subst (λ x. AreSpelled x (m.line ∷ ls) b.held) (sym is) (spelled_more m.line (m.held ++ tail.bytes) b.held ls tail.spelled);
+      whole = λ going. is ∙ ap (λ x. m.line ++ 10 ∷ x) (tail.whole going) ∙ sym (append_assoc m.line (10 ∷ joined ls) b.held);
       first = λ more follows.
           ap (λ x. lines_of (x ++ more)) is ∙ ap lines_of (append_assoc m.line (10 ∷ (m.held ++ tail.bytes)) more)
           ∙ lines_front m.line ((m.held ++ tail.bytes) ++ more) given.clean ∙ ap (λ x. m.line ∷ x) (tail.first more follows);
@@ -93,6 +96,7 @@ from_last a m b ls left mid left' adv (all, none, some, over) (ends, same, stays
       bytes = got;
       read = adv.fetched.read;
       spelled = inr (none, [], m.line, refl, is);
+      whole = λ going. absurd (let no : true ≡ false = sym over ∙ going in absurd cc);
       first = λ more follows.
           let nothing : more ≡ [] = follows over in
           let text : (a.held ++ got) ++ more ≡ m.line = ap (λ x. (a.held ++ got) ++ x) nothing ∙ append-nil (a.held ++ got) ∙ is in
@@ -116,4 +120,4 @@ from (l ∷ ls) a b left left' (m, mid, adv, same, gave) =
 pub in_order : GivesInOrder
 in_order = λ lines left left' b gave.
     let it : HasGivenFrom new_lined lines left b left' = from lines new_lined b left left' gave in
-    record { bytes = it.bytes; read = it.read; spelled = it.spelled; first = it.first; ended = it.ended (λ no. absurd cc) }
+    record { bytes = it.bytes; read = it.read; spelled = it.spelled; whole = it.whole; first = it.first; ended = it.ended (λ no. absurd cc) }

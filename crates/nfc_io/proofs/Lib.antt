@@ -5,3 +5,4 @@ pub mod Lines
 pub mod Room
 pub mod Reading
 pub mod InOrder
+pub mod Behind

@@ -4,3 +4,4 @@ pub mod Memory
 pub mod Standard
 pub mod Lines
 pub mod Reading
+pub mod Behind

@@ -122,12 +122,13 @@ AreSpelled bytes lines held =
     (bytes ≡ joined lines ++ held)
     ⊎ ((held ≡ []) × (before : List (List ℕ)) × (last : List ℕ) × (lines ≡ before ++ last ∷ []) × (bytes ≡ joined before ++ last))
 
--- What a reader has given since it was made, which is all that its source gave it but what it holds; whatever follows, these lines are
--- the first, and at the source's end nothing follows.
+-- What a reader has given since it was made, which is all that its source gave it but what it holds: only behind the source's end may
+-- the last line lack its LF. Whatever follows, these lines are the first, and at the source's end nothing follows.
 pub record HasGiven (lines : List (List ℕ)) (left : Option (List ℕ)) (b : Lined) (left' : Option (List ℕ)) : Type 0 where
   pub bytes : List ℕ
   pub read : left ≡ with_front bytes left'
   pub spelled : AreSpelled bytes lines b.held
+  pub whole : b.is_ended ≡ false → bytes ≡ joined lines ++ b.held
   pub first : (more : List ℕ) → (b.is_ended ≡ true → more ≡ []) → lines_of (bytes ++ more) ≡ lines ++ lines_of (b.held ++ more)
   pub ended : b.is_ended ≡ true → IfSome left' (λ rest. rest ≡ [])
 

@@ -1,5 +1,5 @@
 //! Bytes that were read and aren't given yet.
-ghost use Rattle.std.specs.Prelude.{◌≡◌, ◌≢◌, ◌≤◌, ◌-◌, [], length, take, drop, Err, IfOk, IfErr, OnErr, OnOk, MatchOption};
+ghost use Rattle.std.specs.Prelude.{◌≡◌, ◌≢◌, ◌≤◌, ◌-◌, [], ◌++◌, length, take, drop, Err, IfOk, IfErr, OnErr, OnOk, MatchOption};
 ghost use Rattle.nfc_io.specs.Counts.{HasRisen};
 ghost use Rattle.nfc_io.specs.Lines.{NoLf};
 ghost use Rattle.nfc_io.specs.Reading.{HoldsLf, Gets, Fetches, Reaches, Lacks};
@@ -96,6 +96,16 @@ impl Held {
         ensures { self.new ≡ drop count self.old }
     {
         self.start += count;
+    }
+
+    /// Moves all the bytes behind these.
+    pub fn move_to(&mut self, target: &mut Vec<u8>) -> Result<(), AllocError>
+        ensures ok { OnOk result ((target.new.items ≡ target.old.items ++ self.old) × (self.new ≡ [])) }
+        ensures err { OnErr result ((target.new.items ≡ target.old.items) × (self.new ≡ self.old)) }
+    {
+        target.extend_from_slice(self.view())?;
+        self.start = self.end;
+        Ok(())
     }
 
     /// Reads once, as far as there is room behind the bytes, and says how many it got.

@@ -1,9 +1,11 @@
 //! A source's lines, one by one.
-ghost use Rattle.std.specs.Prelude.{◌≡◌, ◌≢◌, ◌≤◌, length, take, drop, None, Some, Err, IfOk};
+ghost use Rattle.std.specs.Prelude.{◌≡◌, ◌≢◌, ◌≤◌, length, take, drop, None, Some, Err, IfOk, OnErr};
 ghost use Rattle.nfc_io.specs.Counts.{HasRisen};
 ghost use Rattle.nfc_io.specs.Reading.{Advances, Looks, new_lined};
+ghost use Rattle.nfc_io.specs.Behind.{HandsOver, TakesSome};
 
 use crate::held::{Held, LineEnd};
+use crate::rest::{Rest, RestFault, read_on};
 use crate::source::Source;
 use std::alloc::{AllocError, Global};
 use std::marker::Model;
@@ -132,6 +134,30 @@ impl LineReader {
                 Err(LineStop::ReadFault)
             }
         }
+    }
+
+    /// Hands over what stands behind the last line: the bytes held, and those that the source has behind them, to its end
+    /// or until there are more than so many.
+    pub fn into_rest<S: Source>(
+        mut self,
+        alloc: Global,
+        source: &mut S,
+        most: usize,
+    ) -> Result<Rest, RestFault>
+        ensures rest { self.stop ≡ None
+            → IfOk result (λ rest. HandsOver most self (S.left source.old) (S.left source.new) rest) }
+        ensures some { OnErr result (TakesSome most (S.left source.old) (S.left source.new)) }
+        ensures cause { result ≡ Err RestFault.ReadFault → HasRisen (S.faults source.old) (S.faults source.new) }
+        ensures still { result ≢ Err RestFault.ReadFault → S.faults source.new ≡ S.faults source.old }
+        ensures count { S.faults source.old ≤ S.faults source.new }
+        ensures going { (s : LineStop) → result ≡ Err (RestFault.Stopped s) → self.stop ≡ Some s }
+        ensures stuck { (s : LineStop) → self.stop ≡ Some s
+            → (result ≡ Err (RestFault.Stopped s)) × (source.new ≡ source.old) }
+    {
+        if let Some(stop) = self.stop {
+            return Err(RestFault::Stopped(stop));
+        }
+        read_on(alloc, &mut self.held, source, self.ended, most)
     }
 
     /// The first of the held bytes become the last line.

@@ -1,6 +1,6 @@
-//! Lines over sources that cut their bytes, and that fail.
+//! Lines, and what stands behind them, over sources that cut their bytes, and that fail.
 
-use nfc_io::{LineReader, LineStop, MemSource, StdSource};
+use nfc_io::{LineReader, LineStop, MemSource, Rest, RestFault, StdSource};
 use std::alloc::Global;
 use std::io;
 use std::io::{ErrorKind, Read};
@@ -205,6 +205,83 @@ fn the_last_line_stays_behind_the_end_and_a_fault(rt: HostRuntime) -> Result<(),
             (ends, line.as_slice()),
             ([Ok(true), end], b"one".as_slice())
         );
+    }
+    Ok(())
+}
+
+/// What a reader hands over behind so many lines, at most so many bytes of it: whether that is all, and the bytes, or one
+/// more than so many.
+fn rest_behind(
+    alloc: Global,
+    (text, size, failing): (&[u8], usize, usize),
+    lines: usize,
+    most: usize,
+) -> Result<Result<(bool, Vec<u8>), RestFault>, Fail> {
+    let mut source = source_of(alloc, text, size, failing)?;
+    let mut reader = LineReader::new(alloc)?;
+    given(alloc, &mut reader, &mut source, lines)?;
+    Ok(match reader.into_rest(alloc, &mut source, most) {
+        Ok(Rest::Whole(bytes)) => Ok((true, bytes)),
+        Ok(Rest::TooLong(mut bytes)) => {
+            bytes.truncate(most.saturating_add(1));
+            Ok((false, bytes))
+        }
+        Err(fault) => Err(fault),
+    })
+}
+
+#[test]
+fn what_stands_behind_the_lines_is_handed_over(rt: HostRuntime) -> Result<(), Fail> {
+    const INPUT: &[u8] = b"find\n%%\nlegal\r\n\n\x00\xFF";
+    // The text, how many lines are given, and how many bytes are wanted; whether these are all, and the bytes.
+    const ROWS: [(&[u8], usize, usize, bool, &[u8]); 11] = [
+        (b"", 0, 0, true, b""),
+        (b"", 1, 0, true, b""),
+        (b"a", 1, 9, true, b""),
+        (b"a\n", 1, 0, true, b""),
+        (b"a\nb", 2, 9, true, b""),
+        (INPUT, 0, 99, true, INPUT),
+        (INPUT, 2, 99, true, b"legal\r\n\n\x00\xFF"),
+        (INPUT, 2, 10, true, b"legal\r\n\n\x00\xFF"),
+        (INPUT, 2, 9, false, b"legal\r\n\n\x00\xFF"),
+        (INPUT, 2, 0, false, b"l"),
+        (INPUT, 3, 3, true, b"\n\x00\xFF"),
+    ];
+    for &(text, lines, most, whole, bytes) in &ROWS {
+        for size in SIZES {
+            let rest = rest_behind(rt.alloc(), (text, size, 0), lines, most)?;
+            assert_eq!(rt; rest, Ok((whole, Vec::from_slice(rt.alloc(), bytes)?)));
+        }
+    }
+    Ok(())
+}
+
+#[test]
+fn a_long_rest_is_handed_over_whole(rt: HostRuntime) -> Result<(), Fail> {
+    let text = long_text(rt.alloc(), 9, 20_000)?;
+    let behind = text.as_slice().split_at(text.len().min(10)).1;
+    for size in SIZES {
+        for (most, whole) in [(20_001, true), (20_000, false)] {
+            let rest = rest_behind(rt.alloc(), (&text, size, 0), 1, most)?;
+            assert_eq!(rt; rest, Ok((whole, Vec::from_slice(rt.alloc(), behind)?)));
+        }
+    }
+    Ok(())
+}
+
+#[test]
+fn a_failed_read_ends_the_rest(rt: HostRuntime) -> Result<(), Fail> {
+    // The size of each read and which of them fails; behind the first line is the rest.
+    let rows = [
+        ((1, 4), RestFault::Stopped(LineStop::ReadFault)),
+        ((1, 5), RestFault::ReadFault),
+        ((1, 9), RestFault::ReadFault),
+        ((7, 2), RestFault::ReadFault),
+        ((4096, 2), RestFault::ReadFault),
+    ];
+    for ((size, failing), fault) in rows {
+        let rest = rest_behind(rt.alloc(), (b"one\nrest", size, failing), 1, 99)?;
+        assert_eq!(rt; rest, Err(fault));
     }
     Ok(())
 }
