@@ -9,9 +9,9 @@ pub mod TellsJournal
 pub mod Standing
 pub mod Audited
 pub mod Stopping
-pub mod Walking
+pub mod Walked
 pub mod NoneGoOn
-pub mod Straying
+pub mod Strayed
 pub mod Settled
 pub mod Finding
 pub mod FrontLines

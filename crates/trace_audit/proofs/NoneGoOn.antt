@@ -25,7 +25,7 @@ use Rattle.trace_audit.proofs.Stopping.{Agrees, NoneGoesOn}
 use Rattle.trace_audit.proofs.TellsEntry.{same_answer}
 use Rattle.trace_audit.proofs.TellsEvents.{GoesOn, air_parts, event_first, line_first, tech_front, tells_events}
 use Rattle.trace_audit.proofs.TellsJournal.{Rest}
-use Rattle.trace_audit.proofs.Walking.{TheirEntry, Walked, number_small, their_entry, their_rest}
+use Rattle.trace_audit.proofs.Walked.{TheirEntry, Walked, number_small, their_entry, their_rest}
 
 -- the lines of some entries, and of the first events of the next
 abbrev pub so_far : List Entry → ℕ → List Event → List (List ℕ)

@@ -27,7 +27,7 @@ use Rattle.trace_audit.proofs.FirstLines.{first_joined}
 use Rattle.trace_audit.proofs.NoneGoOn.{none_answers, none_early, none_late, none_surplus, so_far, so_far_clean, so_far_joined}
 use Rattle.trace_audit.proofs.ReportLines.{event_lines, report_clean, report_joined, report_lines}
 use Rattle.trace_audit.proofs.Stopping.{NoneGoesOn, Stops, faulty_at, stops_at}
-use Rattle.trace_audit.proofs.Walking.{Walked, leads_to, numbers_of, text_more, walked_leads}
+use Rattle.trace_audit.proofs.Walked.{Walked, leads_to, numbers_of, text_more, walked_leads}
 
 pub record Strayed (lines done : List (List ℕ)) (bench : Benched) (report : List ℕ) (fault : ℕ) : Type 0 where
   pub sound : bench.spoiled ≡ false
