@@ -13,6 +13,8 @@ pub mod Walked
 pub mod NoneGoOn
 pub mod Strayed
 pub mod Settled
+pub mod LineSteps
+pub mod Judged
 pub mod Finding
 pub mod FrontLines
 pub mod ScriptLines

@@ -1,4 +1,5 @@
 pub mod Auditing
+pub mod Judging
 pub mod Reading
 pub mod Cutting
 pub mod Finding

@@ -1,0 +1,25 @@
+-- What an audit answers: a verdict on the report where all lines of the script are audited, and else the first that isn't.
+use Rattle.std.specs.Prelude.{ℕ, List}
+use Rattle.bench_script.specs.declared.command.Command.{Command}
+use Rattle.bench_world.specs.Obeying.{Benched}
+use Rattle.trace_audit.specs.declared.audit.AuditFault.{AuditFault}
+use Rattle.trace_audit.specs.declared.audit.AuditFault.TheVariants.{Memory, Script}
+use Rattle.trace_audit.specs.declared.audit.Verdict.{Verdict}
+use Rattle.trace_audit.specs.declared.audit.Verdict.TheVariants.{Faulty, Legal}
+use Rattle.trace_audit.specs.Auditing.{AreAudited, IsFaultyAt, IsReportOf, IsUnauditedAt}
+
+-- The report is the text of the journal that the bench has now, or has this first line that no run can have. Only one of these can
+-- be, and of one line alone (`verdicts_settled`), so each comes exactly where it is so.
+abbrev pub Says : List (List ℕ) → List ℕ → Benched → Verdict → Type 0
+Says lines report bench Legal = IsReportOf lines report bench
+Says lines report bench (Faulty n) = IsFaultyAt lines report n
+
+pub record Judges (lines : List (List ℕ)) (report : List ℕ) (bench : Benched) (verdict : Verdict) : Type 0 where
+  pub commands : List Command
+  pub audited : AreAudited lines commands
+  pub says : Says lines report bench verdict
+
+-- A script is refused at the first line that isn't audited, whatever the report is. Where memory is wanting nothing is said.
+abbrev pub Refuses : List (List ℕ) → AuditFault → Type 0
+Refuses lines (Script n) = IsUnauditedAt lines n
+Refuses lines Memory = Unit {0}
