@@ -9,9 +9,11 @@
 mod cutting;
 mod event_texts;
 mod law;
+mod on_air;
 mod reading;
 mod verdicts;
 
 pub use law::technologies_told;
+pub use on_air::see_on_air;
 pub use reading::{Read, read_event, read_events};
 pub use verdicts::verdicts_settled;
