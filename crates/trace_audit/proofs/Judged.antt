@@ -1,8 +1,8 @@
 -- What an audit answers behind the last line of a script.
 use Rattle.std.proofs.Common.{◌≡◌, ℕ, ◌+◌, ◌<◌, ◌^◌, ◌⊎◌, List, [], length, true, false}
 use Rattle.bench_world.specs.Obeying.{Benched}
-use Rattle.trace_audit.specs.declared.audit.Verdict.TheVariants.{Faulty, Legal}
-use Rattle.trace_audit.specs.declared.walking.Walk.{Walk}
+use Rattle.trace_audit.specs.declared.judging.Verdict.TheVariants.{Faulty, Legal}
+use Rattle.trace_audit.specs.declared.stepping.Walk.{Walk}
 use Rattle.trace_audit.specs.Judging.{Judges}
 use Rattle.trace_audit.proofs.LineSteps.{Stands, ends_audited, ends_faulty, ends_legal}
 

@@ -11,7 +11,7 @@ use Rattle.bench_world.specs.Showing.{IsBetween, MayShow}
 use Rattle.trace_audit.specs.Auditing.{AreAudited, IsAudited, IsFaultyAt, IsReportOf, IsUnauditedAt}
 use Rattle.trace_audit.specs.Reading.{AreOnAir}
 use Rattle.trace_audit.specs.Stepping.{AuditsLine, ObeysOn, StaysOn, StepsOn, StepsTo, StraysAtAnswer, StraysAtEvent, TakesBy, TakesLine}
-use Rattle.trace_audit.specs.declared.walking.Walk.{Walk}
+use Rattle.trace_audit.specs.declared.stepping.Walk.{Walk}
 use Rattle.trace_audit.proofs.Strayed.{Strayed, answer_strays, stray_ends, stray_goes_on, stray_refuses, stray_skips, walk_strays, walk_surplus}
 use Rattle.trace_audit.proofs.Walked.{Walked, walk_begins, walk_ends, walk_goes_on, walk_refuses, walk_skips}
 

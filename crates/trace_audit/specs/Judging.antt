@@ -2,10 +2,10 @@
 use Rattle.std.specs.Prelude.{ℕ, List}
 use Rattle.bench_script.specs.declared.command.Command.{Command}
 use Rattle.bench_world.specs.Obeying.{Benched}
-use Rattle.trace_audit.specs.declared.audit.AuditFault.{AuditFault}
-use Rattle.trace_audit.specs.declared.audit.AuditFault.TheVariants.{Memory, Script}
-use Rattle.trace_audit.specs.declared.audit.Verdict.{Verdict}
-use Rattle.trace_audit.specs.declared.audit.Verdict.TheVariants.{Faulty, Legal}
+use Rattle.trace_audit.specs.declared.judging.AuditFault.{AuditFault}
+use Rattle.trace_audit.specs.declared.judging.AuditFault.TheVariants.{Memory, Script}
+use Rattle.trace_audit.specs.declared.judging.Verdict.{Verdict}
+use Rattle.trace_audit.specs.declared.judging.Verdict.TheVariants.{Faulty, Legal}
 use Rattle.trace_audit.specs.Auditing.{AreAudited, IsFaultyAt, IsReportOf, IsUnauditedAt}
 
 -- The report is the text of the journal that the bench has now, or has this first line that no run can have. Only one of these can
