@@ -73,14 +73,14 @@ module _ (done : List (List ℕ)) (line : List ℕ) (after : List (List ℕ)) (b
       let x : Event = get_or events good Reset in
       let more_left : List ℕ = events_text n (drop (suc good) events) ++ behind in
       let first : events_text n (drop good events) ++ behind ≡ said n (event_text x) ++ 10 ∷ more_left =
-          ap (λ es. events_text n es ++ behind) (drop-cons events good Reset within) ∙ event_first n x (drop (suc good) events) behind in
+      ap (λ es. events_text n es ++ behind) (drop-cons events good Reset within) ∙ event_first n x (drop (suc good) events) behind in
       let back = agrees.back (said n (event_text x)) more_left (event_clean n x) first in
       let one_more : List Event = take (suc good) events in
       let parts : one_more ≡ take good events ++ x ∷ [] = take-suc events good Reset within in
       let so : events_text n (take good events) ++ more ≡ events_text n one_more ++ back.0 =
-          ap (λ xs. events_text n (take good events) ++ xs) (back.1 ∙ sym (event_first n x [] back.0))
-          ∙ sym (append_assoc (events_text n (take good events)) (events_text n (x ∷ [])) back.0)
-          ∙ ap (λ xs. xs ++ back.0) (sym (flat_map-append (λ e. line_text n (event_text e)) (take good events) (x ∷ [])) ∙ ap (events_text n) (sym parts)) in
+      ap (λ xs. events_text n (take good events) ++ xs) (back.1 ∙ sym (event_first n x [] back.0))
+      ∙ sym (append_assoc (events_text n (take good events)) (events_text n (x ∷ [])) back.0)
+      ∙ ap (λ xs. xs ++ back.0) (sym (flat_map-append (λ e. line_text n (event_text e)) (take good events) (x ∷ [])) ∙ ap (events_text n) (sym parts)) in
       let t : TheirEntry n c bench.state (events_text n one_more ++ back.0) = subst (TheirEntry n c bench.state) so (their (take good events) text more is_good is) in
       let tech : HaveTech c A one_more = tech_front c A one_more (drop (suc good) events) (subst (HaveTech c A) (sym (take-append-drop (suc good) events)) reads.tech) in
       let air : AreOnAir one_more = (air_parts one_more (drop (suc good) events) (subst AreOnAir (sym (take-append-drop (suc good) events)) reads.on_air)).0 in
@@ -115,13 +115,13 @@ module _ (done : List (List ℕ)) (line : List ℕ) (after : List (List ℕ)) (b
       let e : Entry = follows.entry in
       let t : TheirEntry n c bench.state (events_text n events ++ more) = their events text more is_good is in
       none_more more t agrees (λ same rest.
-          let answer : e.answer ≡ t.entry.answer =
-              same_answer bench.state follows.state t.mid t.after follows.given t.given e t.entry t.alike between (subst (MayShow bench.state) (sym follows.asked) follows.shows) follows.legal t.step
-              (t.asked ∙ sym follows.asked) (same ∙ sym follows.happened) in
-          let line_is : more ≡ said n (answer_text e.answer) ++ 10 ∷ t.more =
-              rest ∙ ap (λ a. line_text n (answer_text a) ++ t.more) (sym answer) ∙ line_first n (answer_text e.answer) t.more in
-          let there = agrees.there (said n (answer_text e.answer)) t.more (answer_clean n e.answer) line_is in
-          differs there.0 (there.1 ∙ sym (line_first n (answer_text e.answer) there.0)))
+      let answer : e.answer ≡ t.entry.answer =
+      same_answer bench.state follows.state t.mid t.after follows.given t.given e t.entry t.alike between (subst (MayShow bench.state) (sym follows.asked) follows.shows) follows.legal t.step
+      (t.asked ∙ sym follows.asked) (same ∙ sym follows.happened) in
+      let line_is : more ≡ said n (answer_text e.answer) ++ 10 ∷ t.more =
+      rest ∙ ap (λ a. line_text n (answer_text a) ++ t.more) (sym answer) ∙ line_first n (answer_text e.answer) t.more in
+      let there = agrees.there (said n (answer_text e.answer)) t.more (answer_clean n e.answer) line_is in
+      differs there.0 (there.1 ∙ sym (line_first n (answer_text e.answer) there.0)))
 
 -- Behind the last line of the script nothing follows.
 pub none_surplus : (lines : List (List ℕ)) (bench : Benched) (report : List ℕ) (at : ℕ) (left : List ℕ) → Walked lines bench report at left → length lines < 2 ^ 32 → 0 < length left

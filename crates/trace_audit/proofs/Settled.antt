@@ -15,8 +15,7 @@ use Rattle.trace_audit.proofs.ReportLines.{joined_append}
 fewer_first : (k m : ℕ) (text : List ℕ) → k ≤ m → IsFrontOf (first_lines k text) (first_lines m text)
 fewer_first k m text less =
     let ws : List (List ℕ) = whole_lines text in
-    let first : take k (take m ws) ≡ take k ws = take-take k m ws less in
-    (
+    let first : take k (take m ws) ≡ take k ws = take-take k m ws less in (
       joined (drop k (take m ws)),
       ap joined (sym (take-append-drop k (take m ws)) ∙ ap (λ x. x ++ drop k (take m ws)) first) ∙ joined_append (take k ws) (drop k (take m ws)),
     )
@@ -41,9 +40,9 @@ one_fault = λ lines report n m p q.
     elim (cases_lt p.good q.good) [
       | inl less ↦ absurd (no_earlier lines report n m p q less)
       | inr most ↦ elim (cases_lt q.good p.good) [
-          | inl less ↦ absurd (no_earlier lines report m n q p less)
-          | inr also ↦ omega (arith, p.next, q.next, most, also)
-        ]
+        | inl less ↦ absurd (no_earlier lines report m n q p less)
+        | inr also ↦ omega (arith, p.next, q.next, most, also)
+      ]
     ]
 
 -- a line among audited ones is audited behind those before it
@@ -93,7 +92,7 @@ one_unaudited = λ lines n m u v.
     elim (cases_lt (length u.before) (length v.before)) [
       | inl less ↦ absurd (no_line_before lines n m u v less)
       | inr most ↦ elim (cases_lt (length v.before) (length u.before)) [
-          | inl less ↦ absurd (no_line_before lines m n v u less)
-          | inr also ↦ omega (arith, u.number, v.number, most, also)
-        ]
+        | inl less ↦ absurd (no_line_before lines m n v u less)
+        | inr also ↦ omega (arith, u.number, v.number, most, also)
+      ]
     ]

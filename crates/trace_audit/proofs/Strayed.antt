@@ -80,8 +80,8 @@ entry_so_far : (js : List Entry) (n : ℕ) (es behind : List Event) (e : Entry) 
 entry_so_far js n es behind e numbered is =
     let last : List ℕ = line_text n (answer_text e.answer) in
     let parts : entry_text false e ≡ events_text n es ++ (events_text n behind ++ last) =
-        ap (λ k. events_text k e.events ++ line_text k (answer_text e.answer)) numbered ∙ ap (λ x. events_text n x ++ last) is
-        ∙ ap (λ x. x ++ last) (flat_map-append (λ x. line_text n (event_text x)) es behind) ∙ append_assoc (events_text n es) (events_text n behind) last in
+    ap (λ k. events_text k e.events ++ line_text k (answer_text e.answer)) numbered ∙ ap (λ x. events_text n x ++ last) is
+    ∙ ap (λ x. x ++ last) (flat_map-append (λ x. line_text n (event_text x)) es behind) ∙ append_assoc (events_text n es) (events_text n behind) last in
     ap (λ x. report_text false js ++ x) parts ∙ sym (append_assoc (report_text false js) (events_text n es) (events_text n behind ++ last))
     ∙ ap (λ x. x ++ (events_text n behind ++ last)) (sym (so_far_joined js n es))
 
@@ -98,9 +98,9 @@ module _ (done : List (List ℕ)) (line : List ℕ) (after : List (List ℕ)) (b
       let here : List ℕ = events_text n (drop good events) ++ behind in
       let ls : List (List ℕ) = so_far bench.journal n es in
       let parts : events_text n events ≡ events_text n es ++ events_text n (drop good events) =
-          ap (events_text n) (sym (take-append-drop good events)) ∙ flat_map-append (λ x. line_text n (event_text x)) es (drop good events) in
+      ap (events_text n) (sym (take-append-drop good events)) ∙ flat_map-append (λ x. line_text n (event_text x)) es (drop good events) in
       let is : report ≡ joined ls ++ here =
-          report_so_far bench.journal n es report left here w.read (reads.split ∙ ap (λ x. x ++ behind) parts ∙ append_assoc (events_text n es) (events_text n (drop good events)) behind) in
+      report_so_far bench.journal n es report left here w.read (reads.split ∙ ap (λ x. x ++ behind) parts ∙ append_assoc (events_text n es) (events_text n (drop good events)) behind) in
       let count : at + good ≡ length ls = omega (arith, w.count, count_so_far bench.journal n es, length-take-le good events strays.within) in
       stray_by done line after bench new report at left n c number w spelled other strays.made strays.given
       (subst (LegalStep bench.state strays.given strays.made) (ap (λ (b : Benched). b.state) (sym strays.is)) strays.legal) strays.numbered strays.asked strays.shows air

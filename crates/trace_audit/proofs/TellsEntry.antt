@@ -84,7 +84,7 @@ pub tells_entry : (n : ℕ) (s t r u : State) (g h : Given) (e f : Entry) (zs mo
 tells_entry n s t r u g h e f zs more small alike between shows step other first second command p q air air_by text =
     let q_by : HaveTech e.command A f.events = subst (λ c. HaveTech c A f.events) command q in
     let is : SameEvents n e.events f.events e.answer f.answer zs more =
-        tells_all e.command n e.events f.events e.answer f.answer zs more small p q_by air air_by (sym (entry_first n f more second) ∙ text ∙ entry_first n e zs first) in
+    tells_all e.command n e.events f.events e.answer f.answer zs more small p q_by air air_by (sym (entry_first n f more second) ∙ text ∙ entry_first n e zs first) in
     let answer : e.answer ≡ f.answer = same_answer s t r u g h e f alike between shows step other command is.events in
     let both : SameEntry t u e f = same_step s t r u g h e f alike between shows step other command is.events (second ∙ sym first) in
     let line : List ℕ = line_text n (answer_text f.answer) in

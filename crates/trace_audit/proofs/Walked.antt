@@ -159,8 +159,8 @@ module _ (done : List (List ℕ)) (line : List ℕ) (bench new : Benched) (repor
   text_here rest is =
       let e : Entry = follows.entry in
       let parts : left ≡ entry_text false e ++ rest =
-          reads.split ∙ ap (λ x. events_text n events ++ x) is ∙ ap (λ es. events_text n es ++ (line_text n (answer_text e.answer) ++ rest)) (sym follows.happened)
-          ∙ sym (entry_first n e rest follows.numbered) in
+      reads.split ∙ ap (λ x. events_text n events ++ x) is ∙ ap (λ es. events_text n es ++ (line_text n (answer_text e.answer) ++ rest)) (sym follows.happened)
+      ∙ sym (entry_first n e rest follows.numbered) in
       w.read ∙ ap (λ x. report_text false bench.journal ++ x) parts ∙ sym (append_assoc (report_text false bench.journal) (entry_text false e) rest)
       ∙ ap (λ x. x ++ rest) (sym (text_more bench.journal e))
 
