@@ -1,11 +1,10 @@
 -- One line of a script takes an audit on: from where it stands to where it stands behind the line.
-use Rattle.std.proofs.Common.{◌≡◌, ℕ, ◌+◌, ◌<◌, ◌^◌, ◌⊎◌, inl, inr, List, [], ◌∷◌, ◌++◌, length, Bool, true, false, refl, sym, ◌∙◌, ap, subst, arith}
+use Rattle.std.proofs.Common.{◌≡◌, ℕ, ◌+◌, ◌<◌, ◌^◌, ◌⊎◌, inl, inr, List, [], ◌∷◌, ◌++◌, length, Bool, true, false, refl, sym, subst}
 use Rattle.nfc_base.specs.declared.event.Event.{Event}
 use Rattle.bench_script.specs.declared.command.Command.{Command}
 use Rattle.bench_script.specs.declared.command.Command.TheVariants.{Skip}
 use Rattle.bench_script.specs.Script.{Spells}
 use Rattle.bench_world.specs.Following.{FollowsFront}
-use Rattle.bench_world.specs.Legal.{State}
 use Rattle.bench_world.specs.Obeying.{Adds, Benched, Obeys, new_bench}
 use Rattle.bench_world.specs.Showing.{IsBetween, MayShow}
 use Rattle.trace_audit.specs.Auditing.{AreAudited, IsAudited, IsFaultyAt, IsReportOf, IsUnauditedAt}

@@ -1,5 +1,5 @@
 -- Why no good text goes on as a report does: behind the good events of an entry, at its answer, and behind the last line of the script.
-use Rattle.std.proofs.Common.{◌≡◌, ℕ, suc, ◌+◌, ◌<◌, ◌^◌, List, [], ◌∷◌, ◌++◌, append_assoc, append-nil, drop, drop-cons, get_or, length, take, take-append-drop, take-suc, refl, sym, ◌∙◌, ap, subst, arith, false}
+use Rattle.std.proofs.Common.{◌≡◌, ℕ, suc, ◌+◌, ◌<◌, ◌^◌, List, [], ◌∷◌, ◌++◌, append_assoc, append-nil, drop, drop-cons, get_or, length, take, take-append-drop, take-suc, sym, ◌∙◌, ap, subst, arith, false}
 use Rattle.std.specs.List.{AllByRecursion}
 use Rattle.std.proofs.lemmas.Grind.{flat_map-append}
 use Rattle.nfc_base.proofs.Leading.{all_append}
@@ -24,7 +24,6 @@ use Rattle.trace_audit.proofs.ReportLines.{event_lines, events_clean, events_joi
 use Rattle.trace_audit.proofs.Stopping.{Agrees, NoneGoesOn}
 use Rattle.trace_audit.proofs.TellsEntry.{same_answer}
 use Rattle.trace_audit.proofs.TellsEvents.{GoesOn, air_parts, event_first, line_first, tech_front, tells_events}
-use Rattle.trace_audit.proofs.TellsJournal.{Rest}
 use Rattle.trace_audit.proofs.Walked.{TheirEntry, Walked, number_small, their_entry, their_rest}
 
 -- the lines of some entries, and of the first events of the next

@@ -1,6 +1,6 @@
 -- Where an audit stands behind the first fault of a report: some journal of the lines that are done has a text that begins with the
 -- report's good lines, and no good text goes on as the report does. Each line that is audited takes it on.
-use Rattle.std.proofs.Common.{◌≡◌, ℕ, suc, ◌+◌, ◌<◌, ◌≤◌, ◌^◌, List, [], ◌∷◌, ◌++◌, append_assoc, append-nil, ◌⊎◌, inl, inr, drop, length, take, take_all, take-append-drop, false, refl, sym, ◌∙◌, ap, subst, arith}
+use Rattle.std.proofs.Common.{◌≡◌, ℕ, ◌+◌, ◌<◌, ◌≤◌, ◌^◌, List, [], ◌∷◌, ◌++◌, append_assoc, append-nil, ◌⊎◌, inl, inr, drop, length, take, take_all, take-append-drop, false, refl, sym, ◌∙◌, ap, subst, arith}
 use Rattle.std.specs.List.{AllByRecursion}
 use Rattle.std.proofs.lemmas.Bool.{cases_lt}
 use Rattle.std.proofs.lemmas.List.{drop_all, length-append, length-map, length-take-le}
@@ -13,12 +13,12 @@ use Rattle.bench_script.specs.declared.command.Command.TheVariants.{Skip}
 use Rattle.bench_script.specs.Script.{Spells}
 use Rattle.bench_world.specs.declared.entry.Entry.{Entry}
 use Rattle.bench_world.specs.Following.{FollowsAll, FollowsFront}
-use Rattle.bench_world.specs.Journal.{AreEntriesOf, LeadsTo, asking_lines}
-use Rattle.bench_world.specs.Legal.{Accepts, EachLegal, Given, LegalStep, State, first_state}
+use Rattle.bench_world.specs.Journal.{AreEntriesOf, asking_lines}
+use Rattle.bench_world.specs.Legal.{Accepts, EachLegal, Given, LegalStep, first_state}
 use Rattle.bench_world.specs.Obeying.{Adds, Benched}
 use Rattle.bench_world.specs.Report.{answer_text, entry_text, event_text, events_text, line_text, report_text}
 use Rattle.bench_world.specs.Showing.{IsBetween, MayShow}
-use Rattle.trace_audit.specs.Auditing.{AreAudited, BeginsGood, IsAudited, IsFaultyAt, IsFrontOf, IsOnAir, IsUnauditedAt, first_lines}
+use Rattle.trace_audit.specs.Auditing.{AreAudited, IsAudited, IsFaultyAt, IsFrontOf, IsOnAir, IsUnauditedAt, first_lines}
 use Rattle.trace_audit.specs.ReadEvents.{AreRead}
 use Rattle.trace_audit.specs.Reading.{AreOnAir}
 use Rattle.trace_audit.proofs.Audited.{audited_more, unaudited}

@@ -1,6 +1,6 @@
 -- What a report's text tells of an entry: from alike states, entries of one line and command that have one text are the same, and
 -- leave alike states.
-use Rattle.std.proofs.Common.{◌≡◌, ℕ, ◌<◌, ◌^◌, List, [], ◌∷◌, ◌++◌, append_assoc, append-nil, false, refl, sym, ◌∙◌, ap, subst}
+use Rattle.std.proofs.Common.{◌≡◌, ℕ, ◌<◌, ◌^◌, List, [], ◌∷◌, ◌++◌, append_assoc, append-nil, false, sym, ◌∙◌, ap, subst}
 use Rattle.std.proofs.lemmas.List.{append_cancel_left}
 use Rattle.nfc_base.specs.declared.frame.Tech.TheVariants.{A}
 use Rattle.nfc_base.specs.declared.event.Event.{Event}
@@ -9,7 +9,7 @@ use Rattle.bench_world.specs.declared.entry.Answer.{Answer as Said}
 use Rattle.bench_world.specs.declared.entry.Entry.{Entry}
 use Rattle.bench_world.specs.Alike.{Alike, IsToldSame}
 use Rattle.bench_world.specs.Legal.{Given, LegalStep, State}
-use Rattle.bench_world.specs.Report.{answer_text, entry_text, event_text, events_text, line_text}
+use Rattle.bench_world.specs.Report.{answer_text, entry_text, events_text, line_text}
 use Rattle.bench_world.specs.Showing.{IsBetween, MayShow}
 use Rattle.trace_audit.specs.Reading.{AreOnAir, HaveTech}
 use Rattle.trace_audit.proofs.Laws.{alike_answers, alike_back, alike_on, alike_steps, entries_leave_alike, events_tell}
