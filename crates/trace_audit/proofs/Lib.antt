@@ -15,6 +15,7 @@ pub mod Strayed
 pub mod Settled
 pub mod LineSteps
 pub mod Judged
+pub mod LastEntry
 pub mod Finding
 pub mod FrontLines
 pub mod ScriptLines

@@ -8,7 +8,7 @@ use Rattle.bench_world.specs.Following.{FollowsFront}
 use Rattle.bench_world.specs.Obeying.{Adds, Benched, Obeys, new_bench}
 use Rattle.bench_world.specs.Showing.{IsBetween, MayShow}
 use Rattle.trace_audit.specs.Auditing.{AreAudited, IsAudited, IsFaultyAt, IsReportOf, IsUnauditedAt}
-use Rattle.trace_audit.specs.Reading.{AreOnAir}
+use Rattle.trace_audit.specs.Making.{MakesOnAir}
 use Rattle.trace_audit.specs.Stepping.{AuditsLine, ObeysOn, StaysOn, StepsOn, StepsTo, StraysAtAnswer, StraysAtEvent, TakesBy, TakesLine}
 use Rattle.trace_audit.specs.declared.stepping.Walk.{Walk}
 use Rattle.trace_audit.proofs.Strayed.{Strayed, answer_strays, stray_ends, stray_goes_on, stray_refuses, stray_skips, walk_strays, walk_surplus}
@@ -21,11 +21,6 @@ StandsBy true lines done bench report good left = Strayed lines done bench repor
 
 abbrev pub Stands : List (List ℕ) → List (List ℕ) → Benched → List ℕ → Walk → Type 0
 Stands lines done bench report w = StandsBy w.strayed lines done bench report w.good w.left.now
-
--- What a step makes may be on the air: the entry that is obeyed, and the one that parts from what was read.
-pub record MakesOnAir (old new : Benched) (line : ℕ) : Type 0 where
-  pub obeyed : (c : Command) (adds : Adds old new line c) → AreOnAir adds.entry.events
-  pub made : (c : Command) (events : List Event) (good : ℕ) (follows : FollowsFront old new line c events good) → AreOnAir follows.made.events
 
 -- what obeying adds, where it asks for something
 adds_of : (old new : Benched) (n : ℕ) (c : Command) → Obeys old new n c → (c ≡ Skip → ⊥) → Adds old new n c

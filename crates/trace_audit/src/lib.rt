@@ -14,6 +14,6 @@ mod reading;
 mod verdicts;
 
 pub use law::technologies_told;
-pub use on_air::see_on_air;
+pub use on_air::{see_last, see_on_air};
 pub use reading::{Read, read_event, read_events};
 pub use verdicts::verdicts_settled;

@@ -2,8 +2,10 @@
 
 ghost use Rattle.std.specs.Prelude.{[], ◌∷◌};
 ghost use Rattle.nfc_base.specs.Signal.{IsSignal};
+ghost use Rattle.trace_audit.specs.Making.{LastOnAir};
 ghost use Rattle.trace_audit.specs.Reading.{AreOnAir};
 
+use bench_world::Entry;
 use nfc_base::{Event, Frame};
 
 /// The frames of these events may be on the air. The call does nothing.
@@ -12,6 +14,15 @@ pub fn see_on_air(events: &[Event])
 {
     for event in events {
         see_event(event);
+    }
+}
+
+/// So may those of the last of some entries.
+pub fn see_last(entries: &[Entry])
+    ensures { LastOnAir entries.now }
+{
+    if let Some(entry) = entries.last() {
+        see_on_air(entry.events.as_slice());
     }
 }
 
