@@ -1,10 +1,8 @@
 -- One line of a script takes an audit on: from where it stands to where it stands behind the line.
 use Rattle.std.proofs.Common.{◌≡◌, ℕ, ◌+◌, ◌<◌, ◌^◌, ◌⊎◌, inl, inr, List, [], ◌∷◌, ◌++◌, length, Bool, true, false, refl, sym, subst}
-use Rattle.nfc_base.specs.declared.event.Event.{Event}
 use Rattle.bench_script.specs.declared.command.Command.{Command}
 use Rattle.bench_script.specs.declared.command.Command.TheVariants.{Skip}
 use Rattle.bench_script.specs.Script.{Spells}
-use Rattle.bench_world.specs.Following.{FollowsFront}
 use Rattle.bench_world.specs.Obeying.{Adds, Benched, Obeys, new_bench}
 use Rattle.bench_world.specs.Showing.{IsBetween, MayShow}
 use Rattle.trace_audit.specs.Auditing.{AreAudited, IsAudited, IsFaultyAt, IsReportOf, IsUnauditedAt}
@@ -29,8 +27,8 @@ adds_of old new n c p other = p
 
 module _ (done : List (List ℕ)) (text : List ℕ) (after : List (List ℕ)) (old new : Benched) (report : List ℕ) (line : ℕ) (number : line ≡ length done + 1) (few : length (done ++ text ∷ after) < 2 ^ 32)
     (between : IsBetween old.state) (makes : MakesOnAir old new line) where
-  abbrev lines : List (List ℕ)
-  lines = done ++ text ∷ after
+  abbrev all_lines : List (List ℕ)
+  all_lines = done ++ text ∷ after
 
   module _ (good : ℕ) (left : List ℕ) (c : Command) (spells : Spells text c) (asks : c ≡ Skip → ⊥) where
     stays : (rest : List ℕ) (count : ℕ) → Walked done old report good left → StaysOn old new line c left rest count → Walked (done ++ text ∷ []) new report (good + count) rest
@@ -38,42 +36,42 @@ module _ (done : List (List ℕ)) (text : List ℕ) (after : List (List ℕ)) (o
         subst (λ k. Walked (done ++ text ∷ []) new report (good + k) rest) (sym s.count)
         (walk_goes_on done text old new report good left line c s.events s.behind number w between spells asks s.read s.follows rest s.answered)
 
-    at_answer : (count : ℕ) → Walked done old report good left → StraysAtAnswer old new line c left count → Strayed lines (done ++ text ∷ []) new report (good + count + 1)
+    at_answer : (count : ℕ) → Walked done old report good left → StraysAtAnswer old new line c left count → Strayed all_lines (done ++ text ∷ []) new report (good + count + 1)
     at_answer count w s =
-        subst (λ k. Strayed lines (done ++ text ∷ []) new report (good + k + 1)) (sym s.count)
+        subst (λ k. Strayed all_lines (done ++ text ∷ []) new report (good + k + 1)) (sym s.count)
         (answer_strays done text after old new report good left line c s.events s.behind number w few spells asks s.read s.follows between s.other)
 
-    at_event : (count : ℕ) → Walked done old report good left → StraysAtEvent old new line c left count → Strayed lines (done ++ text ∷ []) new report (good + count + 1)
+    at_event : (count : ℕ) → Walked done old report good left → StraysAtEvent old new line c left count → Strayed all_lines (done ++ text ∷ []) new report (good + count + 1)
     at_event count w s =
         walk_strays done text after old new report good left line c s.events s.behind number w few spells asks s.read count s.follows (makes.made c s.events count s.follows)
 
-    steps : (v : Bool) (rest : List ℕ) (count : ℕ) → Walked done old report good left → StepsTo v old new line c left rest count → StandsBy v lines (done ++ text ∷ []) new report (good + count) rest
+    steps : (v : Bool) (rest : List ℕ) (count : ℕ) → Walked done old report good left → StepsTo v old new line c left rest count → StandsBy v all_lines (done ++ text ∷ []) new report (good + count) rest
     steps false rest count w s = stays rest count w s
     steps true rest count w (inl s) = at_answer count w s
     steps true rest count w (inr s) = at_event count w s
 
-    obeys : (fault : ℕ) → Strayed lines done old report fault → Obeys old new line c → MayShow old.state c → Strayed lines (done ++ text ∷ []) new report fault
+    obeys : (fault : ℕ) → Strayed all_lines done old report fault → Obeys old new line c → MayShow old.state c → Strayed all_lines (done ++ text ∷ []) new report fault
     obeys fault s does shows =
         let adds : Adds old new line c = adds_of old new line c does asks in
-        stray_goes_on lines done text old new report fault line c number s spells asks shows adds (makes.obeyed c adds)
+        stray_goes_on all_lines done text old new report fault line c number s spells asks shows adds (makes.obeyed c adds)
 
   -- the walk goes on as the line is taken
-  step_on : (w w' : Walk) (c : Command) → Spells text c → (c ≡ Skip → ⊥) → Walked done old report w.good w.left.now → StepsOn old new line c w w' → Stands lines (done ++ text ∷ []) new report w'
+  step_on : (w w' : Walk) (c : Command) → Spells text c → (c ≡ Skip → ⊥) → Walked done old report w.good w.left.now → StepsOn old new line c w w' → Stands all_lines (done ++ text ∷ []) new report w'
   step_on w w' c spells asks stands s =
-      subst (λ k. StandsBy w'.strayed lines (done ++ text ∷ []) new report k w'.left.now) (sym s.good) (steps w.good w.left.now c spells asks w'.strayed w'.left.now s.lines stands s.step)
+      subst (λ k. StandsBy w'.strayed all_lines (done ++ text ∷ []) new report k w'.left.now) (sym s.good) (steps w.good w.left.now c spells asks w'.strayed w'.left.now s.lines stands s.step)
 
-  obey_on : (w w' : Walk) (c : Command) → Spells text c → (c ≡ Skip → ⊥) → w.strayed ≡ true → Strayed lines done old report (w.good + 1) → ObeysOn old new line c w w' → Stands lines (done ++ text ∷ []) new report w'
+  obey_on : (w w' : Walk) (c : Command) → Spells text c → (c ≡ Skip → ⊥) → w.strayed ≡ true → Strayed all_lines done old report (w.good + 1) → ObeysOn old new line c w w' → Stands all_lines (done ++ text ∷ []) new report w'
   obey_on w w' c spells asks strayed stands s =
-      let S : Bool → Type 0 = λ v. StandsBy v lines (done ++ text ∷ []) new report w.good w.left.now in
-      subst (Stands lines (done ++ text ∷ []) new report) (sym s.same)
+      let S : Bool → Type 0 = λ v. StandsBy v all_lines (done ++ text ∷ []) new report w.good w.left.now in
+      subst (Stands all_lines (done ++ text ∷ []) new report) (sym s.same)
       (subst S (sym strayed) (obeys w.good w.left.now c spells asks (w.good + 1) stands s.obeys s.shows))
 
-  by_walk : (v : Bool) (w w' : Walk) (c : Command) → Spells text c → (c ≡ Skip → ⊥) → w.strayed ≡ v → StandsBy v lines done old report w.good w.left.now → TakesBy v old new line c w w'
-      → Stands lines (done ++ text ∷ []) new report w'
+  by_walk : (v : Bool) (w w' : Walk) (c : Command) → Spells text c → (c ≡ Skip → ⊥) → w.strayed ≡ v → StandsBy v all_lines done old report w.good w.left.now → TakesBy v old new line c w w'
+      → Stands all_lines (done ++ text ∷ []) new report w'
   by_walk false w w' c spells asks is stands s = step_on w w' c spells asks stands s
   by_walk true w w' c spells asks is stands s = obey_on w w' c spells asks is stands s
 
-  asking : (w w' : Walk) (c : Command) → Spells text c → (c ≡ Skip → ⊥) → Stands lines done old report w → TakesBy w.strayed old new line c w w' → Stands lines (done ++ text ∷ []) new report w'
+  asking : (w w' : Walk) (c : Command) → Spells text c → (c ≡ Skip → ⊥) → Stands all_lines done old report w → TakesBy w.strayed old new line c w w' → Stands all_lines (done ++ text ∷ []) new report w'
   asking w w' c spells asks stands s = by_walk w.strayed w w' c spells asks refl stands s
 
 -- A line that asks for nothing.

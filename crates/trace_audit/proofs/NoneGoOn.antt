@@ -44,8 +44,8 @@ behind_lines js n es text more is = is ∙ ap (λ x. x ++ more) (so_far_joined j
 module _ (done : List (List ℕ)) (line : List ℕ) (after : List (List ℕ)) (bench : Benched) (report : List ℕ) (at : ℕ) (left : List ℕ) (n : ℕ) (c : Command) (events : List Event) (behind : List ℕ)
     (number : n ≡ length done + 1) (w : Walked done bench report at left) (few : length (done ++ line ∷ after) < 2 ^ 32) (spelled : Spells line c) (other : c ≡ Skip → ⊥)
     (reads : AreRead n c left events behind) where
-  abbrev lines : List (List ℕ)
-  lines = done ++ line ∷ after
+  abbrev all_lines : List (List ℕ)
+  all_lines = done ++ line ∷ after
 
   small : n < 2 ^ 32
   small = number_small done line after n number few
@@ -55,7 +55,7 @@ module _ (done : List (List ℕ)) (line : List ℕ) (after : List (List ℕ)) (b
       → GoesOn n es t.entry.events zs (line_text n (answer_text t.entry.answer) ++ t.more)
   their_events es zs t tech air = tells_events c n A es t.entry.events t.entry.answer zs t.more small tech t.tech air t.on_air (sym t.is)
 
-  their : (es : List Event) (text more : List ℕ) → IsGoodText lines text → text ≡ joined (so_far bench.journal n es) ++ more → TheirEntry n c bench.state (events_text n es ++ more)
+  their : (es : List Event) (text more : List ℕ) → IsGoodText all_lines text → text ≡ joined (so_far bench.journal n es) ++ more → TheirEntry n c bench.state (events_text n es ++ more)
   their es text more good is = their_entry done line after bench report at left n c number w few spelled other text (events_text n es ++ more) good (behind_lines bench.journal n es text more is)
 
   -- no event follows those that were read
@@ -67,7 +67,7 @@ module _ (done : List (List ℕ)) (line : List ℕ) (after : List (List ℕ)) (b
 
   -- An event that begins no entry of this line and command with those before it.
   pub none_early : (good : ℕ) → good < length events → NoneBegins bench.state c (take (suc good) events)
-      → NoneGoesOn lines (so_far bench.journal n (take good events)) (events_text n (drop good events) ++ behind)
+      → NoneGoesOn all_lines (so_far bench.journal n (take good events)) (events_text n (drop good events) ++ behind)
   none_early good within none text more is_good is agrees =
       let x : Event = get_or events good Reset in
       let more_left : List ℕ = events_text n (drop (suc good) events) ++ behind in
@@ -102,14 +102,14 @@ module _ (done : List (List ℕ)) (line : List ℕ) (after : List (List ℕ)) (b
           none_follows x xs t.entry.events there.0 is t.tech t.on_air there.1
 
   -- All events that were read, of which no entry has just these.
-  pub none_late : NoneHas bench.state c events → NoneGoesOn lines (so_far bench.journal n events) behind
+  pub none_late : NoneHas bench.state c events → NoneGoesOn all_lines (so_far bench.journal n events) behind
   none_late none text more is_good is agrees =
       let t : TheirEntry n c bench.state (events_text n events ++ more) = their events text more is_good is in
       none_more more t agrees (λ same text. none t.mid t.after t.given t.entry t.alike t.step t.asked same)
 
   -- An entry of all these events, whose answer's line isn't the next.
   pub none_answers : (new : Benched) (follows : FollowsAll bench new n c events) → IsBetween bench.state → ((rest : List ℕ) → behind ≡ line_text n (answer_text follows.entry.answer) ++ rest → ⊥)
-      → NoneGoesOn lines (so_far bench.journal n events) behind
+      → NoneGoesOn all_lines (so_far bench.journal n events) behind
   none_answers new follows between differs text more is_good is agrees =
       let e : Entry = follows.entry in
       let t : TheirEntry n c bench.state (events_text n events ++ more) = their events text more is_good is in

@@ -88,11 +88,11 @@ entry_so_far js n es behind e numbered is =
 module _ (done : List (List ℕ)) (line : List ℕ) (after : List (List ℕ)) (bench new : Benched) (report : List ℕ) (at : ℕ) (left : List ℕ) (n : ℕ) (c : Command) (events : List Event) (behind : List ℕ)
     (number : n ≡ length done + 1) (w : Walked done bench report at left) (few : length (done ++ line ∷ after) < 2 ^ 32) (spelled : Spells line c) (other : c ≡ Skip → ⊥)
     (reads : AreRead n c left events behind) where
-  abbrev lines : List (List ℕ)
-  lines = done ++ line ∷ after
+  abbrev all_lines : List (List ℕ)
+  all_lines = done ++ line ∷ after
 
   -- A line of which the first so many of the events that were read are good.
-  pub walk_strays : (good : ℕ) (strays : FollowsFront bench new n c events good) → AreOnAir strays.made.events → Strayed lines (done ++ line ∷ []) new report (at + good + 1)
+  pub walk_strays : (good : ℕ) (strays : FollowsFront bench new n c events good) → AreOnAir strays.made.events → Strayed all_lines (done ++ line ∷ []) new report (at + good + 1)
   walk_strays good strays air =
       let es : List Event = take good events in
       let here : List ℕ = events_text n (drop good events) ++ behind in
@@ -105,24 +105,24 @@ module _ (done : List (List ℕ)) (line : List ℕ) (after : List (List ℕ)) (b
       stray_by done line after bench new report at left n c number w spelled other strays.made strays.given
       (subst (LegalStep bench.state strays.given strays.made) (ap (λ (b : Benched). b.state) (sym strays.is)) strays.legal) strays.numbered strays.asked strays.shows air
       (ap (λ (b : Benched). b.spoiled) strays.is ∙ w.sound) ls here (events_text n strays.behind ++ line_text n (answer_text strays.made.answer)) (so_far_clean bench.journal n es) is
-      (entry_so_far bench.journal n es strays.behind strays.made strays.numbered strays.begins) (stops_at lines report ls here (so_far_clean bench.journal n es) is (none good strays))
+      (entry_so_far bench.journal n es strays.behind strays.made strays.numbered strays.begins) (stops_at all_lines report ls here (so_far_clean bench.journal n es) is (none good strays))
       (at + good + 1) (omega (arith, count))
     where
-      none : (good : ℕ) → FollowsFront bench new n c events good → NoneGoesOn lines (so_far bench.journal n (take good events)) (events_text n (drop good events) ++ behind)
+      none : (good : ℕ) → FollowsFront bench new n c events good → NoneGoesOn all_lines (so_far bench.journal n (take good events)) (events_text n (drop good events) ++ behind)
       none good strays = by_count (cases_lt good (length events))
         where
-          by_count : (good < length events) ⊎ (length events ≤ good) → NoneGoesOn lines (so_far bench.journal n (take good events)) (events_text n (drop good events) ++ behind)
+          by_count : (good < length events) ⊎ (length events ≤ good) → NoneGoesOn all_lines (so_far bench.journal n (take good events)) (events_text n (drop good events) ++ behind)
           by_count (inl less) = none_early done line after bench report at left n c events behind number w few spelled other reads good less (strays.none_more less)
           by_count (inr all) =
               let whole : take good events ≡ events = take_all good events all in
               let nothing : drop good events ≡ [] = drop_all good events all in
-              let P : List Event → List Event → Type 0 = λ es ds. NoneGoesOn lines (so_far bench.journal n es) (events_text n ds ++ behind) in
+              let P : List Event → List Event → Type 0 = λ es ds. NoneGoesOn all_lines (so_far bench.journal n es) (events_text n ds ++ behind) in
               let late : P events [] = none_late done line after bench report at left n c events behind number w few spelled other reads strays.none_so in
               subst (λ ds. P (take good events) ds) (sym nothing) (subst (λ es. P es []) (sym whole) late)
 
   -- A line whose entry is followed whole, but whose answer's line isn't the next of the report.
   pub answer_strays : (follows : FollowsAll bench new n c events) → IsBetween bench.state → ((rest : List ℕ) → behind ≡ line_text n (answer_text follows.entry.answer) ++ rest → ⊥)
-      → Strayed lines (done ++ line ∷ []) new report (at + length events + 1)
+      → Strayed all_lines (done ++ line ∷ []) new report (at + length events + 1)
   answer_strays follows between differs =
       let ls : List (List ℕ) = so_far bench.journal n events in
       let is : report ≡ joined ls ++ behind = report_so_far bench.journal n events report left behind w.read reads.split in
@@ -131,7 +131,7 @@ module _ (done : List (List ℕ)) (line : List ℕ) (after : List (List ℕ)) (b
       (subst (LegalStep bench.state follows.given follows.entry) (ap (λ (b : Benched). b.state) (sym follows.is)) follows.legal) follows.numbered follows.asked follows.shows
       (subst AreOnAir (sym follows.happened) reads.on_air) (ap (λ (b : Benched). b.spoiled) follows.is ∙ w.sound) ls behind (line_text n (answer_text follows.entry.answer)) (so_far_clean bench.journal n events) is
       (entry_so_far bench.journal n events [] follows.entry follows.numbered (follows.happened ∙ sym (append-nil events)))
-      (stops_at lines report ls behind (so_far_clean bench.journal n events) is (none_answers done line after bench report at left n c events behind number w few spelled other reads new follows between differs))
+      (stops_at all_lines report ls behind (so_far_clean bench.journal n events) is (none_answers done line after bench report at left n c events behind number w few spelled other reads new follows between differs))
       (at + length events + 1) (omega (arith, count))
 
 -- A line behind the fault, which is obeyed.
