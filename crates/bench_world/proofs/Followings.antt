@@ -7,7 +7,7 @@ use Rattle.bench_world.specs.declared.entry.Entry.{Entry}
 use Rattle.bench_world.specs.declared.following.Followed.{Followed}
 use Rattle.bench_world.specs.declared.following.Followed.TheVariants.{Whole, Front}
 use Rattle.bench_world.specs.Cutting.{CutsWell}
-use Rattle.bench_world.specs.Following.{BeginAlike, Compares, Follows, FollowsAll, FollowsFront, FollowsOne, LosesTrack, SpoilsTrack}
+use Rattle.bench_world.specs.Following.{BeginAlike, Compares, Follows, FollowsAll, FollowsFront, FollowsOne, LosesTrack, Records, SpoilsTrack}
 use Rattle.bench_world.specs.Legal.{Joins}
 use Rattle.bench_world.specs.Obeying.{Benched, IsCutOffBy, IsSettled, Machines, Makes, state_at, untraced}
 use Rattle.bench_world.specs.Showing.{IsBetween, MayShow, shown_of}
@@ -19,19 +19,18 @@ as_follows : (f : Followed) (old new : Benched) (line : ℕ) (c : Command) (even
 as_follows f old new line Skip events other follows = absurd (other refl)
 as_follows f old new line c events other follows = follows
 
--- the journal behind it: with the entry where all events are its own
-abbrev pub Records : Followed → List Entry → List Entry → Entry → Type 0
-Records Whole js ks e = ks ≡ js ++ e ∷ []
-Records (Front good) js ks e = ks ≡ js
-
 module _ (rs : List (List Entry)) (a k : Machines) (js ks : List Entry) (line : ℕ) (c : Command) (e : Entry) (told : List Event)
     (settled : IsSettled a) (cuts : CutsWell (state_at a)) (shows : MayShow (state_at a) c) (m : Makes (shown_of (state_at a) c told) a k line c e) where
+  between : IsBetween (state_at a)
+  between = record { machines = a; settled = settled; is = refl; cuts = cuts }
+
   all_told : told ≡ e.events → ks ≡ js ++ e ∷ [] → FollowsAll (seen rs js a false) (seen rs ks k false) line c told
   all_told same added =
       let i = made_legal (shown_of (state_at a) c told) a k line c e m in
       let B : List Entry → List Event → Benched = λ xs cut. record { finished = rs; journal = xs; state = state_at k; cut = cut; spoiled = false } in
       record {
         sound = refl;
+        between = between;
         shows = shows;
         entry = e;
         state = state_at k;
@@ -46,10 +45,10 @@ module _ (rs : List (List Entry)) (a k : Machines) (js ks : List Entry) (line : 
   front_told : (good : ℕ) → BeginAlike e.events told good → (told ≡ e.events → ⊥) → ks ≡ js → FollowsFront (seen rs js a false) (seen rs ks k false) line c told good
   front_told good b other kept =
       let i = made_legal (shown_of (state_at a) c told) a k line c e m in
-      let between : IsBetween (state_at a) = record { machines = a; settled = settled; is = refl; cuts = cuts } in
       let B : List Entry → List Event → Benched = λ xs cut. record { finished = rs; journal = xs; state = state_at k; cut = cut; spoiled = false } in
       record {
         sound = refl;
+        between = between;
         shows = shows;
         made = e;
         state = state_at k;
@@ -74,6 +73,11 @@ module _ (rs : List (List Entry)) (a k : Machines) (js ks : List Entry) (line : 
   follows f old is other compares records =
       as_follows f old (seen rs ks k false) line c told other
       (subst (λ (b : Benched). FollowsOne f b (seen rs ks k false) line c told) (sym is) (one_told f compares records))
+
+-- machines with nothing in the trace have it taken out
+pub is_untraced : (m : Machines) → m.air.trace ≡ [] → m ≡ untraced m
+is_untraced m quiet =
+    ap (λ es. let x : Machines = record { air = record { lit = m.air.lit; listeners = m.air.listeners; fates = m.air.fates; trace = es }; ends = m.ends; peers = m.peers; link = m.link } in x) quiet
 
 -- want of memory cut the command off, and what happened in it was let go
 pub loses : (old : Benched) (rs : List (List Entry)) (a b k : Machines) (js ks : List Entry) (c : Command) (joins : Joins) → old ≡ seen rs js a false → ks ≡ js → IsCutOffBy joins a b c → k ≡ untraced b

@@ -1,5 +1,6 @@
 -- Where events part from those that their own numbers lead to, no entry has more of them.
-use Rattle.std.proofs.Common.{◌≡◌, ℕ, zero, suc, ◌<◌, List, [], ◌∷◌, ◌++◌, length, take, drop, refl, sym, ◌∙◌, ap, subst, arith}
+use Rattle.std.proofs.Common.{◌≡◌, ◌⊎◌, inl, inr, ℕ, zero, suc, ◌<◌, List, [], ◌∷◌, ◌++◌, length, take, drop, refl, sym, ◌∙◌, ap, subst, arith}
+use Rattle.std.proofs.Math.Numerals.{lt_of_le_of_ne}
 use Rattle.std.proofs.lemmas.List.{append-nil, take-append-drop}
 use Rattle.nfc_base.specs.declared.event.Event.{Event}
 use Rattle.bench_script.specs.declared.command.Command.{Command}
@@ -21,6 +22,25 @@ no_more (suc n) [] (y ∷ ys) a p more e = absurd cc
 no_more (suc n) (x ∷ xs) (y ∷ ys) a p more e =
     no_more n xs ys a (omega (arith, p)) more (let later : x ∷ xs ≡ y ∷ (take (suc n) ys ++ more) = e in cc)
 
+-- a course doesn't part from itself before its end
+pub parts_not : (n : ℕ) (xs : List Event) → GoApart (drop n xs) (drop n xs) → n < length xs → ⊥
+parts_not zero [] a p = absurd (omega (arith, p))
+parts_not zero (x ∷ xs) a p = a refl
+parts_not (suc n) [] a p = absurd (omega (arith, p))
+parts_not (suc n) (x ∷ xs) a p = parts_not n xs a (omega (arith, p))
+
+-- so one that is longer than what is the same isn't the other
+pub not_other : (made told : List Event) (n : ℕ) → BeginAlike made told n → (n ≡ length made → ⊥) ⊎ (n ≡ length told → ⊥) → told ≡ made → ⊥
+not_other made told n b which same =
+    parts_not n made (subst (λ es. GoApart (drop n made) (drop n es)) same b.apart) (below which)
+  where
+    m : length told ≡ length made
+    m = ap length same
+
+    below : (n ≡ length made → ⊥) ⊎ (n ≡ length told → ⊥) → n < length made
+    below (inl other) = lt_of_le_of_ne b.within other
+    below (inr other) = subst (λ k. n < k) m (lt_of_le_of_ne b.within_other other)
+
 -- an entry begins with the events that are the same
 pub begins_with : (made told : List Event) (good : ℕ) → BeginAlike made told good → made ≡ take good told ++ drop good made
 begins_with made told good b = sym (take-append-drop good made) ∙ ap (λ es. es ++ drop good made) b.same
@@ -32,7 +52,7 @@ module _ (s u : State) (between : IsBetween s) (c : Command) (shows : MayShow s 
   same_front : (t v : State) (g : Given) (f : Entry) (es more rest : List Event) → told ≡ es ++ more → Alike s t → LegalStep t g f v → f.command ≡ c → f.events ≡ es ++ rest → BeginsSame es rest e.events
   same_front t v g f es more rest split alike legal same begins =
       let k = alike_steps t s v g f (alike_back s t alike) legal in
-      numbers_show s k.0 u g h f e es rest more between (subst (MayShow s) (sym same) shows) k.1 ? begins step (asked ∙ sym same)
+      numbers_show s k.0 u g h f e es rest more between (subst (MayShow s) (sym same) shows) k.1 begins step (asked ∙ sym same)
       (shown ∙ ap (shown_of s c) split ∙ ap (λ x. shown_of s x (es ++ more)) (sym same))
 
   pub none_begins : (good : ℕ) → BeginAlike e.events told good → good < length told → NoneBegins s c (take (suc good) told)

@@ -1,6 +1,6 @@
 -- What following the events of a command does: the bench is told what happened, and says how far that may have happened (this
 -- project's own; which entries a bench may have is said in Legal.antt).
-use Rattle.std.specs.Prelude.{◌≡◌, ◌≢◌, ℕ, suc, ◌<◌, ◌≤◌, List, [], ◌∷◌, ◌++◌, length, take, drop, Bool, true, false}
+use Rattle.std.specs.Prelude.{◌≡◌, ◌≢◌, ℕ, suc, ◌<◌, ◌≤◌, List, [], ◌∷◌, ◌++◌, length, take, drop, true, false}
 use Rattle.nfc_base.specs.declared.event.Event.{Event}
 use Rattle.bench_script.specs.declared.command.Command.{Command}
 use Rattle.bench_script.specs.declared.command.Command.TheVariants.{Skip, Raw}
@@ -13,7 +13,7 @@ use Rattle.bench_world.specs.Alike.{Alike}
 use Rattle.bench_world.specs.Halting.{CutOff}
 use Rattle.bench_world.specs.Legal.{State, Given, Joins, Accepts, LegalStep}
 use Rattle.bench_world.specs.Obeying.{Benched}
-use Rattle.bench_world.specs.Showing.{MayShow}
+use Rattle.bench_world.specs.Showing.{IsBetween, MayShow}
 use Rattle.bench_world.specs.Unfinished.{Unfinished}
 
 -- Two courses part: one is over, or the next events differ.
@@ -34,6 +34,11 @@ abbrev pub Compares : List Event → List Event → Followed → Type 0
 Compares made told Whole = told ≡ made
 Compares made told (Front good) = BeginAlike made told good × (told ≢ made)
 
+-- an entry goes to a journal where all that was told is its own, and else none does
+abbrev pub Records : Followed → List Entry → List Entry → Entry → Type 0
+Records Whole old new entry = new ≡ old ++ entry ∷ []
+Records (Front good) old new entry = new ≡ old
+
 -- a command's numbers show among these devices
 abbrev pub MayShowAmong : List Device → Command → Type 0
 MayShowAmong ds (Raw id frames) = peers_in ds ≡ 0
@@ -47,6 +52,7 @@ MayFollow s c = Accepts s c × MayShow s c
 -- PDUs, and the machines are in the state that its step leads to.
 pub record FollowsAll (old new : Benched) (line : ℕ) (c : Command) (events : List Event) : Type 0 where
   pub sound : old.spoiled ≡ false
+  pub between : IsBetween old.state
   pub shows : MayShow old.state c
   pub entry : Entry
   pub state : State
@@ -70,6 +76,7 @@ NoneHas s c es = (t u : State) (g : Given) (e : Entry) → Alike s t → LegalSt
 -- is as before, and the machines are in the state that the step of an entry leads to which begins so.
 pub record FollowsFront (old new : Benched) (line : ℕ) (c : Command) (events : List Event) (good : ℕ) : Type 0 where
   pub sound : old.spoiled ≡ false
+  pub between : IsBetween old.state
   pub shows : MayShow old.state c
   pub made : Entry
   pub state : State

@@ -4,7 +4,7 @@ ghost use Rattle.std.specs.Prelude.{◌≡◌, ◌≢◌, ◌↔◌, ◌≤◌, 
 ghost use Rattle.bench_world.specs.Legal.{Accepts, Joins, joins_for, memory_of};
 ghost use Rattle.bench_devices.specs.Device.{most_devices};
 ghost use Rattle.bench_devices.specs.Placed.{device_with};
-ghost use Rattle.bench_world.specs.Following.{Follows, LosesTrack, MayFollow};
+ghost use Rattle.bench_world.specs.Following.{Follows, LosesTrack, MayFollow, Records};
 ghost use Rattle.bench_world.specs.Showing.{MayShow, shown_of};
 ghost use Rattle.bench_world.specs.Obeying.{Obeys, Obeyed, ObeyedBy, Makes, state_at, IsSettled, IsCutOffBy, RefusedOnly, ObeyedBelow, RefusedBelow, LacksMemory, FieldOf, FarAt, begun_anew, new_bench, obey_fault_number};
 ghost use Rattle.bench_world.specs.Links.{OpenLink};
@@ -519,6 +519,16 @@ fn record_entry(journal: &mut Vec<Entry>, entry: Entry)
     let _ = journal.push(entry);
 }
 
+/// Adds an entry that was made, where there is room and all events that were told are its own.
+fn record_followed(journal: &mut Vec<Entry>, entry: Entry, followed: Followed)
+    requires { vec_len journal.old < vec_capacity journal.old }
+    ensures { Records followed journal.old.items journal.new.items entry }
+{
+    if let Followed::Whole = followed {
+        record_entry(journal, entry);
+    }
+}
+
 /// Adds a finished run where there is room.
 fn add_run(finished: &mut Vec<Run>, run: Run)
     requires { vec_len finished.old < vec_capacity finished.old }
@@ -693,9 +703,7 @@ impl Bench {
         match make_shown(self.alloc, &mut self.machines, line, command, events) {
             Ok(entry) => {
                 let followed = compared(entry.events.as_slice(), events);
-                if let Followed::Whole = followed {
-                    record_entry(&mut self.journal, entry);
-                }
+                record_followed(&mut self.journal, entry, followed);
                 Ok(followed)
             }
             Err(ObeyFault::Refused) => Err(ObeyFault::Refused),

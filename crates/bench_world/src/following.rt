@@ -1,4 +1,4 @@
-//! What following the events of a command needs: the numbers of PDUs that they show, and how far two courses are the same.
+//! What following a command needs: the numbers of PDUs that its events show, and how far two courses are the same.
 
 ghost use Rattle.std.specs.Prelude.{◌≡◌, ◌↔◌, IfOk, IsTrue};
 ghost use Rattle.bench_world.specs.Following.{BeginAlike, Compares, MayShowAmong};
@@ -27,8 +27,8 @@ pub enum Followed {
     Front { good: usize },
 }
 
-/// Whether the events of a command show its numbers of PDUs: not those of a `raw` beside a peer, since there a frame may cut
-/// off a reply while its link goes on.
+/// Whether the events of a command show its numbers of PDUs: not those of a `raw` beside a peer, since there a frame may
+/// cut off a reply while its link goes on.
 pub(crate) fn may_show(devices: &[Device], command: &Command) -> bool
     ensures { IsTrue result ↔ MayShowAmong devices.now command.now }
 {
