@@ -23,6 +23,8 @@ mod SelectedPlace
 pub mod AskedBehind
 pub mod Outcomes
 pub mod Benches
+mod Strays
+mod Followings
 mod FirstBroken
 pub mod BrokenRead
 pub mod Complete
