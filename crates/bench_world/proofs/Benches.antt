@@ -1,16 +1,18 @@
--- A bench behind a command: spoiled by want of memory, or with an entry more.
+-- A bench behind a command: spoiled by want of memory, or behind an entry that was made.
 use Rattle.std.proofs.Common.{◌≡◌, ℕ, List, [], ◌∷◌, ◌++◌, Bool, true, false, Some, refl, sym, ◌∙◌, ap, subst}
 use Rattle.nfc_base.specs.declared.event.Event.{Event}
-use Rattle.air_core.specs.Conversation.{Over, receptions}
+use Rattle.air_core.specs.Conversation.{receptions}
 use Rattle.bench_script.specs.declared.command.Command.{Command}
 use Rattle.bench_script.specs.declared.command.Command.TheVariants.{Skip}
 use Rattle.bench_world.specs.declared.entry.Answer.{Answer}
 use Rattle.bench_world.specs.declared.entry.Entry.{Entry}
-use Rattle.bench_world.specs.Legal.{State, AnswerLaw, FrontOf, Joins, LegalStep, due, joins_for, no_joins}
+use Rattle.bench_world.specs.Cutting.{CutsWell}
+use Rattle.bench_world.specs.Legal.{State, Given, AnswerLaw, FrontOf, Joins, LegalStep, due, joins_for, no_joins}
 use Rattle.bench_world.proofs.LinkKept.{keeps_so, open_on}
-use Rattle.bench_world.specs.Obeying.{Machines, untraced, state_at, IsSettled, ObeyedBy, IsCutOff, IsCutOffBy, Benched, Adds, Obeys, Spoils, LacksMemory}
+use Rattle.bench_world.specs.Obeying.{Machines, untraced, state_at, IsSettled, ObeyedBy, Makes, IsCutOff, IsCutOffBy, Benched, Adds, Obeys, Spoils, LacksMemory}
 use Rattle.bench_world.proofs.Numbers.{none_for}
 use Rattle.bench_world.proofs.Unfinished.{unfinished}
+use Rattle.bench_world.proofs.SizedStates.{untraced_cuts}
 use Rattle.bench_world.proofs.WellStored.{stored_step}
 
 -- what contracts see of a bench with this journal and these machines
@@ -35,37 +37,55 @@ as_obeys old new line c other adds = adds
 pub cut_most : (a b : Machines) (c : Command) (joins : Joins) → joins ≡ no_joins → IsCutOffBy (joins_for c joins) a b c → IsCutOff a b c
 cut_most a b c joins most cut = subst (λ j. IsCutOffBy j a b c) (none_for c joins most) cut
 
+-- an entry that was made is a legal step, ...
+pub record IsMade (joins : Joins) (s t : State) (line : ℕ) (c : Command) (e : Entry) : Type 0 where
+  pub given : Given
+  pub joined : given.joins ≡ joins
+  pub numbered : e.line ≡ line
+  pub asked : e.command ≡ c
+  pub legal : LegalStep s given e t
+
+pub made_legal : (joins : Joins) (a k : Machines) (line : ℕ) (c : Command) (e : Entry) → Makes joins a k line c e → IsMade joins (state_at a) (state_at k) line c e
+made_legal joins a k line c e m =
+    let o = m.obeyed in
+    let s : State = state_at a in
+    let F : Command → List Event → State → Type 0 = λ x es t. FrontOf s o.given x es (Some e.answer) t in
+    let to : state_at k ≡ state_at m.ran = ap state_at m.left in
+    record {
+      given = o.given;
+      joined = o.joined;
+      numbered = m.numbered;
+      asked = m.asked;
+      legal = record {
+        front = subst (λ x. F x e.events (state_at k)) (sym m.asked) (subst (λ es. F c es (state_at k)) (sym m.happened) (subst (F c m.ran.air.trace) (sym to) o.front));
+        over = ap (λ x. due s o.given x (receptions e.events)) m.asked ∙ ap (λ es. due s o.given c (receptions es)) m.happened ∙ o.over;
+        answered = subst (λ x. AnswerLaw s o.given x e.events e.answer) (sym m.asked) (subst (λ es. AnswerLaw s o.given c es e.answer) (sym m.happened) o.answered);
+      };
+    }
+
+-- ... behind which nothing is in the trace
+pub made_quiet : (joins : Joins) (a k : Machines) (line : ℕ) (c : Command) (e : Entry) → IsSettled a → Makes joins a k line c e → k.air.trace ≡ a.air.trace
+made_quiet joins a k line c e settled m = ap (λ (x : Machines). x.air.trace) m.left ∙ sym settled.idle.quiet
+
 -- a command was obeyed, and its entry added
-pub adds_entry : (old : Benched) (rs : List (List Entry)) (a b k : Machines) (js ks : List Entry) (c : Command) (answer : Answer) (e : Entry) (joins : Joins) → joins ≡ no_joins → (c ≡ Skip → ⊥) → old ≡ seen rs js a false → IsSettled a
-    → ObeyedBy (joins_for c joins) a b c answer
-    → k ≡ record { air = record { lit = b.air.lit; listeners = b.air.listeners; fates = b.air.fates; trace = [] }; ends = b.ends; peers = b.peers; link = b.link } → ks ≡ js ++ e ∷ [] → e.command ≡ c → e.events ≡ b.air.trace → e.answer ≡ answer → Obeys old (seen rs ks k false) e.line c
-adds_entry old rs a b k js ks c answer e joins most other is settled o left added command events told =
-    let to : state_at k ≡ state_at b = ap state_at left in
-    let F : List Event → State → Type 0 = λ es t. FrontOf (state_at a) o.given c es (Some answer) t in
-    let front : F e.events (state_at k) = subst (λ es. F es (state_at k)) (sym events) (subst (F b.air.trace) (sym to) o.front) in
-    let over : due (state_at a) o.given c (receptions e.events) ≡ Over = ap (λ es. due (state_at a) o.given c (receptions es)) events ∙ o.over in
-    let law : AnswerLaw (state_at a) o.given c e.events e.answer =
-    subst (λ es. AnswerLaw (state_at a) o.given c es e.answer) (sym events) (subst (AnswerLaw (state_at a) o.given c b.air.trace) (sym told) o.answered) in
-    let C : Command → Type 0 = λ x. FrontOf (state_at a) o.given x e.events (Some e.answer) (state_at k) in
-    let step : LegalStep (state_at a) o.given e (state_at k) = record {
-      front = subst C (sym command) (subst (λ w. FrontOf (state_at a) o.given c e.events (Some w) (state_at k)) (sym told) front);
-      over = ap (λ x. due (state_at a) o.given x (receptions e.events)) command ∙ over;
-      answered = subst (λ x. AnswerLaw (state_at a) o.given x e.events e.answer) (sym command) law;
-    } in
+pub adds_entry : (old : Benched) (rs : List (List Entry)) (a k : Machines) (js ks : List Entry) (line : ℕ) (c : Command) (e : Entry) (joins : Joins) → joins ≡ no_joins → (c ≡ Skip → ⊥) → old ≡ seen rs js a false → IsSettled a
+    → Makes (joins_for c joins) a k line c e → ks ≡ js ++ e ∷ [] → Obeys old (seen rs ks k false) line c
+adds_entry old rs a k js ks line c e joins most other is settled m added =
+    let i = made_legal (joins_for c joins) a k line c e m in
     let B : List Entry → List Event → Benched = λ xs cut. record { finished = rs; journal = xs; state = state_at k; cut = cut; spoiled = false } in
-    let A : Benched → Type 0 = λ x. Adds x (seen rs ks k false) e.line c in
+    let A : Benched → Type 0 = λ x. Adds x (seen rs ks k false) line c in
     let it : A (seen rs js a false) = record {
       sound = refl;
       entry = e;
       state = state_at k;
-      given = o.given;
-      is = ap (λ xs. B xs k.air.trace) added ∙ ap (B (js ++ e ∷ [])) (ap (λ (x : Machines). x.air.trace) left ∙ sym settled.idle.quiet);
-      numbered = refl;
-      asked = command;
-      joined = o.joined ∙ none_for c joins most;
-      legal = step;
+      given = i.given;
+      is = ap (λ xs. B xs k.air.trace) added ∙ ap (B (js ++ e ∷ [])) (made_quiet (joins_for c joins) a k line c e settled m);
+      numbered = i.numbered;
+      asked = i.asked;
+      joined = i.joined ∙ none_for c joins most;
+      legal = i.legal;
     } in
-    as_obeys old (seen rs ks k false) e.line c other (subst A (sym is) it)
+    as_obeys old (seen rs ks k false) line c other (subst A (sym is) it)
 
 -- Behind a command that was obeyed the bench is settled again, once its events are taken.
 pub settled_untraced : (joins : Joins) (a b : Machines) (c : Command) (answer : Answer) → IsSettled a → ObeyedBy joins a b c answer → IsSettled (untraced b)
@@ -77,3 +97,9 @@ settled_untraced joins a b c answer settled o = record {
   places = record { ends = o.places.ends; numbers = o.places.numbers; served = o.places.served; apart = o.places.apart };
   link = keeps_so b (untraced b) refl (λ l at k. open_on b.air (untraced b).air b.ends b.peers l refl refl k) o.link;
 }
+
+-- So it is behind an entry that was made.
+pub settled_made : (joins : Joins) (a k : Machines) (line : ℕ) (c : Command) (e : Entry) → IsSettled a → CutsWell (state_at a) → Makes joins a k line c e → IsSettled k × CutsWell (state_at k)
+settled_made joins a k line c e settled cuts m =
+    subst (λ (x : Machines). IsSettled x × CutsWell (state_at x)) (sym m.left)
+    (settled_untraced joins a m.ran c e.answer settled m.obeyed, untraced_cuts joins a m.ran c e.answer cuts m.obeyed)

@@ -23,6 +23,8 @@ mod SelectedPlace
 pub mod AskedBehind
 pub mod Outcomes
 pub mod Benches
+mod Strays
+mod Followings
 mod FirstBroken
 pub mod BrokenRead
 pub mod Complete
@@ -131,11 +133,14 @@ pub mod AlikeStates
 pub mod SizedTargets
 pub mod SizedEnds
 pub mod SizedItems
+pub mod SizedConns
 pub mod SizedGives
 pub mod SizedServer
 pub mod SizedWorld
 pub mod SizedFronts
 pub mod SizedDevices
+pub mod SizedCalls
+pub mod SizedWalks
 pub mod SizedStates
 pub mod FarDevices
 pub mod ShowingTurns

@@ -15,12 +15,12 @@ use Rattle.bench_devices.specs.Device.{device_linked, devices}
 use Rattle.bench_world.specs.declared.entry.Answer.{Answer}
 use Rattle.bench_world.specs.Asked.{asked_on_link}
 use Rattle.bench_world.specs.Calls.{asked_behind, due_asked, link_behind, stands_on, told_asked}
-use Rattle.bench_world.specs.Legal.{Given, Joins, State, begun, changed, due, link_after, link_left, peers_after, peers_left, state_after, world_after}
+use Rattle.bench_world.specs.Legal.{Accepts, Given, Joins, State, begun, changed, due, link_after, link_left, peers_after, peers_left, state_after, world_after}
 use Rattle.bench_world.specs.Links.{OpenLink, accepted_by, end_numbered, ended_unless, is_number, with_last_ended}
 use Rattle.bench_world.specs.Peers.{Peers}
 use Rattle.bench_world.specs.World.{FarEnd, WholeWorld, bench_air}
 use Rattle.bench_world.specs.Alike.{Alike}
-use Rattle.bench_world.specs.Showing.{IsBetween, PayloadsShort, shown_of}
+use Rattle.bench_world.specs.Showing.{IsBetween, shown_of}
 use Rattle.bench_world.proofs.FarDevices.{ShowsWell}
 use Rattle.bench_world.proofs.ShowingFar.{HasEnded}
 use Rattle.bench_world.proofs.ShowingLink.{begun_on, due_on_link, far_on, own_on, shown_on}
@@ -122,11 +122,11 @@ module _ (s : State) (c : Command) (asked : LinkAsking) (on : asked_on_link c �
   world_is : (joins : Joins) → behind joins ≡ from joins.far
   world_is joins = ap (λ w. replay bench_air w es) (begun_on s c asked on joins)
 
-  module _ (short : PayloadsShort s g c es) where
+  module _ (may : Accepts s c) where
     far : ShowsWell (with_numbers s.world g.joins.far) shown.far es (HasEnded asked l g.joins.own es)
     far =
         subst (λ (j : Joins). ShowsWell (with_numbers s.world g.joins.far) j.far es (HasEnded asked l g.joins.own es)) (sym (shown_on s c asked on l open_ (es ++ [])))
-        (far_on s c asked on l open_ b g by_shown es [] refl turns each (short l asked open_ on))
+        (far_on s c asked on l open_ b g by_shown es [] refl turns each may)
 
     dark : SameDark devices device_linked peer_ends (behind g.joins) (behind shown)
     dark =

@@ -18,13 +18,12 @@ use Rattle.far_air.specs.FarWorld.{far_happens, reply_at, with_numbers}
 use Rattle.peer_air.specs.PeerFars.{peer_ends}
 use Rattle.snep_core.specs.Talk.{closes}
 use Rattle.link_calls.specs.Asking.{LinkAsking, Does, Closes, call_begins}
-use Rattle.link_calls.specs.CallDue.{CallStanding, Carries, Comes, BrokenBy, Strays, by_client, call_stand, next_of}
-use Rattle.link_calls.specs.ClosingDue.{ClosingStanding, Calls, Releasing, Released, closing_stand}
+use Rattle.link_calls.specs.CallDue.{by_client, call_stand, next_of}
+use Rattle.link_calls.specs.ClosingDue.{closing_stand}
 use Rattle.link_numbers.specs.Shown.{far_shown}
-use Rattle.link_numbers.proofs.FarClosing as closing
 use Rattle.link_numbers.proofs.FarClosing.{HasClosed}
 use Rattle.link_numbers.proofs.FarFit.{FitsAt, RepliesAt, RepliesFit}
-use Rattle.link_numbers.proofs.FarWalk.{HasCome, Outs}
+use Rattle.link_numbers.proofs.FarWalk.{HasCome}
 use Rattle.bench_devices.specs.declared.device.Device.{Device}
 use Rattle.bench_devices.specs.Device.{device_end, device_linked, devices}
 use Rattle.bench_world.specs.Calls.{due_asked}
@@ -35,11 +34,12 @@ use Rattle.bench_world.specs.Opened.{IsOpen}
 use Rattle.bench_world.specs.World.{FarEnd, WholeWorld, bench_air}
 use Rattle.bench_world.proofs.OnLink.{linked_in}
 use Rattle.bench_world.specs.Cutting.{CutsReplies, GivesShort, WorldCuts}
-use Rattle.bench_world.specs.Showing.{CarriesShort, ClosesShort, IsBetween, OwnShort}
+use Rattle.bench_world.specs.Showing.{IsBetween}
 use Rattle.bench_world.proofs.SizedStates.{replies_short}
+use Rattle.bench_world.proofs.SizedWalks.{AskedNameFits, call_outs, closing_outs}
 use Rattle.bench_world.proofs.SizedWorld.{Above, all_among, far_so, first_so, later_so}
 use Rattle.bench_world.proofs.FarDevices.{ShowsWell, TalksTo, closing_shows, talks_at, walk_shows}
-use Rattle.bench_world.proofs.ShowingOwn.{opened_at}
+use Rattle.bench_world.proofs.ShowingOwn.{link_cuts, opened_at}
 
 -- what stands at a place
 shown_there : (ds : List Device) (os : List (Option FarEnd)) (place : ℕ) (a : FarEnd) → linked_at place ds ≡ true → get_or os place None ≡ Some a
@@ -85,18 +85,6 @@ replies_fit (Request f x ∷ es) w h = (fits_at x f w (h []), replies_fit es (fa
 replies_fit (Answer g x ∷ es) w h = replies_fit es (far_happens devices device_linked peer_ends w (Answer g x)) (later_cuts w (Answer g x) h)
 replies_fit (Clash g x ∷ es) w h = replies_fit es (far_happens devices device_linked peer_ends w (Clash g x)) (later_cuts w (Clash g x) h)
 
--- lengths of what is carried
-call_outs : (c : CallStanding) → CarriesShort c → Outs by_client c
-call_outs (Carries w s) h = h
-call_outs (Comes to i) h = tt
-call_outs (BrokenBy cause) h = tt
-call_outs Strays h = tt
-
-closing_outs : (c : ClosingStanding) → ClosesShort c → closing.Outs c
-closing_outs (Calls c) h = call_outs c h
-closing_outs (Releasing to) h = tt
-closing_outs (Released to) h = tt
-
 -- what was asked came to its end
 abbrev pub HasEnded : LinkAsking → OpenLink → List ℕ → List Event → Type 0
 HasEnded (Does call) l own es = HasCome by_client (call_stand own (call_begins l.client call) l.initiator (receptions es))
@@ -127,11 +115,11 @@ module _ (s : State) (l : OpenLink) (b : IsBetween s) (open_ : s.link ≡ Some l
   cuts_well = (all_among CutsReplies talks.alone.before talks.device talks.alone.behind (subst (AllByRecursion CutsReplies) talks.alone.split b.cuts.world.targets)).0
 
   -- By the numbers that are shown the same turns are made.
-  pub far_goes : (asked : LinkAsking) (own : List ℕ) (es more : List Event) → AreTurns bench_air world es → EachDue (due_asked asked l own) [] es → OwnShort asked l own es → CutsOn world
+  pub far_goes : (asked : LinkAsking) (own : List ℕ) (es more : List Event) → AreTurns bench_air world es → EachDue (due_asked asked l own) [] es → AskedNameFits asked → CutsOn world
       → ShowsWell world (far_shown l.initiator.core.number (es ++ more)) es (HasEnded asked l own es)
-  far_goes (Does call) own es more turns each short replies =
+  far_goes (Does call) own es more turns each fits replies =
       walk_shows world opened.place l.initiator opened.end talks gives_short.miu cuts_well es more by_client (next_of own (call_begins l.client call)) turns each (replies_fit es world replies)
-      (λ before f x rest is. call_outs (call_stand own (call_begins l.client call) l.initiator (receptions before)) (short before f x rest is))
-  far_goes Closes own es more turns each short replies =
+      (λ before f x rest is. call_outs own l.client call l.initiator (receptions before) fits (link_cuts s l b open_).client)
+  far_goes Closes own es more turns each fits replies =
       closing_shows world opened.place l.initiator opened.end talks gives_short.miu cuts_well es more own (closes l.client) turns each (replies_fit es world replies)
-      (λ before f x rest is. closing_outs (closing_stand own (closes l.client) l.initiator (receptions before)) (short before f x rest is))
+      (λ before f x rest is. closing_outs own l.client l.initiator (receptions before) (link_cuts s l b open_).client)

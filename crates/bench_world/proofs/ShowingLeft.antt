@@ -14,7 +14,7 @@ use Rattle.bench_world.specs.Calls.{told_asked}
 use Rattle.bench_world.specs.Legal.{FrontOf, Given, IsPayload, Joins, LegalStep, State, due, state_after}
 use Rattle.bench_world.specs.Links.{OpenLink}
 use Rattle.bench_world.specs.Alike.{Alike}
-use Rattle.bench_world.specs.Showing.{EntriesLeaveAlike, EventsTell, IsBetween, MayShow, PayloadsShort, shown_of}
+use Rattle.bench_world.specs.Showing.{EntriesLeaveAlike, EventsTell, IsBetween, MayShow, shown_of}
 use Rattle.bench_world.proofs.ShowingAlike.{alike_back, alike_on, alike_same, alike_shown, same_none, told_shown}
 use Rattle.bench_world.specs.ShownForged.{forged_shown}
 use Rattle.bench_world.proofs.ShowingAlone.{IsForge, IsNumberless, alone_left, numberless}
@@ -35,8 +35,7 @@ events_tell s t u g h e f between step step_by same events asked l on open_ =
     sym (told_by_shown s t g e.command e.events e.answer between step.front step.over asked l on open_)
     ∙ told_by_shown s u h e.command e.events f.answer between front over asked l on open_
 
-module _ (s t u : State) (g h : Given) (e : Entry) (between : IsBetween s) (swapped : MayShow s e.command) (p : LegalStep s g e t) (short : PayloadsShort s g e.command e.events)
-    (q : LegalStep s h e u) (short_by : PayloadsShort s h e.command e.events) where
+module _ (s t u : State) (g h : Given) (e : Entry) (between : IsBetween s) (swapped : MayShow s e.command) (p : LegalStep s g e t) (q : LegalStep s h e u) where
   abbrev after : Joins → State
   after joins = state_after s joins e.command e.events (Some e.answer)
 
@@ -50,8 +49,8 @@ module _ (s t u : State) (g h : Given) (e : Entry) (between : IsBetween s) (swap
   by_link asked on (Some l) open_ =
       let k : Joins = shown_of s e.command (e.events ++ []) in
       alike_on (after g.joins) (after k) (after h.joins)
-      (alike_shown s e.command asked on l open_ between g e.events e.answer p.front.turns p.front.each p.over short)
-      (alike_back (after h.joins) (after k) (alike_shown s e.command asked on l open_ between h e.events e.answer q.front.turns q.front.each q.over short_by))
+      (alike_shown s e.command asked on l open_ between g e.events e.answer p.front.turns p.front.each p.over p.front.accepted)
+      (alike_back (after h.joins) (after k) (alike_shown s e.command asked on l open_ between h e.events e.answer q.front.turns q.front.each q.over q.front.accepted))
 
   -- payloads that are written by hand
   by_hand : IsForge e.command → Alike (after g.joins) (after h.joins)
@@ -80,4 +79,4 @@ module _ (s t u : State) (g h : Given) (e : Entry) (between : IsBetween s) (swap
   leaves_alike = both (by_asked (asked_on_link e.command) refl)
 
 pub entries_leave_alike : EntriesLeaveAlike
-entries_leave_alike s t u g h e between swapped p short q short_by = leaves_alike s t u g h e between swapped p short q short_by
+entries_leave_alike s t u g h e between swapped p q = leaves_alike s t u g h e between swapped p q

@@ -1,8 +1,8 @@
 -- A command on the open link goes the same way by the numbers that its events show.
-use Rattle.std.proofs.Common.{◌≡◌, ℕ, List, [], ◌∷◌, ◌++◌, Option, Some, None, refl, sym, ◌∙◌, ap, subst, append_assoc}
+use Rattle.std.proofs.Common.{◌≡◌, List, [], ◌++◌, Option, Some, None, refl, sym, ◌∙◌, ap, subst, append_assoc}
+use Rattle.std.specs.Prelude.{IfSome}
 use Rattle.nfc_base.specs.Trace.{back_of}
 use Rattle.nfc_base.specs.declared.event.Event.{Event}
-use Rattle.nfc_base.specs.declared.event.Event.TheVariants.{Request}
 use Rattle.air_core.specs.Conversation.{AreTurns, EachDue, Note, Over, receptions}
 use Rattle.air_core.specs.Turning.{due_weaker}
 use Rattle.air_core.proofs.Following.{nothing_more, trace_first}
@@ -14,14 +14,15 @@ use Rattle.bench_script.specs.declared.command.Command.TheVariants.{Skip, Fates,
 use Rattle.bench_world.specs.declared.entry.Answer.{Answer}
 use Rattle.bench_world.specs.Asked.{asked_on_link}
 use Rattle.bench_world.specs.Calls.{due_asked, due_if}
-use Rattle.bench_world.specs.Legal.{FrontOf, Given, Joins, State, begun, changed, due, due_by}
+use Rattle.bench_world.specs.Legal.{Accepts, FrontOf, Given, Joins, State, begun, changed, due, due_by}
 use Rattle.bench_world.specs.Links.{OpenLink}
 use Rattle.bench_world.specs.World.{bench_air}
-use Rattle.bench_world.specs.Showing.{BeginsSame, IsBetween, OwnShort, PayloadsShort, first_pni, joins_shown, shown_by, shown_of}
+use Rattle.bench_world.specs.Showing.{BeginsSame, IsBetween, first_pni, joins_shown, shown_by, shown_of}
 use Rattle.bench_world.proofs.FarDevices.{ShowsWell}
 use Rattle.bench_world.proofs.ShowingFar.{CutsOn, HasEnded, far_goes}
 use Rattle.bench_world.proofs.ShowingOwn.{OwnSame, own_same, link_cuts}
-use Rattle.bench_world.proofs.SizedStates.{midst_cuts}
+use Rattle.bench_world.proofs.SizedStates.{accepted_name_fits, midst_cuts}
+use Rattle.bench_world.proofs.SizedWalks.{AskedNameFits}
 use Rattle.bench_world.proofs.ShowingStep.{GoesSame, begins_same}
 
 -- a command that asks something on the open link changes nothing before that
@@ -57,10 +58,6 @@ changes_none s (OnGet slot most key) asked e = refl
 changes_none s (Puts puts) asked e = refl
 changes_none s Unlink asked e = refl
 
--- What is so of some events is so of the first of them.
-own_front : (asked : LinkAsking) (l : OpenLink) (own : List ℕ) (a b : List Event) → OwnShort asked l own (a ++ b) → OwnShort asked l own a
-own_front asked l own a b h before f x rest is = h before f x (rest ++ b) (ap (λ t. t ++ b) is ∙ append_assoc before (Request f x ∷ rest) b)
-
 -- what a bench keeps holds in the midst of a command
 pub cuts_on : (s : State) (joins : Joins) (c : Command) → IsBetween s → CutsOn (begun s joins c)
 cuts_on s joins c b before = midst_cuts s joins c before b.cuts
@@ -93,14 +90,14 @@ module _ (s : State) (c : Command) (asked : LinkAsking) (on : asked_on_link c �
       pub own_on : OwnSame asked l g.joins.own h.joins.own turned more
       own_on =
           subst (λ (j : Joins). OwnSame asked l g.joins.own j.own turned more) (sym numbers_are)
-          (own_same asked l g.joins.own turned more (link_cuts s l b open_).rests (link_cuts s l b open_).client each_asked)
+          (own_same asked l g.joins.own turned more (link_cuts s l b open_).rests (link_cuts s l b open_).client.miu each_asked)
 
-      module _ (short : OwnShort asked l g.joins.own turned) where
+      module _ (may : Accepts s c) where
         -- what the peer does with both
         pub far_on : ShowsWell (with_numbers s.world g.joins.far) (far_shown l.initiator.core.number (turned ++ more)) turned (HasEnded asked l g.joins.own turned)
         far_on =
-            far_goes s l b open_ g.joins.far asked g.joins.own turned more (subst (λ w. AreTurns bench_air w turned) (begun_on g.joins) turns) each_asked short
-            (subst CutsOn (begun_on g.joins) (cuts_on s g.joins c b))
+            far_goes s l b open_ g.joins.far asked g.joins.own turned more (subst (λ w. AreTurns bench_air w turned) (begun_on g.joins) turns) each_asked
+            (subst (λ o. IfSome o AskedNameFits) on (accepted_name_fits s c may)) (subst CutsOn (begun_on g.joins) (cuts_on s g.joins c b))
 
         pub turns_on : AreTurns bench_air (begun s h.joins c) turned
         turns_on =
@@ -121,15 +118,13 @@ module _ (s : State) (c : Command) (asked : LinkAsking) (on : asked_on_link c �
             }
 
     -- two fronts that are over, by some numbers and by those that events show
-    pub begins_on_link : (es rest fs more : List Event) (p q : Option Answer) (t u : State) → h.joins ≡ shown_of s c (es ++ more) → PayloadsShort s g c (es ++ rest)
+    pub begins_on_link : (es rest fs more : List Event) (p q : Option Answer) (t u : State) → h.joins ≡ shown_of s c (es ++ more)
         → FrontOf s g c (es ++ rest) p t → due s g c (receptions (es ++ rest)) ≡ Over → FrontOf s h c fs q u → due s h c (receptions fs) ≡ Over → BeginsSame es rest fs
-    begins_on_link es rest fs more p q t u shown short front over front_by over_by =
+    begins_on_link es rest fs more p q t u shown front over front_by over_by =
         begins_same bench_air (due s g c) (due s h c) (begun s g.joins c) (begun s h.joins c) (changed s c).queue es rest fs front.turns front.each front.fates over
         front_by.turns front_by.each front_by.fates over_by more
         (λ turned tail is turns each.
-        let all : es ++ rest ≡ turned ++ (tail ++ rest) = ap (λ z. z ++ rest) is ∙ append_assoc turned tail rest in
-        goes_on_link turned (tail ++ more) (shown ∙ ap (shown_of s c) (ap (λ z. z ++ more) is ∙ append_assoc turned tail more)) turns each
-        (own_front asked l g.joins.own turned (tail ++ rest) (subst (OwnShort asked l g.joins.own) all (short l asked open_ on))))
+        goes_on_link turned (tail ++ more) (shown ∙ ap (shown_of s c) (ap (λ z. z ++ more) is ∙ append_assoc turned tail more)) turns each front.accepted)
 
   -- where no link is open nothing happens
   pub none_happens : s.link ≡ None → (g : Given) (es : List Event) (told : Option Answer) (t : State) → FrontOf s g c es told t → es ≡ []

@@ -11,7 +11,7 @@ use Rattle.bench_world.specs.declared.entry.Answer.{Answer}
 use Rattle.bench_world.specs.Asked.{asked_on_link}
 use Rattle.bench_world.specs.Legal.{FrontOf, Given, IsPayload, State, due}
 use Rattle.bench_world.specs.Links.{OpenLink}
-use Rattle.bench_world.specs.Showing.{BeginsSame, IsBetween, MayShow, NumbersShow, PayloadsShort, shown_of}
+use Rattle.bench_world.specs.Showing.{BeginsSame, IsBetween, MayShow, NumbersShow, shown_of}
 use Rattle.bench_world.proofs.ShowingAlone.{IsForge, IsNumberless, alone_events, numberless}
 use Rattle.bench_world.proofs.ShowingForge.{begins_forged}
 use Rattle.bench_world.proofs.ShowingLink.{begins_on_link, none_happens}
@@ -22,11 +22,11 @@ begins_all es rest fs is = record { other = rest; begins = is; ends = λ none. n
 
 module _ (s t u : State) (g h : Given) (c : Command) (es rest more fs : List Event) (a b : Answer) (between : IsBetween s) (swapped : MayShow s c)
     (p : FrontOf s g c (es ++ rest) (Some a) t) (done : due s g c (receptions (es ++ rest)) ≡ Over) (q : FrontOf s h c fs (Some b) u) (over : due s h c (receptions fs) ≡ Over)
-    (shown : h.joins ≡ shown_of s c (es ++ more)) (short : PayloadsShort s g c (es ++ rest)) where
+    (shown : h.joins ≡ shown_of s c (es ++ more)) where
   by_link : (asked : LinkAsking) → asked_on_link c ≡ Some asked → (o : Option OpenLink) → s.link ≡ o → BeginsSame es rest fs
   by_link asked on None none =
       begins_all es rest fs (none_happens s c asked on none h fs (Some b) u q ∙ sym (none_happens s c asked on none g (es ++ rest) (Some a) t p))
-  by_link asked on (Some l) open_ = begins_on_link s c asked on l open_ between g h es rest fs more (Some a) (Some b) t u shown short p done q over
+  by_link asked on (Some l) open_ = begins_on_link s c asked on l open_ between g h es rest fs more (Some a) (Some b) t u shown p done q over
 
   -- payloads that are written by hand
   by_hand : IsForge c → BeginsSame es rest fs
@@ -49,8 +49,8 @@ module _ (s t u : State) (g h : Given) (c : Command) (es rest more fs : List Eve
   begins_so = by_asked (asked_on_link c) refl
 
 pub numbers_show : NumbersShow
-numbers_show s t u g h e f es rest more between swapped step short split step_by same shown =
+numbers_show s t u g h e f es rest more between swapped step split step_by same shown =
     let F : List Event → Type 0 = λ xs. FrontOf s g e.command xs (Some e.answer) t in
     let H : Command → Type 0 = λ c. FrontOf s h c f.events (Some f.answer) u in
     begins_so s t u g h e.command es rest more f.events e.answer f.answer between swapped (subst F split step.front) (ap (λ xs. due s g e.command (receptions xs)) (sym split) ∙ step.over)
-    (subst H same step_by.front) (ap (λ c. due s h c (receptions f.events)) (sym same) ∙ step_by.over) shown (subst (PayloadsShort s g e.command) split short)
+    (subst H same step_by.front) (ap (λ c. due s h c (receptions f.events)) (sym same) ∙ step_by.over) shown

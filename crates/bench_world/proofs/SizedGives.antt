@@ -1,6 +1,6 @@
--- An end that asks for no connection itself, and whose payloads are short, goes on so: whatever it takes and gives.
-use Rattle.std.proofs.Common.{◌≡◌, ◌≤◌, ◌+◌, ◌-◌, ◌*◌, ◌/◌, ◌==◌, ◌&&◌, nat_lt, nat_le, ℕ, zero, suc, Bool, true, false, not, List, [], ◌∷◌, ◌++◌, length, take, Option, Some, None, if◌then◌else◌, arith, refl, sym, ap, subst, length-append}
-use Rattle.std.specs.Prelude.{IfSome}
+-- An end whose payloads are short goes on so, whatever it takes and gives: that of a peer, and one that asks for connections itself.
+use Rattle.std.proofs.Common.{◌≡◌, ◌≤◌, ◌+◌, ◌-◌, ◌*◌, ◌/◌, ◌==◌, nat_le, ℕ, zero, suc, true, false, List, [], ◌∷◌, ◌++◌, length, take, Option, Some, None, if◌then◌else◌, arith, refl, sym, subst, length-append}
+use Rattle.std.specs.Prelude.{IfSome, is_some}
 use Rattle.std.specs.List.{AllByRecursion, cons_option, filter_map}
 use Rattle.llcp_pdu.specs.declared.param.Param.{Param}
 use Rattle.llcp_pdu.specs.declared.param.Param.TheVariants.{Miux, Rw, SdReq}
@@ -13,9 +13,11 @@ use Rattle.llcp_pdu.specs.Writing.{params_bytes, part_bytes, parts_bytes, inner_
 use Rattle.llcp_conn.specs.declared.conn.Taken.{Taken}
 use Rattle.llcp_conn.specs.declared.conn.Taken.TheVariants as taking
 use Rattle.llcp_conn.specs.Conn as conn
-use Rattle.llcp_conn.specs.Conn.{ConnState, Took, fresh, gives, gives_ack, gives_from, queued, report, takes}
+use Rattle.llcp_conn.specs.Conn.{ConnState, Took, fresh, gives, gives_ack, queued, report, takes}
 use Rattle.llcp_link.specs.Serving.{Serving}
-use Rattle.llcp_link.specs.State.{LlcState, OwnState, Queued, Holder, Nobody, Served, Asked, conn_from, holder, own_from, own_holder, served_holder, sap_count, with_conn, without_conn}
+use Rattle.llcp_link.specs.declared.own.OwnIs.{OwnIs}
+use Rattle.llcp_link.specs.declared.own.OwnIs.TheVariants.{Asking, Open, Refused, Leaving, Closed}
+use Rattle.llcp_link.specs.State.{LlcState, OwnState, Queued, Holder, Nobody, Served, Asked, conn_from, holder, own_from, own_holder, sap_count, with_own}
 use Rattle.llcp_link.specs.Names.{answer_to, answers_to, miu_of, name_of, own_params, reached, rw_of, told_all}
 use Rattle.llcp_link.specs.Taking as t
 use Rattle.llcp_link.specs.Taking.{Item, Good, Broken, brought, step, steps, taken_from}
@@ -23,43 +25,11 @@ use Rattle.llcp_link.specs.Giving as g
 use Rattle.llcp_link.specs.Giving.{Gave, GaveAll, after_giving, first_from, gave, gave_first, gave_none, given, given_parts, given_so, joined, joined_so, may_send, or_else, others, payload_of, sap_after}
 use Rattle.llcp_link.proofs.Ranged.{either}
 use Rattle.link_numbers.proofs.Payload.{given_fit}
-use Rattle.bench_world.specs.Cutting.{ConnShort, GivesShort, QueuedShort}
+use Rattle.bench_world.specs.Cutting.{ConnShort, GivesShort, OwnShort, QueuedShort, StandsShort}
+use Rattle.bench_world.proofs.SizedConns.{HolderShort, PduShort, ack_short, found_short, holds_short, nr_takes, own_found, own_holds, pdu_short, queued_short, unit_takes, with_own_short, with_short, without_short}
 use Rattle.bench_world.proofs.SizedEnds.{IsLess}
 use Rattle.bench_world.proofs.SizedItems.{ItemSmall, brought_small}
 use Rattle.bench_world.proofs.SizedWorld.{all_more}
-
--- connections
-found_short : (s : ℕ) (cs : List ConnState) → AllByRecursion ConnShort cs → IfSome (conn_from s cs) ConnShort
-found_short s [] h = tt
-found_short s (c ∷ cs) h = either (λ o. IfSome o ConnShort) (c.there == s) (Some c) (conn_from s cs) (λ e. h.0) (λ e. found_short s cs h.1)
-
-with_short : (c : ConnState) (cs : List ConnState) → ConnShort c → AllByRecursion ConnShort cs → AllByRecursion ConnShort (with_conn c cs)
-with_short c [] k h = tt
-with_short c (d ∷ ds) k h =
-    either {X = List ConnState} (AllByRecursion ConnShort) (d.there == c.there) (c ∷ ds) (d ∷ with_conn c ds) (λ e. (k, h.1)) (λ e. (h.0, with_short c ds k h.1))
-
-without_short : (s : ℕ) (cs : List ConnState) → AllByRecursion ConnShort cs → AllByRecursion ConnShort (without_conn s cs)
-without_short s [] h = tt
-without_short s (c ∷ cs) h = either {X = List ConnState} (AllByRecursion ConnShort) (c.there == s) cs (c ∷ without_conn s cs) (λ e. h.1) (λ e. (h.0, without_short s cs h.1))
-
--- what a connection takes leaves it so
-unit_takes : (c : ConnState) (ns nr : ℕ) (xs : List ℕ) → ConnShort c → ConnShort (conn.takes_unit c ns nr xs).conn
-unit_takes c ns nr xs h =
-    either {X = Took} (λ x. ConnShort x.conn) (nat_lt c.near_miu (length xs)) _ _ (λ e. h)
-    (λ e. either {X = Took} (λ x. ConnShort x.conn) (conn.is_outside c nr) _ _ (λ e. h) (λ e. either {X = Took} (λ x. ConnShort x.conn) (ns == c.vr) _ _ (λ e. h) (λ e. h)))
-
-nr_takes : (c : ConnState) (ptype nr : ℕ) (held : Bool) → ConnShort c → ConnShort (conn.takes_nr c ptype nr held).conn
-nr_takes c ptype nr held h = either {X = Took} (λ x. ConnShort x.conn) (conn.is_outside c nr) _ _ (λ e. h) (λ e. h)
-
--- who has a connection; none that this end asked for
-abbrev HolderShort : Holder → Type 0
-HolderShort Nobody = Unit {0}
-HolderShort (Served c) = ConnShort c
-HolderShort (Asked o c) = ⊥
-
-holds_short : (d : ℕ) (q : Option ConnState) (x : Holder) → IfSome q ConnShort → HolderShort x → HolderShort (served_holder d q x)
-holds_short d None x h k = k
-holds_short d (Some c) x h k = either {X = Holder} HolderShort (c.here == d) (Served c) x (λ e. h) (λ e. k)
 
 -- how long PDUs are that an end answers with
 dm_short : (d s r : ℕ) → length (part_bytes (Dm d s r)) ≤ 2178
@@ -85,14 +55,14 @@ res_long zero ps h = omega arith
 res_long (suc n) [] h = omega arith
 res_long (suc n) (p ∷ ps) h = (let one : length (params_bytes (p ∷ [])) ≡ 4 = h.0 in let more = res_long n ps h.1 in omega (arith, length-append {A = ℕ}))
 
--- what an end says of itself where it accepts a connection
-own_long : (miu window : ℕ) → length (params_bytes (own_params miu window)) ≤ 7
+-- what an end says of itself where it accepts a connection or asks for one
+pub own_long : (miu window : ℕ) → length (params_bytes (own_params miu window)) ≤ 7
 own_long miu window =
     either {X = List Param} (λ xs. length (params_bytes (xs ++ (if window == 1 then [] else Rw window ∷ []))) ≤ 7) (miu == least_miu) [] (Miux (miu - least_miu) ∷ [])
     (λ e. either {X = List Param} (λ ys. length (params_bytes ys) ≤ 7) (window == 1) [] (Rw window ∷ []) (λ e. omega arith) (λ e. omega arith))
     (λ e. either {X = List Param} (λ ys. length (params_bytes (Miux (miu - least_miu) ∷ ys)) ≤ 7) (window == 1) [] (Rw window ∷ []) (λ e. omega arith) (λ e. omega arith))
 
--- the MIU that a CONNECT says
+-- the MIU that a CONNECT or a CC says
 miu_short : (ps : List Param) → IfSome (last_of miux_in ps) IsLess → miu_of ps ≤ 2175
 miu_short ps h = go (last_of miux_in ps) h
   where
@@ -101,14 +71,13 @@ miu_short ps h = go (last_of miux_in ps) h
     go (Some n) k = omega arith
 
 module _ {S : Type 0} where
-  -- this end asked for no connection
   holder_short : (l : LlcState S) (d s : ℕ) → GivesShort l → HolderShort (holder l d s)
   holder_short l d s h =
-      holds_short d (conn_from s l.served) (own_holder s (own_from d l.own)) (found_short s l.served h.served)
-      (subst (λ os. HolderShort (own_holder s (own_from d os))) (sym h.own) tt)
+      holds_short d (conn_from s l.served) (own_holder s (own_from d l.own)) (found_short s l.served h.served) (own_holds s (own_from d l.own) (own_found d l.own h.own))
 
-  none_own : (l : LlcState S) (d : ℕ) → GivesShort l → own_from d l.own ≡ None
-  none_own l d h = ap (own_from d) h.own
+  -- one of its connections is changed
+  pub own_changed : (l : LlcState S) (o : OwnState) → OwnShort o → GivesShort l → GivesShort (record l { own = with_own o l.own })
+  own_changed l o k h = record { miu = h.miu; queue = h.queue; served = h.served; own = with_own_short o l.own k h.own }
 
   -- an answer that waits
   answered_short : (l : LlcState S) (p : Part) → length (part_bytes p) ≤ 2178 → GivesShort l → GivesShort (t.answered l p)
@@ -120,22 +89,41 @@ module _ {S : Type 0} where
   ends_short : (l : LlcState S) (x : Holder) → HolderShort x → GivesShort l → GivesShort (t.ends l x)
   ends_short l Nobody k h = h
   ends_short l (Served c) k h = record { miu = h.miu; queue = h.queue; served = without_short c.there l.served h.served; own = h.own }
-  ends_short l (Asked o c) k h = absurd k
+  ends_short l (Asked o c) k h = own_changed l (record o { is = Closed }) tt h
 
   leaves_short : (l : LlcState S) (d s : ℕ) (x : Holder) → HolderShort x → GivesShort l → GivesShort (t.leaves l d s x)
   leaves_short l d s Nobody k h = answered_short l _ (dm_short s d t.not_connected) h
   leaves_short l d s (Served c) k h = answered_short (t.ends l (Served c)) _ (dm_short s d t.disconnected) (ends_short l (Served c) k h)
-  leaves_short l d s (Asked o c) k h = absurd k
+  leaves_short l d s (Asked o c) k h = answered_short (t.ends l (Asked o c)) _ (dm_short s d t.disconnected) (ends_short l (Asked o c) k h)
 
   breaks_short : (l : LlcState S) (ty q : ℕ) (x : Holder) → HolderShort x → GivesShort l → GivesShort (t.breaks l ty q x)
   breaks_short l ty q Nobody k h = h
   breaks_short l ty q (Served c) k h =
       answered_short (t.ends l (Served c)) _ (frmr_short c.there c.here (report c t.flag_w ty q)) (ends_short l (Served c) k h)
-  breaks_short l ty q (Asked o c) k h = absurd k
+  breaks_short l ty q (Asked o c) k h =
+      answered_short (t.ends l (Asked o c)) _ (frmr_short c.there c.here (report c t.flag_w ty q)) (ends_short l (Asked o c) k h)
 
-  awaited_short : (l : LlcState S) (s : ℕ) (f : OwnState → LlcState S) (q : Option OwnState) → q ≡ None → GivesShort l → GivesShort (t.awaited l s f q)
-  awaited_short l s f None e h = h
-  awaited_short l s f (Some o) e h = absurd cc
+  -- what a PDU does to one that this end asked for
+  asked_short : (l : LlcState S) (o : OwnState) (c : ConnState) (x : Taken) → ConnShort c → GivesShort l → GivesShort (t.asked_so l o c x)
+  asked_short l o c taking.Nothing k h = own_changed l (record o { is = Open c }) k h
+  asked_short l o c (taking.Unit u) k h = own_changed l (record o { is = Open c; units = o.units ++ u ∷ [] }) k h
+  asked_short l o c (taking.Closed r) k h = answered_short (t.ends l (Asked o c)) _ (frmr_short c.there c.here r) (ends_short l (Asked o c) k h)
+
+  -- an answer that such a connection awaits
+  cc_short : (l : LlcState S) (o : OwnState) (ps : List Param) (i : OwnIs) → IfSome (last_of miux_in ps) IsLess → GivesShort l → GivesShort (t.heard_cc l o ps i)
+  cc_short l o ps Asking k h =
+      either {X = LlcState S} (λ x. GivesShort x) (rw_of ps == 0) _ _ (λ e. own_changed l (record o { is = Refused }) tt h)
+      (λ e. own_changed l (record o { is = Open (fresh o.here o.there l.miu (miu_of ps) (rw_of ps)) }) (miu_short ps k, tt) h)
+  cc_short l o ps i k h = h
+
+  heard_dm_short : (l : LlcState S) (o : OwnState) (i : OwnIs) → GivesShort l → GivesShort (t.heard_dm l o i)
+  heard_dm_short l o Asking h = own_changed l (record o { is = Refused }) tt h
+  heard_dm_short l o Leaving h = own_changed l (record o { is = Closed }) tt h
+  heard_dm_short l o i h = h
+
+  awaited_short : (l : LlcState S) (s : ℕ) (f : OwnState → LlcState S) (q : Option OwnState) → ((o : OwnState) → GivesShort (f o)) → GivesShort l → GivesShort (t.awaited l s f q)
+  awaited_short l s f None each h = h
+  awaited_short l s f (Some o) each h = either {X = LlcState S} (λ x. GivesShort x) (o.there == s) (f o) l (λ e. each o) (λ e. h)
 
   -- service discovery
   tells_short : (l : LlcState S) (ps : List Param) → length (params_bytes ps) ≤ 2176 → GivesShort l → GivesShort (t.tells l ps)
@@ -161,7 +149,7 @@ module _ {S : Type 0} (m : Serving S) where
       record {
         miu = h.miu;
         queue = all_more QueuedShort l.queue _ h.queue (let z : length (part_bytes (Cc s sap (own_params l.miu l.window))) ≤ 2178 = omega (arith, long) in z);
-        served = all_more ConnShort l.served (fresh sap s l.miu (miu_of ps) (rw_of ps)) h.served (miu_short ps k, refl);
+        served = all_more ConnShort l.served (fresh sap s l.miu (miu_of ps) (rw_of ps)) h.served (miu_short ps k, tt);
         own = h.own;
       }
   connects_short l d s ps None k h =
@@ -178,7 +166,7 @@ module _ {S : Type 0} (m : Serving S) where
       → GivesShort (t.numbered m l f d s x)
   numbered_short l f d s Nobody each k h = answered_short l _ (dm_short s d t.not_connected) h
   numbered_short l f d s (Served c) each k h = served_short l (f c).conn (f c).does (each c k) h
-  numbered_short l f d s (Asked o c) each k h = absurd k
+  numbered_short l f d s (Asked o c) each k h = asked_short l o (f c).conn (f c).does (each c k) h
 
   -- all PDUs of a payload
   step_short : (l : LlcState S) (i : Item) → ItemSmall i → GivesShort l → GivesShort (step m l i)
@@ -186,8 +174,8 @@ module _ {S : Type 0} (m : Serving S) where
   step_short l (Good (Ui d s info)) k h = h
   step_short l (Good (Connect d s ps)) k h =
       either {X = LlcState S} (λ x. GivesShort x) (t.is_full l) l (t.connects_to m l d s ps (t.accepted l d s ps)) (λ e. h) (λ e. connects_short l d s ps (t.accepted l d s ps) k h)
-  step_short l (Good (Cc d s ps)) k h = awaited_short l s (λ o. t.heard_cc l o ps o.is) (own_from d l.own) (none_own l d h) h
-  step_short l (Good (Dm d s r)) k h = awaited_short l s (λ o. t.heard_dm l o o.is) (own_from d l.own) (none_own l d h) h
+  step_short l (Good (Cc d s ps)) k h = awaited_short l s (λ o. t.heard_cc l o ps o.is) (own_from d l.own) (λ o. cc_short l o ps o.is k h) h
+  step_short l (Good (Dm d s r)) k h = awaited_short l s (λ o. t.heard_dm l o o.is) (own_from d l.own) (λ o. heard_dm_short l o o.is h) h
   step_short l (Good (Disc d s)) k h = leaves_short l d s (holder l d s) (holder_short l d s h) h
   step_short l (Good (Frmr d s r)) k h = ends_short l (holder l d s) (holder_short l d s h) h
   step_short l (Good (Snl ps)) k h = discovers_short l ps h
@@ -218,71 +206,57 @@ module _ {S : Type 0} (m : Serving S) where
   round_short (suc n) s f all = else_short (f s) (first_from n (sap_after s) f) (all s) (round_short n (sap_after s) f all)
 
   -- of a connection
-  abbrev PduShort : ConnState → Part → Type 0
-  PduShort c p = ConnShort c × (length (part_bytes p) ≤ 2178)
-
   conn_gives : (l : LlcState S) (c : ConnState) (q : Option Part) → IfSome q (PduShort c) → GivesShort l → IfSome (g.gave_conn l c q) GaveShort
   conn_gives l c None k h = tt
   conn_gives l c (Some p) k h = (record { miu = h.miu; queue = h.queue; served = with_short c l.served k.0 h.served; own = h.own }, k.1)
 
-  ack_short : (c : ConnState) → ConnShort c → IfSome (gives_ack c).pdu (PduShort (gives_ack c).conn)
-  ack_short c h = either {X = conn.Gave} (λ x. IfSome x.pdu (PduShort x.conn)) c.owed _ _ (λ e. (h, (let z : length (part_bytes (Rr c.there c.here c.vr)) ≤ 2178 = omega arith in z))) (λ e. tt)
-
-  -- a unit of the service, where the window allows one
-  from_short : (c : ConnState) (u : List ℕ) (q : List (List ℕ)) → q ≡ u ∷ [] → c.far_miu ≤ 2175 → length u ≤ c.far_miu → IfSome (gives_from c q).pdu (PduShort (gives_from c q).conn)
-  from_short c u q e k h =
-      subst (λ q. IfSome (gives_from c q).pdu (PduShort (gives_from c q).conn)) (sym e)
-      ((k, refl), (let z : length (part_bytes (Info c.there c.here (conn.vs c) c.vr u)) ≤ 2178 = omega (arith, k, h) in z))
-
-  unit_short : (c : ConnState) (u : List ℕ) → ConnShort c → c.held ≡ false → length u ≤ c.far_miu → IfSome (gives (queued c u)).pdu (PduShort (gives (queued c u)).conn)
-  unit_short c u h e k =
-      either {X = conn.Gave} (λ x. IfSome x.pdu (PduShort x.conn)) c.live (if c.held then gives_ack (queued c u) else gives_from (queued c u) (c.queue ++ u ∷ [])) _
-      (λ i. subst (λ (v : Bool). IfSome (if v then gives_ack (queued c u) else gives_from (queued c u) (c.queue ++ u ∷ [])).pdu
-      (PduShort (if v then gives_ack (queued c u) else gives_from (queued c u) (c.queue ++ u ∷ [])).conn)) (sym e)
-      (from_short (queued c u) u (c.queue ++ u ∷ []) (ap (λ q. q ++ u ∷ []) h.1) h.0 k))
-      (λ i. tt)
-
-  not_held : (c : ConnState) → may_send c ≡ true → c.held ≡ false
-  not_held c e = go c.held e
-    where
-      go : (v : Bool) → (not v && conn.has_room c) ≡ true → v ≡ false
-      go true k = absurd cc
-      go false k = refl
+  own_gives : (l : LlcState S) (o : OwnState) (c : ConnState) (q : Option Part) → IfSome q (PduShort c) → GivesShort l → IfSome (g.gave_own l o c q) GaveShort
+  own_gives l o c None k h = tt
+  own_gives l o c (Some p) k h = (record { miu = h.miu; queue = h.queue; served = h.served; own = with_own_short (record o { is = Open c }) l.own k.0 h.own }, k.1)
 
   module _ (fits : (s : S) (client miu : ℕ) → IfSome (m.due s client miu) (λ u. length u ≤ miu)) where
-    sends_short : (l : LlcState S) (c : ConnState) (q : Option (List ℕ)) → IfSome q (λ u. length u ≤ c.far_miu) → ConnShort c → c.held ≡ false → GivesShort l
-        → IfSome (g.sends m l c q) GaveShort
-    sends_short l c None k i e h = tt
-    sends_short l c (Some u) k i e h =
-        conn_gives (record l { service = m.sent l.service c.there c.far_miu }) (gives (queued c u)).conn (gives (queued c u)).pdu (unit_short c u i e k)
+    sends_short : (l : LlcState S) (c : ConnState) (q : Option (List ℕ)) → IfSome q (λ u. length u ≤ c.far_miu) → ConnShort c → GivesShort l → IfSome (g.sends m l c q) GaveShort
+    sends_short l c None k i h = tt
+    sends_short l c (Some u) k i h =
+        conn_gives (record l { service = m.sent l.service c.there c.far_miu }) (gives (queued c u)).conn (gives (queued c u)).pdu (pdu_short (queued c u) (queued_short c u i k))
         (record { miu = h.miu; queue = h.queue; served = h.served; own = h.own })
 
     informs_served_short : (l : LlcState S) (q : Option ConnState) → IfSome q ConnShort → GivesShort l → IfSome (g.informs_served m l q) GaveShort
     informs_served_short l None k h = tt
     informs_served_short l (Some c) k h =
         either {X = Option (Gave S)} (λ o. IfSome o GaveShort) (may_send c) (g.sends m l c (m.due l.service c.there c.far_miu)) None
-        (λ e. sends_short l c (m.due l.service c.there c.far_miu) (fits l.service c.there c.far_miu) k (not_held c e) h) (λ e. tt)
+        (λ e. sends_short l c (m.due l.service c.there c.far_miu) (fits l.service c.there c.far_miu) k h) (λ e. tt)
 
-    informs_own_short : (l : LlcState S) (q : Option OwnState) → q ≡ None → IfSome (g.informs_own l q) GaveShort
-    informs_own_short l None e = tt
-    informs_own_short l (Some o) e = absurd cc
+    informs_open_short : (l : LlcState S) (o : OwnState) (i : OwnIs) → StandsShort i → GivesShort l → IfSome (g.informs_open l o i) GaveShort
+    informs_open_short l o (Open c) k h =
+        either {X = Option (Gave S)} (λ x. IfSome x GaveShort) (is_some (conn.due c)) (g.gave_own l o (gives c).conn (gives c).pdu) None
+        (λ e. own_gives l o (gives c).conn (gives c).pdu (pdu_short c k) h) (λ e. tt)
+    informs_open_short l o i k h = tt
+
+    informs_own_short : (l : LlcState S) (q : Option OwnState) → IfSome q OwnShort → GivesShort l → IfSome (g.informs_own l q) GaveShort
+    informs_own_short l None k h = tt
+    informs_own_short l (Some o) k h = informs_open_short l o o.is k h
 
     acks_served_short : (l : LlcState S) (q : Option ConnState) → IfSome q ConnShort → GivesShort l → IfSome (g.acknowledges_served l q) GaveShort
     acks_served_short l None k h = tt
     acks_served_short l (Some c) k h = conn_gives l (gives_ack c).conn (gives_ack c).pdu (ack_short c k) h
 
-    acks_own_short : (l : LlcState S) (q : Option OwnState) → q ≡ None → IfSome (g.acknowledges_own l q) GaveShort
-    acks_own_short l None e = tt
-    acks_own_short l (Some o) e = absurd cc
+    acks_open_short : (l : LlcState S) (o : OwnState) (i : OwnIs) → StandsShort i → GivesShort l → IfSome (g.acknowledges_open l o i) GaveShort
+    acks_open_short l o (Open c) k h = own_gives l o (gives_ack c).conn (gives_ack c).pdu (ack_short c k) h
+    acks_open_short l o i k h = tt
+
+    acks_own_short : (l : LlcState S) (q : Option OwnState) → IfSome q OwnShort → GivesShort l → IfSome (g.acknowledges_own l q) GaveShort
+    acks_own_short l None k h = tt
+    acks_own_short l (Some o) k h = acks_open_short l o o.is k h
 
     -- what waits comes first
     from_queue : (l : LlcState S) (q : List Queued) → AllByRecursion QueuedShort q → GivesShort l → IfSome (g.gave_from m l q) GaveShort
     from_queue l [] k h =
         else_short _ _
         (round_short sap_count (g.circle_start l.last) (g.informs m l)
-        (λ s. else_short _ _ (informs_served_short l (conn_from s l.served) (found_short s l.served h.served) h) (informs_own_short l (own_from s l.own) (none_own l s h))))
+        (λ s. else_short _ _ (informs_served_short l (conn_from s l.served) (found_short s l.served h.served) h) (informs_own_short l (own_from s l.own) (own_found s l.own h.own) h)))
         (round_short sap_count (g.circle_start l.last) (g.acknowledges l)
-        (λ s. else_short _ _ (acks_served_short l (conn_from s l.served) (found_short s l.served h.served) h) (acks_own_short l (own_from s l.own) (none_own l s h))))
+        (λ s. else_short _ _ (acks_served_short l (conn_from s l.served) (found_short s l.served h.served) h) (acks_own_short l (own_from s l.own) (own_found s l.own h.own) h)))
     from_queue l (q ∷ qs) k h = (record { miu = h.miu; queue = k.1; served = h.served; own = h.own }, k.0)
 
     gave_short : (l : LlcState S) → GivesShort l → IfSome (gave m l) GaveShort

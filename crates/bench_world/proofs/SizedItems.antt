@@ -1,4 +1,4 @@
--- No CONNECT says an MIU that is too long for a payload, whatever bytes a payload has.
+-- No CONNECT and no CC says an MIU that is too long for a payload, whatever bytes a payload has.
 use Rattle.std.proofs.Common.{◌+◌, ◌*◌, ◌/◌, ◌%◌, ◌==◌, ◌&&◌, ◌||◌, nat_lt, ℕ, zero, suc, Bool, true, false, List, [], ◌∷◌, length, map, take, Option, Some, None, Result, Ok, Err, if◌then◌else◌}
 use Rattle.std.specs.Prelude.{IfSome}
 use Rattle.std.specs.List.{AllByRecursion}
@@ -23,6 +23,7 @@ use Rattle.bench_world.proofs.SizedEnds.{AllSmall, IsLess, params_small}
 -- so it is of a PDU
 abbrev pub PartSmall : Part → Type 0
 PartSmall (Connect d s ps) = IfSome (last_of miux_in ps) IsLess
+PartSmall (Cc d s ps) = IfSome (last_of miux_in ps) IsLess
 PartSmall p = Unit {0}
 
 abbrev pub ItemSmall : Item → Type 0
@@ -38,11 +39,11 @@ abbrev SeveralSmall : {E : Type 0} → Result (List Part) E → Type 0
 SeveralSmall (Ok ps) = AllByRecursion PartSmall ps
 SeveralSmall (Err e) = Unit {0}
 
-connect_small : (d s : ℕ) (r : Result (List Param) _) → AllSmall r → OneSmall (gives r (Connect d s))
-connect_small d s (Ok ps) h = h
-connect_small d s (Err e) h = tt
+said_small : (f : List Param → Part) → ((ps : List Param) → IfSome (last_of miux_in ps) IsLess → PartSmall (f ps)) → (r : Result (List Param) _) → AllSmall r → OneSmall (gives r f)
+said_small f h (Ok ps) k = h ps k
+said_small f h (Err e) k = tt
 
--- where what is made of it is no CONNECT
+-- where what is made of it is neither
 other_small : {A : Type 0} (f : A → Part) → ((x : A) → PartSmall (f x)) → (r : Result A _) → OneSmall (gives r f)
 other_small f h (Ok x) = h x
 other_small f h (Err e) = tt
@@ -62,7 +63,10 @@ symm_small : (d s : ℕ) (rest : List ℕ) (at : ℕ) → OneSmall (between 0 d 
 symm_small d s rest at = between_small 0 d s at (ended rest (at + 2) Symm) (ended_small rest (at + 2) Symm tt)
 
 called_small : (d s : ℕ) (rest : List ℕ) (at : ℕ) → OneSmall (gives (params rest 0 (at + 2)) (Connect d s))
-called_small d s rest at = connect_small d s (params rest 0 (at + 2)) (params_small rest 0 (at + 2))
+called_small d s rest at = said_small (Connect d s) (λ ps k. k) (params rest 0 (at + 2)) (params_small rest 0 (at + 2))
+
+told_small : (d s : ℕ) (rest : List ℕ) (at : ℕ) → OneSmall (gives (params rest 0 (at + 2)) (Cc d s))
+told_small d s rest at = said_small (Cc d s) (λ ps k. k) (params rest 0 (at + 2)) (params_small rest 0 (at + 2))
 
 snl_small : (d s : ℕ) (rest : List ℕ) (at : ℕ) → OneSmall (between 1 d s at (gives (params rest 0 (at + 2)) Snl))
 snl_small d s rest at = between_small 1 d s at (gives (params rest 0 (at + 2)) Snl) (other_small Snl (λ x. tt) (params rest 0 (at + 2)))
@@ -88,7 +92,7 @@ part_small [] at = tt
 part_small (x ∷ []) at = tt
 part_small (x ∷ y ∷ rest) at =
     twelve (λ o. OneSmall (follows (headed at o d s) (λ h. body h.ptype h.dsap h.ssap rest at))) (ptype_bits x y) _ _ _ _ _ _ _ _ _ _ _ _
-    (symm_small d s rest at) tt tt (called_small d s rest at) (ended_small rest (at + 2) (Disc d s) tt) (other_small (Cc d s) (λ x. tt) (params rest 0 (at + 2)))
+    (symm_small d s rest at) tt tt (called_small d s rest at) (ended_small rest (at + 2) (Disc d s) tt) (told_small d s rest at)
     (other_small (Dm d s) (λ x. tt) (byte rest (at + 2))) (other_small (Frmr d s) (λ x. tt) (report rest (at + 2))) (snl_small d s rest at)
     (numbered_small d s rest (at + 2)) (other_small (λ q. Rr d s (q % 16)) (λ x. tt) (byte rest (at + 2)))
     (other_small (λ q. Rnr d s (q % 16)) (λ x. tt) (byte rest (at + 2))) tt
@@ -140,7 +144,7 @@ pdu_small (x ∷ y ∷ rest) =
     twelve (λ o. ReadSmall b (follows (headed 0 o d s) (λ h. whole h rest))) (ptype_bits x y) _ _ _ _ _ _ _ _ _ _ _ _
     (one_read b (between 0 d s 0 (ended rest 2 Symm)) (symm_small d s rest 0)) (agf_read b rest d s) tt
     (one_read b (gives (params rest 0 2) (Connect d s)) (called_small d s rest 0)) (one_read b (ended rest 2 (Disc d s)) (ended_small rest 2 (Disc d s) tt))
-    (one_read b (gives (params rest 0 2) (Cc d s)) (other_small (Cc d s) (λ x. tt) (params rest 0 2)))
+    (one_read b (gives (params rest 0 2) (Cc d s)) (told_small d s rest 0))
     (one_read b (gives (byte rest 2) (Dm d s)) (other_small (Dm d s) (λ x. tt) (byte rest 2)))
     (one_read b (gives (report rest 2) (Frmr d s)) (other_small (Frmr d s) (λ x. tt) (report rest 2)))
     (one_read b (between 1 d s 0 (gives (params rest 0 2) Snl)) (snl_small d s rest 0)) (one_read b (numbered d s rest 2) (numbered_small d s rest 2))

@@ -1,5 +1,5 @@
 -- A server gives no unit that is longer than it is asked for; so a peer's end goes on as it is, and no payload of it is too long.
-use Rattle.std.proofs.Common.{◌≤◌, ◌==◌, ℕ, List, [], ◌∷◌, length, take, Option, Some, None, arith, length-take, refl}
+use Rattle.std.proofs.Common.{◌≤◌, ◌==◌, ℕ, List, [], ◌∷◌, length, take, Option, Some, None, arith, length-take}
 use Rattle.std.specs.Prelude.{IfSome}
 use Rattle.llcp_link.specs.State.{LlcState}
 use Rattle.llcp_link.specs.Taking.{taken_from}
@@ -41,10 +41,10 @@ pub left_short : (l : LlcState ServerState) (payload : List ℕ) (n : ℕ) → G
 left_short l payload n h = after_short serving unit_fits n (taken_from serving l payload) (taken_short serving l payload h)
 
 pub restarted_short : (l : LlcState ServerState) (general : List ℕ) → GivesShort (peer_ends.restarted l general)
-restarted_short l general = record { miu = general_fits general; queue = tt; served = tt; own = refl }
+restarted_short l general = record { miu = general_fits general; queue = tt; served = tt; own = tt }
 
 pub rested_short : (l : LlcState ServerState) → GivesShort (peer_ends.rested l)
-rested_short l = record { miu = (let z : 128 ≤ 2176 = omega arith in z); queue = tt; served = tt; own = refl }
+rested_short l = record { miu = (let z : 128 ≤ 2176 = omega arith in z); queue = tt; served = tt; own = tt }
 
 -- its replies
 pub reply_short : (l : LlcState ServerState) (payload : List ℕ) (n : ℕ) → GivesShort l → length (peer_ends.reply l payload n) ≤ 2178

@@ -12,10 +12,10 @@ use Rattle.peer_air.specs.PeerFars.{peer_ends}
 use Rattle.snep_core.specs.Talk.{Ends}
 use Rattle.link_calls.specs.Asking.{Call, Closes, Does, LinkAsking, call_begins}
 use Rattle.link_calls.specs.CallDue.{CallStanding, Comes}
-use Rattle.link_numbers.proofs.Resting.{call_within, comes_rested, comes_within, waiting_rested}
+use Rattle.link_numbers.proofs.Resting.{comes_rested, waiting_rested}
 use Rattle.bench_script.specs.DeviceIds.{bytes_of}
 use Rattle.bench_script.specs.declared.command.Command.{Command}
-use Rattle.bench_script.specs.declared.command.Command.TheVariants.{PlaceT2, PlaceT3, PlaceT4, PlaceT5, PlacePeer, Lock, Busy, Offer, Remove, Find, Crowd, Poll3, Read, Read3, Write, Write3, Link, Forge, Raw}
+use Rattle.bench_script.specs.declared.command.Command.TheVariants.{PlaceT2, PlaceT3, PlaceT4, PlaceT5, PlacePeer, Lock, Busy, Offer, Remove, Find, Crowd, Poll3, Read, Read3, Write, Write3, Link, Forge, Raw, Lookup}
 use Rattle.bench_devices.specs.declared.device.Device.{Device}
 use Rattle.bench_devices.specs.Device.{device_busy, device_id, device_linked, device_locked, device_target, devices, new_peer, new_t2, new_t3, new_t4, new_t5}
 use Rattle.bench_devices.specs.Placed.{device_with, with_changed, without}
@@ -25,7 +25,7 @@ use Rattle.bench_world.specs.declared.entry.Answer.TheVariants as answers
 use Rattle.bench_world.specs.Asked.{asked_on_link}
 use Rattle.bench_world.specs.Calls.{IfLinked, asked_behind, link_behind, stands_on}
 use Rattle.bench_world.specs.Cutting.{CutsReplies, CutsWell, FirstCuts, FrontsCut, GivesShort, LinkCuts, MidstCuts, RepliesShort, WorldCuts}
-use Rattle.bench_world.specs.Legal.{Joins, State, begun, changed, is_linked_to, link_alone, link_left, memory_of, state_after}
+use Rattle.bench_world.specs.Legal.{Accepts, Joins, State, begun, changed, is_linked_to, link_alone, link_left, memory_of, state_after}
 use Rattle.bench_world.specs.Linking.{link_if}
 use Rattle.bench_world.specs.Links.{OpenLink}
 use Rattle.bench_world.specs.Obeying.{Machines, ObeyedBy, state_at, untraced}
@@ -35,6 +35,7 @@ use Rattle.bench_world.proofs.SizedDevices.{both_keep, busy_sized, locked_sized}
 use Rattle.bench_world.proofs.SizedEnds.{general_fits}
 use Rattle.bench_world.proofs.SizedServer.{left_short, reply_short}
 use Rattle.bench_world.proofs.SizedTargets.{piece_fits}
+use Rattle.bench_world.proofs.SizedWalks.{AskedNameFits, call_leaves}
 use Rattle.bench_world.proofs.SizedWorld.{all_more, first_so, later_so, replay_so}
 
 abbrev Above : Option FarEnd → Type 0
@@ -92,7 +93,7 @@ changed_world s (PlaceT4 id code container head) h = placed s.world (new_t4 id c
 changed_world s (PlaceT5 id blocks size head) h = placed s.world (new_t5 id size (memory_of (size * blocks) head)) None h (piece_fits initiator_lr) tt
 changed_world s (PlacePeer id lr miu rw limit) h =
     placed s.world (new_peer id lr miu) (Some (new_end miu rw limit)) h (piece_fits initiator_lr)
-    (record { miu = (let z : 128 ≤ 2176 = omega arith in z); queue = tt; served = tt; own = refl })
+    (record { miu = (let z : 128 ≤ 2176 = omega arith in z); queue = tt; served = tt; own = tt })
 changed_world s (Lock id block) h = changed_one s.world (device_locked block) (locked_sized block) (bytes_of id) h
 changed_world s (Busy id count times) h = changed_one s.world (device_busy count times) (busy_sized count times) (bytes_of id) h
 changed_world s (Offer id key value) h = record { targets = h.targets; ends = offered_end key value (bytes_of id) s.world.field.listeners s.world.fars h.ends }
@@ -122,7 +123,10 @@ changed_link s c h = h
 
 -- behind a command that opened one, or asked something on it
 opened_link : (number : Option ℕ) (d : Option Device) (miu rw : ℕ) → Linked (link_if number d miu rw)
-opened_link (Some peer) (Some d) miu rw = record { rests = waiting_rested (device_target d).lr; client = general_fits (device_target d).general }
+opened_link (Some peer) (Some d) miu rw = record {
+  rests = waiting_rested (device_target d).lr;
+  client = record { miu = general_fits (device_target d).general; queue = tt; served = tt; own = tt };
+}
 opened_link (Some peer) None miu rw = tt
 opened_link None d miu rw = tt
 
@@ -132,22 +136,25 @@ alone_link s (Link id miu rw) None h = tt
 alone_link s (Link id miu rw) (Some a) h = tt
 alone_link s c told h = changed_link s c h
 
-behind_link : (l : OpenLink) (call : Call) (joins : List ℕ) (es : List Event) → LinkCuts l → (x : CallStanding) → stands_on l joins call es ≡ x → Linked (link_behind l call x)
-behind_link l call joins es h (Comes (Ends jobs client) i) e = record {
+behind_link : (l : OpenLink) (call : Call) (joins : List ℕ) (es : List Event) → AskedNameFits (Does call) → LinkCuts l → (x : CallStanding) → stands_on l joins call es ≡ x
+    → Linked (link_behind l call x)
+behind_link l call joins es fits h (Comes (Ends jobs client) i) e = record {
   rests = comes_rested joins (call_begins l.client call) (Ends jobs client) l.initiator i (receptions es) h.rests e;
-  client = comes_within joins (call_begins l.client call) (Ends jobs client) l.initiator i (receptions es) (call_within l.client call h.client) e;
+  client = call_leaves joins l.client call (Ends jobs client) l.initiator i (receptions es) fits h.client e;
 }
-behind_link l call joins es h x e = tt
+behind_link l call joins es fits h x e = tt
 
-asked_link : (asked : LinkAsking) (told : Option Answer) (o : Option OpenLink) (joins : List ℕ) (es : List Event) → Linked o → Linked (asked_behind asked told o joins es)
-asked_link (Does call) None o joins es h = tt
-asked_link (Does call) (Some a) None joins es h = tt
-asked_link (Does call) (Some a) (Some l) joins es h = behind_link l call joins es h (stands_on l joins call es) refl
-asked_link Closes told o joins es h = tt
+asked_link : (asked : LinkAsking) (told : Option Answer) (o : Option OpenLink) (joins : List ℕ) (es : List Event) → AskedNameFits asked → Linked o
+    → Linked (asked_behind asked told o joins es)
+asked_link (Does call) None o joins es fits h = tt
+asked_link (Does call) (Some a) None joins es fits h = tt
+asked_link (Does call) (Some a) (Some l) joins es fits h = behind_link l call joins es fits h (stands_on l joins call es) refl
+asked_link Closes told o joins es fits h = tt
 
-left_link : (o : Option LinkAsking) (s : State) (joins : Joins) (c : Command) (es : List Event) (told : Option Answer) → Linked s.link → Linked (link_left o s joins c es told)
-left_link None s joins c es told h = alone_link s c told h
-left_link (Some asked) s joins c es told h = asked_link asked told s.link joins.own es h
+left_link : (o : Option LinkAsking) (s : State) (joins : Joins) (c : Command) (es : List Event) (told : Option Answer) → IfSome o AskedNameFits → Linked s.link
+    → Linked (link_left o s joins c es told)
+left_link None s joins c es told fits h = alone_link s c told h
+left_link (Some asked) s joins c es told fits h = asked_link asked told s.link joins.own es fits h
 
 -- in the midst of a command, and behind it
 pub midst_cuts : MidstCuts
@@ -159,13 +166,18 @@ replies_short l payload n h = (reply_short l payload n h, left_short l payload n
 pub first_cuts : FirstCuts
 first_cuts = record { world = record { targets = tt; ends = tt }; link = tt }
 
-after_cuts : (s : State) (joins : Joins) (c : Command) (es : List Event) (told : Option Answer) → CutsWell s → CutsWell (state_after s joins c es told)
-after_cuts s joins c es told h =
+-- a name that may be looked up fits into a payload
+pub accepted_name_fits : (s : State) (c : Command) → Accepts s c → IfSome (asked_on_link c) AskedNameFits
+accepted_name_fits s (Lookup name) may = may.few
+accepted_name_fits s c may = tt
+
+after_cuts : (s : State) (joins : Joins) (c : Command) (es : List Event) (told : Option Answer) → Accepts s c → CutsWell s → CutsWell (state_after s joins c es told)
+after_cuts s joins c es told may h =
     let k = midst_cuts s joins c es h in
-    record { world = record { targets = k.targets; ends = k.ends }; link = left_link (asked_on_link c) s joins c es told h.link }
+    record { world = record { targets = k.targets; ends = k.ends }; link = left_link (asked_on_link c) s joins c es told (accepted_name_fits s c may) h.link }
 
 pub front_cuts : FrontsCut
-front_cuts s g c es told t f h = subst CutsWell (sym f.after) (after_cuts s g.joins c es told h)
+front_cuts s g c es told t f h = subst CutsWell (sym f.after) (after_cuts s g.joins c es told f.accepted h)
 
 -- So it is of machines behind a command that was obeyed, once its events are taken.
 pub untraced_cuts : (joins : Joins) (a b : Machines) (c : Command) (answer : Answer) → CutsWell (state_at a) → ObeyedBy joins a b c answer → CutsWell (state_at (untraced b))

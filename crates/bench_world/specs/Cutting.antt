@@ -1,14 +1,16 @@
 -- Into what pieces both ends of a bench's links cut payloads, and how long these are (NFCIP-1, ISO/IEC 18092; NFC
 -- Forum LLCP 1.3; that no payload is longer than 2,178 bytes is this project's own).
-use Rattle.std.specs.Prelude.{◌≡◌, ℕ, ◌≤◌, List, [], length, Option, IfSome}
+use Rattle.std.specs.Prelude.{ℕ, ◌≤◌, List, length, Option, IfSome}
 use Rattle.std.specs.List.{AllByRecursion}
 use Rattle.nfc_base.specs.declared.event.Event.{Event}
 use Rattle.air_core.specs.Conversation.{replay}
 use Rattle.llcp_pdu.specs.Writing.{part_bytes}
 use Rattle.llcp_conn.specs.Conn.{ConnState}
-use Rattle.llcp_link.specs.State.{LlcState, Queued}
+use Rattle.llcp_link.specs.declared.own.OwnIs.{OwnIs}
+use Rattle.llcp_link.specs.declared.own.OwnIs.TheVariants.{Open}
+use Rattle.llcp_link.specs.State.{LlcState, OwnState, Queued}
 use Rattle.peer_air.specs.PeerFars.{peer_ends}
-use Rattle.link_numbers.specs.OwnShows.{IsWithin, Rested}
+use Rattle.link_numbers.specs.OwnShows.{Rested}
 use Rattle.bench_script.specs.declared.command.Command.{Command}
 use Rattle.bench_devices.specs.declared.device.Device.{Device}
 use Rattle.bench_devices.specs.Device.{device_end}
@@ -30,17 +32,28 @@ IsShort miu = miu ≤ 2176
 abbrev pub QueuedShort : Queued → Type 0
 QueuedShort q = length (part_bytes q.part) ≤ 2178
 
--- a connection on which nothing waits, and of which a unit goes into one
-abbrev pub ConnShort : ConnState → Type 0
-ConnShort c = (c.far_miu ≤ 2175) × (c.queue ≡ [])
+-- so does a unit
+abbrev pub UnitShort : List ℕ → Type 0
+UnitShort u = length u ≤ 2175
 
--- An end that asks for no connection itself, as that of a peer: it has no payload that is longer, whatever it takes and
--- gives.
+-- a connection of which each unit does: any that the other end takes, and those that wait
+abbrev pub ConnShort : ConnState → Type 0
+ConnShort c = (c.far_miu ≤ 2175) × AllByRecursion UnitShort c.queue
+
+-- one that this end asked for is such a one while it is open
+abbrev pub StandsShort : OwnIs → Type 0
+StandsShort (Open c) = ConnShort c
+StandsShort _ = Unit {0}
+
+abbrev pub OwnShort : OwnState → Type 0
+OwnShort o = StandsShort o.is
+
+-- An end that has no payload that is longer, whatever it takes and gives: all that waits there is short.
 pub record GivesShort {S : Type 0} (l : LlcState S) : Type 0 where
   pub miu : IsShort l.far_miu
   pub queue : AllByRecursion QueuedShort l.queue
   pub served : AllByRecursion ConnShort l.served
-  pub own : l.own ≡ []
+  pub own : AllByRecursion OwnShort l.own
 
 -- a device cuts its replies so; of a tag nothing is asked
 abbrev pub CutsReplies : Device → Type 0
@@ -54,7 +67,7 @@ pub record WorldCuts (w : WholeWorld) : Type 0 where
 -- and so does the initiator of a link, as it rests; its client has no payload that is too long
 pub record LinkCuts (l : OpenLink) : Type 0 where
   pub rests : Rested l.initiator.core
-  pub client : IsWithin l.client
+  pub client : GivesShort l.client
 
 pub record CutsWell (s : State) : Type 0 where
   pub world : WorldCuts s.world

@@ -47,3 +47,4 @@ pub mod Gains
 pub mod Alike
 pub mod Showing
 pub mod ShownForged
+pub mod Following

@@ -139,6 +139,15 @@ pub record ObeyedBy (joins : Joins) (old new : Machines) (c : Command) (answer :
 abbrev pub Obeyed : Machines → Machines → Command → Answer → Type 0
 Obeyed = ObeyedBy no_joins
 
+-- ... and its entry was made, of a line with this number: its events are taken out of the field
+pub record Makes (joins : Joins) (old new : Machines) (line : ℕ) (c : Command) (e : Entry) : Type 0 where
+  pub ran : Machines
+  pub obeyed : ObeyedBy joins old ran c e.answer
+  pub numbered : e.line ≡ line
+  pub asked : e.command ≡ c
+  pub happened : e.events ≡ ran.air.trace
+  pub left : new ≡ untraced ran
+
 -- It was cut off by want of memory.
 abbrev pub IsCutOffBy : Joins → Machines → Machines → Command → Type 0
 IsCutOffBy joins old new c = CutOff joins (state_at old) c new.air.trace (state_at new)

@@ -1,25 +1,16 @@
 -- Numbers of PDUs that events show are as good as the true ones, for one step of a bench, whatever stands behind these
 -- events: ends may join PDUs as they like (NFC Forum LLCP 1.3); that numbers are read off a trace is this project's own.
-use Rattle.std.specs.Prelude.{◌≡◌, ℕ, ◌≤◌, List, [], ◌∷◌, ◌++◌, length, Option, Some, None}
-use Rattle.nfc_base.specs.Choosing.{first_number}
-use Rattle.nfc_base.specs.Signal.{Signal}
+use Rattle.std.specs.Prelude.{◌≡◌, ℕ, List, [], ◌++◌, Option, Some, None}
 use Rattle.nfc_base.specs.Trace.{back_of}
 use Rattle.nfc_base.specs.Trace as backs
 use Rattle.nfc_base.specs.declared.event.Event.{Event}
-use Rattle.nfc_base.specs.declared.event.Event.TheVariants.{Request}
-use Rattle.nfc_base.specs.declared.event.Fate.{Fate}
-use Rattle.dep_link.specs.Sizes.{limit}
-use Rattle.snep_core.specs.Talk.{payload}
-use Rattle.link_calls.specs.Asking.{LinkAsking, Does, Closes}
-use Rattle.link_calls.specs.CallDue.{CallStanding, Carries, Comes, BrokenBy, Strays}
-use Rattle.link_calls.specs.ClosingDue.{ClosingStanding, Calls, Releasing, Released}
+use Rattle.link_calls.specs.Asking.{LinkAsking}
 use Rattle.link_numbers.specs.Shown.{far_shown, own_shown}
 use Rattle.bench_script.specs.declared.command.Command.{Command}
 use Rattle.bench_script.specs.declared.command.Command.TheVariants.{Forge, Raw}
 use Rattle.bench_devices.specs.AnyFrame.{peers_in}
 use Rattle.bench_world.specs.declared.entry.Entry.{Entry}
 use Rattle.bench_world.specs.Asked.{asked_on_link}
-use Rattle.bench_world.specs.Calls.{stands_closing, stands_on}
 use Rattle.bench_world.specs.Legal.{Given, Joins, LegalStep, State, joins_for}
 use Rattle.bench_world.specs.Links.{OpenLink}
 use Rattle.bench_world.specs.Obeying.{IsSettled, Machines, state_at}
@@ -69,40 +60,13 @@ abbrev pub MayShow : State → Command → Type 0
 MayShow s (Raw id frames) = peers_in s.world.field.listeners ≡ 0
 MayShow s c = Unit {0}
 
--- what a call carries, and a closing, is no longer than a payload may be
-abbrev pub CarriesShort : CallStanding → Type 0
-CarriesShort (Carries w s) = length (payload (first_number w.1) w.0) ≤ limit
-CarriesShort (Comes to i) = Unit {0}
-CarriesShort (BrokenBy cause) = Unit {0}
-CarriesShort Strays = Unit {0}
-
-abbrev pub ClosesShort : ClosingStanding → Type 0
-ClosesShort (Calls c) = CarriesShort c
-ClosesShort (Releasing to) = Unit {0}
-ClosesShort (Released to) = Unit {0}
-
-abbrev pub AskedShort : LinkAsking → OpenLink → List ℕ → List Event → Type 0
-AskedShort (Does call) l own before = CarriesShort (stands_on l own call before)
-AskedShort Closes l own before = ClosesShort (stands_closing l own before)
-
--- so it is before each request
-abbrev pub OwnShort : LinkAsking → OpenLink → List ℕ → List Event → Type 0
-OwnShort asked l own es =
-    (before : List Event) (f : Signal) (x : Fate) (rest : List Event)
-    → es ≡ before ++ Request f x ∷ rest → AskedShort asked l own before
-
--- In a step on the open link this end has no payload that is longer than one may be.
-abbrev pub PayloadsShort : State → Given → Command → List Event → Type 0
-PayloadsShort s g c es =
-    (l : OpenLink) (asked : LinkAsking) → s.link ≡ Some l → asked_on_link c ≡ Some asked → OwnShort asked l g.joins.own es
-
 -- Where a step of a command begins with these events, one by the numbers that they show, whatever stands behind them,
 -- begins with them too.
 abbrev pub NumbersShow : Type 0
 NumbersShow =
     (s t u : State) (g h : Given) (e f : Entry) (es rest more : List Event)
     → IsBetween s → MayShow s e.command
-    → LegalStep s g e t → PayloadsShort s g e.command e.events → e.events ≡ es ++ rest
+    → LegalStep s g e t → e.events ≡ es ++ rest
     → LegalStep s h f u → f.command ≡ e.command → h.joins ≡ shown_of s e.command (es ++ more)
     → BeginsSame es rest f.events
 
@@ -119,6 +83,5 @@ abbrev pub EntriesLeaveAlike : Type 0
 EntriesLeaveAlike =
     (s t u : State) (g h : Given) (e : Entry)
     → IsBetween s → MayShow s e.command
-    → LegalStep s g e t → PayloadsShort s g e.command e.events
-    → LegalStep s h e u → PayloadsShort s h e.command e.events
+    → LegalStep s g e t → LegalStep s h e u
     → Alike t u

@@ -1,10 +1,12 @@
 //! The bench: the field, and the journal of what was obeyed.
 
 ghost use Rattle.std.specs.Prelude.{◌≡◌, ◌≢◌, ◌↔◌, ◌≤◌, ◌<◌, ◌++◌, [], ◌∷◌, true, is_some, Some, None, IsTrue, option_map, option_copied, false, IfOk, IfSome, OnOk, OnErr, IsErrOf, vec_len, vec_capacity, length};
-ghost use Rattle.bench_world.specs.Legal.{Accepts, joins_for, memory_of};
+ghost use Rattle.bench_world.specs.Legal.{Accepts, Joins, joins_for, memory_of};
 ghost use Rattle.bench_devices.specs.Device.{most_devices};
 ghost use Rattle.bench_devices.specs.Placed.{device_with};
-ghost use Rattle.bench_world.specs.Obeying.{Obeys, Obeyed, ObeyedBy, IsSettled, IsCutOffBy, RefusedOnly, ObeyedBelow, RefusedBelow, LacksMemory, FieldOf, FarAt, begun_anew, new_bench, obey_fault_number};
+ghost use Rattle.bench_world.specs.Following.{Follows, LosesTrack, MayFollow, Records};
+ghost use Rattle.bench_world.specs.Showing.{MayShow, shown_of};
+ghost use Rattle.bench_world.specs.Obeying.{Obeys, Obeyed, ObeyedBy, Makes, state_at, IsSettled, IsCutOffBy, RefusedOnly, ObeyedBelow, RefusedBelow, LacksMemory, FieldOf, FarAt, begun_anew, new_bench, obey_fault_number};
 ghost use Rattle.bench_world.specs.Links.{OpenLink};
 ghost use Rattle.bench_devices.specs.Phases.{IsIdle};
 ghost use Rattle.bench_world.specs.Stories.{gained_on};
@@ -15,6 +17,7 @@ use crate::asking::{find, find_tags, read_tag, write_message};
 use crate::at_once::{on_get, on_put, puts};
 use crate::calling::{get, lookup, put, unlink};
 use crate::entry::{Answer, Entry};
+use crate::following::{Followed, compared, joins_shown, may_show};
 use crate::forging::forge;
 use crate::joins::Joins;
 use crate::linking::link;
@@ -403,6 +406,58 @@ fn run_command(
     }
 }
 
+/// Makes the entry of a command: does what it asks, and takes what happened out of the field.
+fn make_entry(
+    alloc: Global,
+    machines: &mut Machines,
+    line: u32,
+    command: &Command,
+    joins: Joins,
+) -> Result<Entry, ObeyFault>
+    requires idle { IsSettled machines.old }
+    requires asks { command.now ≢ Command.Skip }
+    ensures ok { IfOk result (λ e. Makes (joins_for command.now joins) machines.old machines.new line command.now e) }
+    ensures refused { IsErrOf result ObeyFault.Refused → (machines.new ≡ machines.old) }
+    ensures cause { RefusedOnly result machines.old command.now }
+    ensures cut { IsErrOf result ObeyFault.Memory → IsCutOffBy (joins_for command.now joins) machines.old machines.new command.now }
+{
+    let Ok(copy) = command.copy(alloc) else {
+        return Err(ObeyFault::Memory);
+    };
+    let answer = run_command(alloc, machines, command, joins)?;
+    Ok(Entry {
+        line,
+        command: copy,
+        events: Items::new(machines.take_trace()),
+        answer,
+    })
+}
+
+/// Makes the entry of a command by the numbers of PDUs that some events show.
+fn make_shown(
+    alloc: Global,
+    machines: &mut Machines,
+    line: u32,
+    command: &Command,
+    events: &[Event],
+) -> Result<Entry, ObeyFault>
+    requires idle { IsSettled machines.old }
+    requires asks { command.now ≢ Command.Skip }
+    ensures ok { IfOk result (λ e. Makes (shown_of (state_at machines.old) command.now events.now) machines.old machines.new line command.now e) }
+    ensures shows { IfOk result (λ _. MayShow (state_at machines.old) command.now) }
+    ensures refused { IsErrOf result ObeyFault.Refused → (machines.new ≡ machines.old) }
+    ensures cause { IsErrOf result ObeyFault.Refused → MayFollow (state_at machines.old) command.now → ⊥ }
+    ensures cut { IsErrOf result ObeyFault.Memory → (joins : Joins) × IsCutOffBy joins machines.old machines.new command.now }
+{
+    if !may_show(machines.devices(), command) {
+        return Err(ObeyFault::Refused);
+    }
+    let Ok(joins) = joins_shown(alloc, machines, command, events) else {
+        return Err(ObeyFault::Memory);
+    };
+    make_entry(alloc, machines, line, command, joins)
+}
+
 /// A run of a bench that is finished: the journal that it left.
 #[derive(Drop)]
 pub struct Run {
@@ -462,6 +517,16 @@ fn record_entry(journal: &mut Vec<Entry>, entry: Entry)
     ensures { journal.new.items ≡ journal.old.items ++ entry ∷ [] }
 {
     let _ = journal.push(entry);
+}
+
+/// Adds an entry that was made, where there is room and all events that were told are its own.
+fn record_followed(journal: &mut Vec<Entry>, entry: Entry, followed: Followed)
+    requires { vec_len journal.old < vec_capacity journal.old }
+    ensures { Records followed journal.old.items journal.new.items entry }
+{
+    if let Followed::Whole = followed {
+        record_entry(journal, entry);
+    }
 }
 
 /// Adds a finished run where there is room.
@@ -590,31 +655,60 @@ impl Bench {
         if let Command::Skip = command {
             return Ok(());
         }
-        let Ok(copy) = command.copy(self.alloc) else {
-            self.spoiled = true;
-            return Err(ObeyFault::Memory);
-        };
         if self.journal.reserve(1).is_err() {
             self.spoiled = true;
             return Err(ObeyFault::Memory);
         }
         let joins = Joins::most(self.alloc);
-        match run_command(self.alloc, &mut self.machines, command, joins) {
-            Ok(answer) => {
-                let events = Items::new(self.machines.take_trace());
-                record_entry(
-                    &mut self.journal,
-                    Entry {
-                        line,
-                        command: copy,
-                        events,
-                        answer,
-                    },
-                );
+        match make_entry(self.alloc, &mut self.machines, line, command, joins) {
+            Ok(entry) => {
+                record_entry(&mut self.journal, entry);
                 Ok(())
             }
             Err(ObeyFault::Refused) => Err(ObeyFault::Refused),
             Err(ObeyFault::Memory) => {
+                self.spoiled = true;
+                Err(ObeyFault::Memory)
+            }
+        }
+    }
+
+    /// Says how far some events may be those of a line's command, as another program or another day's run reported them: ends of
+    /// a link may join PDUs otherwise than `obey` has it. Where all of them may be, their entry is added. Else the bench goes on
+    /// behind an entry that begins with as many of them as any may, which isn't added. It needs the time of `obey` and one walk
+    /// over the events, and memory for the numbers of PDUs that they show beside that of `obey`. A `raw` isn't followed while a
+    /// peer is placed.
+    pub fn follow(
+        &mut self,
+        line: u32,
+        command: &Command,
+        events: &[Event],
+    ) -> Result<Followed, ObeyFault>
+        ensures ok { IfOk result (λ f. Follows f self.old self.new line command.now events.now) }
+        ensures refused { IsErrOf result ObeyFault.Refused → (self.new ≡ self.old) }
+        ensures cause { IsErrOf result ObeyFault.Refused → MayFollow self.old.state command.now → ⊥ }
+        ensures memory { IsErrOf result ObeyFault.Memory → LosesTrack self.old self.new command.now }
+        ensures spoiled { self.old.spoiled ≡ true → IsErrOf result ObeyFault.Memory }
+    {
+        if self.spoiled {
+            return Err(ObeyFault::Memory);
+        }
+        if let Command::Skip = command {
+            return Ok(compared(&[], events));
+        }
+        if self.journal.reserve(1).is_err() {
+            self.spoiled = true;
+            return Err(ObeyFault::Memory);
+        }
+        match make_shown(self.alloc, &mut self.machines, line, command, events) {
+            Ok(entry) => {
+                let followed = compared(entry.events.as_slice(), events);
+                record_followed(&mut self.journal, entry, followed);
+                Ok(followed)
+            }
+            Err(ObeyFault::Refused) => Err(ObeyFault::Refused),
+            Err(ObeyFault::Memory) => {
+                self.machines.take_trace();
                 self.spoiled = true;
                 Err(ObeyFault::Memory)
             }

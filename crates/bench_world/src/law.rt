@@ -141,8 +141,8 @@ pub fn links_accept()
     ensures stopped { CutArrivalLaw }
 {}
 
-/// Both ends of each link cut payloads into pieces of two bytes or more, and no reply of a peer is longer than 2,178
-/// bytes: so it is of a new bench, through each command, and in the midst of one, whatever happens in it.
+/// Both ends of each link cut payloads into pieces of two bytes or more, and neither has a payload that is longer than
+/// 2,178 bytes: so it is of a new bench, through each command, and in the midst of one, whatever happens in it.
 pub fn pieces_stay()
     ensures first { FirstCuts }
     ensures fronts { FrontsCut }

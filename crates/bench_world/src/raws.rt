@@ -35,7 +35,7 @@ const MOST_FRAMES: usize = 16;
 const LEAST_MIU: u16 = 128;
 
 /// How many peers are placed.
-fn count_peers(devices: &[Device]) -> usize
+pub(crate) fn count_peers(devices: &[Device]) -> usize
     ensures { result ≡ peers_in devices.now }
 {
     let mut count = 0;
