@@ -15,27 +15,27 @@ pub overflow_cast-events : goal.overflow_cast-events
 overflow_cast-events c =
     let read : AreRead c.args.line c.args.command.now c.args.walk.left.now c.as_slice-events.result.now c.in-Ok.read.left.now =
     subst (λ (es : List Event). AreRead c.args.line c.args.command.now c.args.walk.left.now es c.in-Ok.read.left.now) (sym c.as_slice-events.ensures.value) c.in-Ok.ensures in
-    let room = room_behind c.args.bench.now c.follow.new.bench c.args.line c.args.command.now c.args.walk.left.now c.as_slice-events.result.now c.in-Ok.read.left.now read (length c.as_slice-events.result.now) (omega arith) in
+    let room = room_behind c.args.bench.now c.follow.new.self c.args.line c.args.command.now c.args.walk.left.now c.as_slice-events.result.now c.in-Ok.read.left.now read (length c.as_slice-events.result.now) (omega arith) in
     omega (arith, room, c.requires.room)
 
 pub overflow_add-walk : goal.overflow_add-walk
 overflow_add-walk c =
     let read : AreRead c.args.line c.args.command.now c.args.walk.left.now c.as_slice-events.result.now c.in-Ok.read.left.now =
     subst (λ (es : List Event). AreRead c.args.line c.args.command.now c.args.walk.left.now es c.in-Ok.read.left.now) (sym c.as_slice-events.ensures.value) c.in-Ok.ensures in
-    let room = room_behind c.args.bench.now c.follow.new.bench c.args.line c.args.command.now c.args.walk.left.now c.as_slice-events.result.now c.in-Ok.read.left.now read (length c.as_slice-events.result.now) (omega arith) in
+    let room = room_behind c.args.bench.now c.follow.new.self c.args.line c.args.command.now c.args.walk.left.now c.as_slice-events.result.now c.in-Ok.read.left.now read (length c.as_slice-events.result.now) (omega arith) in
     omega (arith, room, c.requires.room)
 
 pub behind_events-requires : goal.behind_events-requires
 behind_events-requires c =
     let read : AreRead c.args.line c.args.command.now c.args.walk.left.now c.as_slice-events.result.now c.in-Ok.read.left.now =
     subst (λ (es : List Event). AreRead c.args.line c.args.command.now c.args.walk.left.now es c.in-Ok.read.left.now) (sym c.as_slice-events.ensures.value) c.in-Ok.ensures in
-    let room = room_behind c.args.bench.now c.follow.new.bench c.args.line c.args.command.now c.args.walk.left.now c.as_slice-events.result.now c.in-Ok.read.left.now read (length c.as_slice-events.result.now) (omega arith) in
+    let room = room_behind c.args.bench.now c.follow.new.self c.args.line c.args.command.now c.args.walk.left.now c.as_slice-events.result.now c.in-Ok.read.left.now read (length c.as_slice-events.result.now) (omega arith) in
     omega (arith, room, c.requires.room)
 
 pub returns-in-Whole-clause-ok : goal.returns-in-Whole-clause-ok
 returns-in-Whole-clause-ok c =
     let old : Benched = c.args.bench.now in
-    let new : Benched = c.follow.new.bench in
+    let new : Benched = c.follow.new.self in
     let events : List Event = c.as_slice-events.result.now in
     let behind : List ℕ = c.in-Ok.read.left.now in
     let read : AreRead c.args.line c.args.command.now c.args.walk.left.now c.as_slice-events.result.now c.in-Ok.read.left.now =
@@ -54,18 +54,18 @@ pub returns-in-Whole-clause-room : goal.returns-in-Whole-clause-room
 returns-in-Whole-clause-room c =
     let read : AreRead c.args.line c.args.command.now c.args.walk.left.now c.as_slice-events.result.now c.in-Ok.read.left.now =
     subst (λ (es : List Event). AreRead c.args.line c.args.command.now c.args.walk.left.now es c.in-Ok.read.left.now) (sym c.as_slice-events.ensures.value) c.in-Ok.ensures in
-    room_on c.args.bench.now c.follow.new.bench c.args.line c.args.command.now c.args.walk.left.now c.as_slice-events.result.now c.in-Ok.read.left.now read c.in-Some.entry.now c.args.walk.good c.behind_events.result c.behind_events.ensures
+    room_on c.args.bench.now c.follow.new.self c.args.line c.args.command.now c.args.walk.left.now c.as_slice-events.result.now c.in-Ok.read.left.now read c.in-Some.entry.now c.args.walk.good c.behind_events.result c.behind_events.ensures
 
 pub overflow_cast-result : goal.overflow_cast-result
 overflow_cast-result c =
     let read : AreRead c.args.line c.args.command.now c.args.walk.left.now c.as_slice-events.result.now c.in-Ok.read.left.now =
     subst (λ (es : List Event). AreRead c.args.line c.args.command.now c.args.walk.left.now es c.in-Ok.read.left.now) (sym c.as_slice-events.ensures.value) c.in-Ok.ensures in
     let events : List Event = c.as_slice-events.result.now in
-    let told : Follows (Front c.in-Front.good) c.args.bench.now c.follow.new.bench c.args.line c.args.command.now events =
-    subst (λ (f : Followed). Follows f c.args.bench.now c.follow.new.bench c.args.line c.args.command.now events) c.in-Front.is c.in_ok-follow.ensures.ok in
-    let follows : FollowsFront c.args.bench.now c.follow.new.bench c.args.line c.args.command.now events c.in-Front.good =
-    follows_one (Front c.in-Front.good) c.args.bench.now c.follow.new.bench c.args.line c.args.command.now events c.requires.asks told in
-    let room = room_behind c.args.bench.now c.follow.new.bench c.args.line c.args.command.now c.args.walk.left.now c.as_slice-events.result.now c.in-Ok.read.left.now read c.in-Front.good follows.within in
+    let told : Follows (Front c.in-Front.good) c.args.bench.now c.follow.new.self c.args.line c.args.command.now events =
+    subst (λ (f : Followed). Follows f c.args.bench.now c.follow.new.self c.args.line c.args.command.now events) c.in-Front.is c.in_ok-follow.ensures.ok in
+    let follows : FollowsFront c.args.bench.now c.follow.new.self c.args.line c.args.command.now events c.in-Front.good =
+    follows_one (Front c.in-Front.good) c.args.bench.now c.follow.new.self c.args.line c.args.command.now events c.requires.asks told in
+    let room = room_behind c.args.bench.now c.follow.new.self c.args.line c.args.command.now c.args.walk.left.now c.as_slice-events.result.now c.in-Ok.read.left.now read c.in-Front.good follows.within in
     omega (arith, room, c.requires.room)
 
 pub overflow_add-result : goal.overflow_add-result
@@ -73,11 +73,11 @@ overflow_add-result c =
     let read : AreRead c.args.line c.args.command.now c.args.walk.left.now c.as_slice-events.result.now c.in-Ok.read.left.now =
     subst (λ (es : List Event). AreRead c.args.line c.args.command.now c.args.walk.left.now es c.in-Ok.read.left.now) (sym c.as_slice-events.ensures.value) c.in-Ok.ensures in
     let events : List Event = c.as_slice-events.result.now in
-    let told : Follows (Front c.in-Front.good) c.args.bench.now c.follow.new.bench c.args.line c.args.command.now events =
-    subst (λ (f : Followed). Follows f c.args.bench.now c.follow.new.bench c.args.line c.args.command.now events) c.in-Front.is c.in_ok-follow.ensures.ok in
-    let follows : FollowsFront c.args.bench.now c.follow.new.bench c.args.line c.args.command.now events c.in-Front.good =
-    follows_one (Front c.in-Front.good) c.args.bench.now c.follow.new.bench c.args.line c.args.command.now events c.requires.asks told in
-    let room = room_behind c.args.bench.now c.follow.new.bench c.args.line c.args.command.now c.args.walk.left.now c.as_slice-events.result.now c.in-Ok.read.left.now read c.in-Front.good follows.within in
+    let told : Follows (Front c.in-Front.good) c.args.bench.now c.follow.new.self c.args.line c.args.command.now events =
+    subst (λ (f : Followed). Follows f c.args.bench.now c.follow.new.self c.args.line c.args.command.now events) c.in-Front.is c.in_ok-follow.ensures.ok in
+    let follows : FollowsFront c.args.bench.now c.follow.new.self c.args.line c.args.command.now events c.in-Front.good =
+    follows_one (Front c.in-Front.good) c.args.bench.now c.follow.new.self c.args.line c.args.command.now events c.requires.asks told in
+    let room = room_behind c.args.bench.now c.follow.new.self c.args.line c.args.command.now c.args.walk.left.now c.as_slice-events.result.now c.in-Ok.read.left.now read c.in-Front.good follows.within in
     omega (arith, room, c.requires.room)
 
 pub returns-clause-ok : goal.returns-clause-ok
@@ -85,20 +85,20 @@ returns-clause-ok c =
     let read : AreRead c.args.line c.args.command.now c.args.walk.left.now c.as_slice-events.result.now c.in-Ok.read.left.now =
     subst (λ (es : List Event). AreRead c.args.line c.args.command.now c.args.walk.left.now es c.in-Ok.read.left.now) (sym c.as_slice-events.ensures.value) c.in-Ok.ensures in
     let events : List Event = c.as_slice-events.result.now in
-    let told : Follows (Front c.in-Front.good) c.args.bench.now c.follow.new.bench c.args.line c.args.command.now events =
-    subst (λ (f : Followed). Follows f c.args.bench.now c.follow.new.bench c.args.line c.args.command.now events) c.in-Front.is c.in_ok-follow.ensures.ok in
-    let follows : FollowsFront c.args.bench.now c.follow.new.bench c.args.line c.args.command.now events c.in-Front.good =
-    follows_one (Front c.in-Front.good) c.args.bench.now c.follow.new.bench c.args.line c.args.command.now events c.requires.asks told in
-    record { lines = c.in-Front.good; good = refl; step = front_step c.args.bench.now c.follow.new.bench c.args.line c.args.command.now c.args.walk.left.now c.as_slice-events.result.now c.in-Ok.read.left.now read c.in-Front.good c.in-Ok.read.left.now follows }
+    let told : Follows (Front c.in-Front.good) c.args.bench.now c.follow.new.self c.args.line c.args.command.now events =
+    subst (λ (f : Followed). Follows f c.args.bench.now c.follow.new.self c.args.line c.args.command.now events) c.in-Front.is c.in_ok-follow.ensures.ok in
+    let follows : FollowsFront c.args.bench.now c.follow.new.self c.args.line c.args.command.now events c.in-Front.good =
+    follows_one (Front c.in-Front.good) c.args.bench.now c.follow.new.self c.args.line c.args.command.now events c.requires.asks told in
+    record { lines = c.in-Front.good; good = refl; step = front_step c.args.bench.now c.follow.new.self c.args.line c.args.command.now c.args.walk.left.now c.as_slice-events.result.now c.in-Ok.read.left.now read c.in-Front.good c.in-Ok.read.left.now follows }
 
 pub returns-clause-room : goal.returns-clause-room
 returns-clause-room c =
     let read : AreRead c.args.line c.args.command.now c.args.walk.left.now c.as_slice-events.result.now c.in-Ok.read.left.now =
     subst (λ (es : List Event). AreRead c.args.line c.args.command.now c.args.walk.left.now es c.in-Ok.read.left.now) (sym c.as_slice-events.ensures.value) c.in-Ok.ensures in
     let events : List Event = c.as_slice-events.result.now in
-    let told : Follows (Front c.in-Front.good) c.args.bench.now c.follow.new.bench c.args.line c.args.command.now events =
-    subst (λ (f : Followed). Follows f c.args.bench.now c.follow.new.bench c.args.line c.args.command.now events) c.in-Front.is c.in_ok-follow.ensures.ok in
-    let follows : FollowsFront c.args.bench.now c.follow.new.bench c.args.line c.args.command.now events c.in-Front.good =
-    follows_one (Front c.in-Front.good) c.args.bench.now c.follow.new.bench c.args.line c.args.command.now events c.requires.asks told in
-    let room = room_behind c.args.bench.now c.follow.new.bench c.args.line c.args.command.now c.args.walk.left.now c.as_slice-events.result.now c.in-Ok.read.left.now read c.in-Front.good follows.within in
+    let told : Follows (Front c.in-Front.good) c.args.bench.now c.follow.new.self c.args.line c.args.command.now events =
+    subst (λ (f : Followed). Follows f c.args.bench.now c.follow.new.self c.args.line c.args.command.now events) c.in-Front.is c.in_ok-follow.ensures.ok in
+    let follows : FollowsFront c.args.bench.now c.follow.new.self c.args.line c.args.command.now events c.in-Front.good =
+    follows_one (Front c.in-Front.good) c.args.bench.now c.follow.new.self c.args.line c.args.command.now events c.requires.asks told in
+    let room = room_behind c.args.bench.now c.follow.new.self c.args.line c.args.command.now c.args.walk.left.now c.as_slice-events.result.now c.in-Ok.read.left.now read c.in-Front.good follows.within in
     omega (arith, room)
