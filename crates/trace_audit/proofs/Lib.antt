@@ -31,3 +31,5 @@ pub mod TechLinks
 pub mod TechNames
 pub mod TechSteps
 pub mod TechJournals
+pub mod Pieces
+pub mod Steps

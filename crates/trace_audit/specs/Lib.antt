@@ -5,4 +5,5 @@ pub mod Reading
 pub mod Cutting
 pub mod Finding
 pub mod ReadEvents
+pub mod Stepping
 pub mod Technologies
