@@ -1,9 +1,7 @@
 -- The first line of a text, and the event that it says.
-use Rattle.std.proofs.Common.{◌≡◌, ◌≢◌, ℕ, suc, ◌+◌, ◌<◌, ◌^◌, List, [], ◌∷◌, ◌++◌, length, append_assoc, append-nil, take, drop, refl, sym, ◌∙◌, ap, subst, arith}
-use Rattle.std.specs.Prelude.{codes}
+use Rattle.std.proofs.Common.{◌≡◌, ◌≢◌, ℕ, ◌+◌, ◌<◌, ◌^◌, List, [], ◌∷◌, ◌++◌, length, append_assoc, take, refl, sym, ◌∙◌, ap, arith}
 use Rattle.std.specs.List.{All}
 use Rattle.std.specs.Fmt.{decimal}
-use Rattle.std.proofs.lemmas.List.{take-append-drop}
 use Rattle.std.proofs.lemmas.List.Elements.{All-cons, All-nil, All-append}
 use Rattle.std.proofs.Math.Seq.{take-append-add}
 use Rattle.nfc_base.specs.Signal.{Signal, signal, IsSignal}
@@ -17,8 +15,8 @@ use Rattle.bench_script.specs.Canonical.{frame_text}
 use Rattle.bench_script.proofs.Frames.{cut}
 use Rattle.bench_world.specs.Report.{fate_text, sent_text, event_text, line_text}
 use Rattle.bench_world.specs.ReadBack.{IsOf}
-use Rattle.trace_audit.specs.Reading.{HaveTech, AreOnAir}
-use Rattle.trace_audit.specs.ReadEvents.{IsNext, IsInFront}
+use Rattle.trace_audit.specs.Reading.{AreOnAir}
+use Rattle.trace_audit.specs.ReadEvents.{IsNext}
 use Rattle.trace_audit.proofs.Finding.{decimal_without, frame_without}
 
 -- a line up to its LF, and what stands behind

@@ -1,4 +1,4 @@
-use Rattle.std.proofs.Common.{◌≡◌, ◌++◌, ◌+◌, ℕ, List, drop, length, sym, ◌∙◌, ap}
+use Rattle.std.proofs.Common.{◌++◌, ◌+◌, ℕ, drop, length, sym, ◌∙◌, ap}
 use Rattle.std.proofs.lemmas.List.{take-append-drop}
 use Rattle.trace_audit.proofs.FrontLines.{line_cut}
 use Rattle.trace_audit.proofs.cutting.first_line.Goals as goal

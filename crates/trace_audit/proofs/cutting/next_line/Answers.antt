@@ -1,4 +1,4 @@
-use Rattle.std.proofs.Common.{◌≡◌, ◌<◌, length, ap, arith}
+use Rattle.std.proofs.Common.{◌<◌, length, ap, arith}
 use Rattle.std.proofs.lemmas.Grind.{common_steps}
 use Rattle.trace_audit.proofs.ScriptLines.{line_front, front_shorter, line_last}
 use Rattle.trace_audit.proofs.cutting.next_line.Goals as goal

@@ -1,4 +1,4 @@
-use Rattle.std.proofs.Common.{◌≡◌, List, ℕ, sym, subst, Option}
+use Rattle.std.proofs.Common.{List, ℕ, sym, subst, Option}
 use Rattle.std.specs.Prelude.{MatchOption}
 use Rattle.std.specs.Borrow.{Bor}
 use Rattle.nfc_base.specs.declared.event.Event.{Event}

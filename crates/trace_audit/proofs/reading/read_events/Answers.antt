@@ -1,4 +1,4 @@
-use Rattle.std.proofs.Common.{◌≡◌, ◌++◌, [], ◌∷◌, List, ℕ, sym, subst, append-nil}
+use Rattle.std.proofs.Common.{[], ◌∷◌, List, subst, append-nil}
 use Rattle.nfc_base.specs.declared.event.Event.{Event}
 use Rattle.nfc_base.specs.declared.frame.Tech.TheVariants.{A}
 use Rattle.trace_audit.specs.Reading.{HaveTech, AreOnAir}

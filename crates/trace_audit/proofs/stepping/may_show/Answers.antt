@@ -1,4 +1,4 @@
-use Rattle.std.proofs.Common.{◌≡◌, ◌↔◌, IsTrue, true, sym, ◌∙◌, ap, subst}
+use Rattle.std.proofs.Common.{◌↔◌, IsTrue, sym, ◌∙◌, subst}
 use Rattle.bench_script.specs.declared.command.Command.{Command}
 use Rattle.bench_world.specs.Following.{MayShowAmong}
 use Rattle.trace_audit.proofs.AllTags.{all_tags}
