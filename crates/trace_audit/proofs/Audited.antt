@@ -1,5 +1,5 @@
 -- Which lines are audited is decided by the lines alone: one more line is where it is in the state that those before it lead to.
-use Rattle.std.proofs.Common.{◌≡◌, ℕ, ◌+◌, List, [], ◌∷◌, ◌++◌, length, refl, sym, ◌∙◌, ap, subst}
+use Rattle.std.proofs.Common.{◌≡◌, ℕ, ◌+◌, List, [], ◌∷◌, ◌++◌, length, refl, sym, ◌∙◌, subst}
 use Rattle.bench_script.specs.declared.command.Command.{Command}
 use Rattle.bench_script.specs.declared.command.Command.TheVariants.{Raw}
 use Rattle.bench_script.specs.Script.{Spells}
@@ -10,7 +10,7 @@ use Rattle.bench_world.specs.Following.{MayFollow}
 use Rattle.bench_world.specs.Journal.{LeadsTo}
 use Rattle.bench_world.specs.Legal.{Accepts, Joins, State, changed, first_state}
 use Rattle.bench_world.specs.Showing.{MayShow}
-use Rattle.bench_world.specs.Taking.{AreAccepted, AreSpelled, AreTaken, standing_from, standing_of}
+use Rattle.bench_world.specs.Taking.{AreAccepted, AreSpelled, standing_from, standing_of}
 use Rattle.trace_audit.specs.Auditing.{AllShow, AreAudited, IsAudited, IsUnauditedAt}
 use Rattle.trace_audit.proofs.Standing.{StandsAlike, stands_alike}
 

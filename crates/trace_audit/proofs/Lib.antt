@@ -9,10 +9,13 @@ pub mod TellsJournal
 pub mod Standing
 pub mod Audited
 pub mod Stopping
-pub mod Walking
+pub mod Walked
 pub mod NoneGoOn
-pub mod Straying
+pub mod Strayed
 pub mod Settled
+pub mod LineSteps
+pub mod Judged
+pub mod LastEntry
 pub mod Finding
 pub mod FrontLines
 pub mod ScriptLines

@@ -1,7 +1,6 @@
 -- What an audit says is settled by the lines and the report.
-use Rattle.std.proofs.Common.{◌≡◌, ℕ, ◌+◌, ◌<◌, ◌≤◌, ◌⊎◌, inl, inr, min, List, [], ◌∷◌, ◌++◌, append_assoc, drop, length, take, take-append-drop, refl, sym, ◌∙◌, ap, subst, arith}
+use Rattle.std.proofs.Common.{◌≡◌, ℕ, ◌+◌, ◌<◌, ◌≤◌, inl, inr, List, [], ◌∷◌, ◌++◌, append_assoc, drop, length, take, take-append-drop, sym, ◌∙◌, ap, subst, arith}
 use Rattle.std.proofs.lemmas.Bool.{cases_lt}
-use Rattle.std.proofs.lemmas.List.{length-append}
 use Rattle.std.proofs.Math.Seq.{take-take}
 use Rattle.nfc_io.specs.Lines.{joined, whole_lines}
 use Rattle.bench_script.specs.declared.command.Command.{Command}
@@ -15,8 +14,7 @@ use Rattle.trace_audit.proofs.ReportLines.{joined_append}
 fewer_first : (k m : ℕ) (text : List ℕ) → k ≤ m → IsFrontOf (first_lines k text) (first_lines m text)
 fewer_first k m text less =
     let ws : List (List ℕ) = whole_lines text in
-    let first : take k (take m ws) ≡ take k ws = take-take k m ws less in
-    (
+    let first : take k (take m ws) ≡ take k ws = take-take k m ws less in (
       joined (drop k (take m ws)),
       ap joined (sym (take-append-drop k (take m ws)) ∙ ap (λ x. x ++ drop k (take m ws)) first) ∙ joined_append (take k ws) (drop k (take m ws)),
     )
@@ -41,9 +39,9 @@ one_fault = λ lines report n m p q.
     elim (cases_lt p.good q.good) [
       | inl less ↦ absurd (no_earlier lines report n m p q less)
       | inr most ↦ elim (cases_lt q.good p.good) [
-          | inl less ↦ absurd (no_earlier lines report m n q p less)
-          | inr also ↦ omega (arith, p.next, q.next, most, also)
-        ]
+        | inl less ↦ absurd (no_earlier lines report m n q p less)
+        | inr also ↦ omega (arith, p.next, q.next, most, also)
+      ]
     ]
 
 -- a line among audited ones is audited behind those before it
@@ -93,7 +91,7 @@ one_unaudited = λ lines n m u v.
     elim (cases_lt (length u.before) (length v.before)) [
       | inl less ↦ absurd (no_line_before lines n m u v less)
       | inr most ↦ elim (cases_lt (length v.before) (length u.before)) [
-          | inl less ↦ absurd (no_line_before lines m n v u less)
-          | inr also ↦ omega (arith, u.number, v.number, most, also)
-        ]
+        | inl less ↦ absurd (no_line_before lines m n v u less)
+        | inr also ↦ omega (arith, u.number, v.number, most, also)
+      ]
     ]

@@ -47,8 +47,8 @@ stops_here lines ls left clean none = record {
         let rest : List ℕ = goes.begins.0 in
         let more : List ℕ = m.line ++ 10 ∷ rest in
         let is : goes.text ≡ joined ls ++ more =
-            goes.begins.1 ∙ ap (λ x. x ++ rest) m.first ∙ append_assoc (joined ls) (m.line ++ 10 ∷ []) rest
-            ∙ ap (λ x. joined ls ++ x) (append_assoc m.line (10 ∷ []) rest) in
+        goes.begins.1 ∙ ap (λ x. x ++ rest) m.first ∙ append_assoc (joined ls) (m.line ++ 10 ∷ []) rest
+        ∙ ap (λ x. joined ls ++ x) (append_assoc m.line (10 ∷ []) rest) in
         none goes.text more goes.good is (agrees_line more left m.line rest m.rest m.clean refl m.is)
 
 pub stops_at : (lines : List (List ℕ)) (report : List ℕ) (ls : List (List ℕ)) (left : List ℕ) → AllByRecursion NoLf ls → report ≡ joined ls ++ left → NoneGoesOn lines ls left

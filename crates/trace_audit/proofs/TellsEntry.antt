@@ -1,6 +1,6 @@
 -- What a report's text tells of an entry: from alike states, entries of one line and command that have one text are the same, and
 -- leave alike states.
-use Rattle.std.proofs.Common.{◌≡◌, ℕ, ◌<◌, ◌^◌, List, [], ◌∷◌, ◌++◌, append_assoc, append-nil, false, refl, sym, ◌∙◌, ap, subst}
+use Rattle.std.proofs.Common.{◌≡◌, ℕ, ◌<◌, ◌^◌, List, [], ◌∷◌, ◌++◌, append_assoc, append-nil, false, sym, ◌∙◌, ap, subst}
 use Rattle.std.proofs.lemmas.List.{append_cancel_left}
 use Rattle.nfc_base.specs.declared.frame.Tech.TheVariants.{A}
 use Rattle.nfc_base.specs.declared.event.Event.{Event}
@@ -9,7 +9,7 @@ use Rattle.bench_world.specs.declared.entry.Answer.{Answer as Said}
 use Rattle.bench_world.specs.declared.entry.Entry.{Entry}
 use Rattle.bench_world.specs.Alike.{Alike, IsToldSame}
 use Rattle.bench_world.specs.Legal.{Given, LegalStep, State}
-use Rattle.bench_world.specs.Report.{answer_text, entry_text, event_text, events_text, line_text}
+use Rattle.bench_world.specs.Report.{answer_text, entry_text, events_text, line_text}
 use Rattle.bench_world.specs.Showing.{IsBetween, MayShow}
 use Rattle.trace_audit.specs.Reading.{AreOnAir, HaveTech}
 use Rattle.trace_audit.proofs.Laws.{alike_answers, alike_back, alike_on, alike_steps, entries_leave_alike, events_tell}
@@ -84,7 +84,7 @@ pub tells_entry : (n : ℕ) (s t r u : State) (g h : Given) (e f : Entry) (zs mo
 tells_entry n s t r u g h e f zs more small alike between shows step other first second command p q air air_by text =
     let q_by : HaveTech e.command A f.events = subst (λ c. HaveTech c A f.events) command q in
     let is : SameEvents n e.events f.events e.answer f.answer zs more =
-        tells_all e.command n e.events f.events e.answer f.answer zs more small p q_by air air_by (sym (entry_first n f more second) ∙ text ∙ entry_first n e zs first) in
+    tells_all e.command n e.events f.events e.answer f.answer zs more small p q_by air air_by (sym (entry_first n f more second) ∙ text ∙ entry_first n e zs first) in
     let answer : e.answer ≡ f.answer = same_answer s t r u g h e f alike between shows step other command is.events in
     let both : SameEntry t u e f = same_step s t r u g h e f alike between shows step other command is.events (second ∙ sym first) in
     let line : List ℕ = line_text n (answer_text f.answer) in

@@ -132,6 +132,12 @@ air_behind (Request f x) es air = air.1
 air_behind (Answer f x) es air = air.1
 air_behind (Clash f x) es air = air.1
 
+pub air_before : (x : Event) (es : List Event) → AreOnAir (x ∷ []) → AreOnAir es → AreOnAir (x ∷ es)
+air_before Reset es one air = air
+air_before (Request f x) es one air = (one.0, air)
+air_before (Answer f x) es one air = (one.0, air)
+air_before (Clash f x) es one air = (one.0, air)
+
 -- the first of some events have the technologies too, and the air
 pub tech_front : (c : Command) (t : Tech) (xs ys : List Event) → HaveTech c t (xs ++ ys) → HaveTech c t xs
 tech_front c t [] ys p = tt
@@ -176,7 +182,7 @@ tells_events c n last (x ∷ es) [] a left more small p q air air_by e =
 tells_events c n last (x ∷ es) (y ∷ fs) a left more small p q air air_by e =
     let rest : List ℕ = line_text n (answer_text a) ++ more in
     let both = one_line (said n (event_text x)) (said n (event_text y)) (events_text n es ++ left) (events_text n fs ++ rest) (event_clean n x) (event_clean n y)
-        (sym (event_first n x es left) ∙ sym e ∙ event_first n y fs rest) in
+    (sym (event_first n x es left) ∙ sym e ∙ event_first n y fs rest) in
     let is : SameEvent c x y es fs = same_event c n last x y es fs small p q air air_by (ap (λ l. l ++ 10 ∷ []) both.0) in
     let on : GoesOn n es fs left rest = tells_events c n is.tech es fs a left more small is.one is.other (air_behind x es air) (air_behind y fs air_by) (sym both.1) in
     record { behind = on.behind; events = ap (λ z. z ∷ fs) (sym is.same) ∙ ap (λ zs. x ∷ zs) on.events; text = on.text }

@@ -62,7 +62,7 @@ tells_journal (l ∷ ls) more s t r u [] hs (j ∷ js) (k ∷ ks) zs small p q s
 tells_journal (l ∷ ls) more s t r u (g ∷ gs) [] (j ∷ js) (k ∷ ks) zs small p q steps other alike air tech air_by tech_by text = absurd other
 tells_journal (l ∷ ls) more s t r u (g ∷ gs) (h ∷ hs) (j ∷ js) (k ∷ ks) zs small p q steps other alike air tech air_by tech_by text =
     let is : TellsEntry steps.0 other.0 j k (report_text false js ++ zs) (report_text false ks) =
-        tells_entry l.number s steps.0 r other.0 g h j k (report_text false js ++ zs) (report_text false ks) small.0 alike steps.1 steps.2 steps.3 other.1 p.0 q.0
-        (spells_one l.text k.command j.command q.1 p.1) tech.0 tech_by.0 air.0 air_by.0 (text ∙ append_assoc (entry_text false j) (report_text false js) zs) in
+    tells_entry l.number s steps.0 r other.0 g h j k (report_text false js ++ zs) (report_text false ks) small.0 alike steps.1 steps.2 steps.3 other.1 p.0 q.0
+    (spells_one l.text k.command j.command q.1 p.1) tech.0 tech_by.0 air.0 air_by.0 (text ∙ append_assoc (entry_text false j) (report_text false js) zs) in
     rest_on more t u j k js ks zs is.same
     (tells_journal ls more steps.0 t other.0 u gs hs js ks zs small.1 p.2 q.2 steps.4 other.2 is.alike air.1 tech.1 air_by.1 tech_by.1 is.rest)

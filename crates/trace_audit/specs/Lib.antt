@@ -1,4 +1,6 @@
 pub mod Auditing
+pub mod Judging
+pub mod Making
 pub mod Reading
 pub mod Cutting
 pub mod Finding

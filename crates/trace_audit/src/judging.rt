@@ -1,8 +1,11 @@
 //! The walk over a script and its report.
 
-ghost use Rattle.std.specs.Prelude.{◌≡◌, ◌+◌, ◌-◌, ◌≤◌, ◌<◌, ◌^◌, List, ℕ, IfOk, IfErr, length};
+ghost use Rattle.std.specs.Prelude.{◌≡◌, ◌+◌, ◌-◌, ◌≤◌, ◌<◌, ◌^◌, List, ℕ, IfOk, IfErr, OnOk, length};
 ghost use Rattle.bench_world.specs.Obeying.{new_bench};
 ghost use Rattle.nfc_io.specs.Lines.{lines_of};
+ghost use Rattle.bench_world.specs.Showing.{IsBetween};
+ghost use Rattle.trace_audit.specs.Judging.{JudgedAt, Judges, RefusedAt, Refuses};
+ghost use Rattle.trace_audit.specs.Making.{MakesOnAir};
 ghost use Rattle.trace_audit.specs.Stepping.{AuditsLine, Shrinks};
 
 use crate::cutting::next_line;
@@ -39,6 +42,8 @@ pub fn audit(
     requires new { bench.old ≡ new_bench }
     requires script { length script.now < 2 ^ 32 }
     requires report { length report.now < 2 ^ 32 - 1 }
+    ensures ok { IfOk result (Judges (lines_of script.now) report.now bench.new) }
+    ensures err { IfErr result (Refuses (lines_of script.now)) }
 {
     let mut walk = Walk {
         left: report,
@@ -58,6 +63,7 @@ pub fn audit(
 /// Where a walk is at the end of the script, the report has to be too.
 fn judge(walk: Walk) -> Verdict
     requires { walk.good + length walk.left.now < 2 ^ 32 - 1 }
+    ensures { JudgedAt walk.entry result }
 {
     if walk.strayed || !walk.left.is_empty() {
         Verdict::Faulty {
@@ -79,6 +85,9 @@ fn audit_line<'a>(
     requires { walk.good + length walk.left.now < 2 ^ 32 }
     ensures ok { IfOk result (λ w. AuditsLine bench.old bench.new line text.now walk.entry w) }
     ensures room { IfOk result (λ w. Shrinks walk.entry w) }
+    ensures between { OnOk result (IsBetween bench.old.state) }
+    ensures makes { OnOk result (MakesOnAir bench.old bench.new line) }
+    ensures err { IfErr result (λ fault. RefusedAt bench.old.state line text.now fault) }
 {
     let command = match parse_line(alloc, text) {
         Ok(command) => command,

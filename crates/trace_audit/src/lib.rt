@@ -11,11 +11,13 @@ mod cutting;
 mod event_texts;
 mod judging;
 mod law;
+mod on_air;
 mod reading;
 mod stepping;
 mod verdicts;
 
 pub use judging::{AuditFault, Verdict, audit};
 pub use law::technologies_told;
+pub use on_air::{see_last, see_on_air};
 pub use reading::{Read, read_event, read_events};
 pub use verdicts::verdicts_settled;

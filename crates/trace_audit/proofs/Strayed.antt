@@ -1,6 +1,6 @@
 -- Where an audit stands behind the first fault of a report: some journal of the lines that are done has a text that begins with the
 -- report's good lines, and no good text goes on as the report does. Each line that is audited takes it on.
-use Rattle.std.proofs.Common.{◌≡◌, ℕ, suc, ◌+◌, ◌<◌, ◌≤◌, ◌^◌, List, [], ◌∷◌, ◌++◌, append_assoc, append-nil, ◌⊎◌, inl, inr, drop, length, take, take_all, take-append-drop, false, refl, sym, ◌∙◌, ap, subst, arith}
+use Rattle.std.proofs.Common.{◌≡◌, ℕ, ◌+◌, ◌<◌, ◌≤◌, ◌^◌, List, [], ◌∷◌, ◌++◌, append_assoc, append-nil, ◌⊎◌, inl, inr, drop, length, take, take_all, take-append-drop, false, refl, sym, ◌∙◌, ap, subst, arith}
 use Rattle.std.specs.List.{AllByRecursion}
 use Rattle.std.proofs.lemmas.Bool.{cases_lt}
 use Rattle.std.proofs.lemmas.List.{drop_all, length-append, length-map, length-take-le}
@@ -13,12 +13,12 @@ use Rattle.bench_script.specs.declared.command.Command.TheVariants.{Skip}
 use Rattle.bench_script.specs.Script.{Spells}
 use Rattle.bench_world.specs.declared.entry.Entry.{Entry}
 use Rattle.bench_world.specs.Following.{FollowsAll, FollowsFront}
-use Rattle.bench_world.specs.Journal.{AreEntriesOf, LeadsTo, asking_lines}
-use Rattle.bench_world.specs.Legal.{Accepts, EachLegal, Given, LegalStep, State, first_state}
+use Rattle.bench_world.specs.Journal.{AreEntriesOf, asking_lines}
+use Rattle.bench_world.specs.Legal.{Accepts, EachLegal, Given, LegalStep, first_state}
 use Rattle.bench_world.specs.Obeying.{Adds, Benched}
 use Rattle.bench_world.specs.Report.{answer_text, entry_text, event_text, events_text, line_text, report_text}
 use Rattle.bench_world.specs.Showing.{IsBetween, MayShow}
-use Rattle.trace_audit.specs.Auditing.{AreAudited, BeginsGood, IsAudited, IsFaultyAt, IsFrontOf, IsOnAir, IsUnauditedAt, first_lines}
+use Rattle.trace_audit.specs.Auditing.{AreAudited, IsAudited, IsFaultyAt, IsFrontOf, IsOnAir, IsUnauditedAt, first_lines}
 use Rattle.trace_audit.specs.ReadEvents.{AreRead}
 use Rattle.trace_audit.specs.Reading.{AreOnAir}
 use Rattle.trace_audit.proofs.Audited.{audited_more, unaudited}
@@ -27,7 +27,7 @@ use Rattle.trace_audit.proofs.FirstLines.{first_joined}
 use Rattle.trace_audit.proofs.NoneGoOn.{none_answers, none_early, none_late, none_surplus, so_far, so_far_clean, so_far_joined}
 use Rattle.trace_audit.proofs.ReportLines.{event_lines, report_clean, report_joined, report_lines}
 use Rattle.trace_audit.proofs.Stopping.{NoneGoesOn, Stops, faulty_at, stops_at}
-use Rattle.trace_audit.proofs.Walking.{Walked, leads_to, numbers_of, text_more, walked_leads}
+use Rattle.trace_audit.proofs.Walked.{Walked, leads_to, numbers_of, text_more, walked_leads}
 
 pub record Strayed (lines done : List (List ℕ)) (bench : Benched) (report : List ℕ) (fault : ℕ) : Type 0 where
   pub sound : bench.spoiled ≡ false
@@ -80,49 +80,49 @@ entry_so_far : (js : List Entry) (n : ℕ) (es behind : List Event) (e : Entry) 
 entry_so_far js n es behind e numbered is =
     let last : List ℕ = line_text n (answer_text e.answer) in
     let parts : entry_text false e ≡ events_text n es ++ (events_text n behind ++ last) =
-        ap (λ k. events_text k e.events ++ line_text k (answer_text e.answer)) numbered ∙ ap (λ x. events_text n x ++ last) is
-        ∙ ap (λ x. x ++ last) (flat_map-append (λ x. line_text n (event_text x)) es behind) ∙ append_assoc (events_text n es) (events_text n behind) last in
+    ap (λ k. events_text k e.events ++ line_text k (answer_text e.answer)) numbered ∙ ap (λ x. events_text n x ++ last) is
+    ∙ ap (λ x. x ++ last) (flat_map-append (λ x. line_text n (event_text x)) es behind) ∙ append_assoc (events_text n es) (events_text n behind) last in
     ap (λ x. report_text false js ++ x) parts ∙ sym (append_assoc (report_text false js) (events_text n es) (events_text n behind ++ last))
     ∙ ap (λ x. x ++ (events_text n behind ++ last)) (sym (so_far_joined js n es))
 
 module _ (done : List (List ℕ)) (line : List ℕ) (after : List (List ℕ)) (bench new : Benched) (report : List ℕ) (at : ℕ) (left : List ℕ) (n : ℕ) (c : Command) (events : List Event) (behind : List ℕ)
     (number : n ≡ length done + 1) (w : Walked done bench report at left) (few : length (done ++ line ∷ after) < 2 ^ 32) (spelled : Spells line c) (other : c ≡ Skip → ⊥)
     (reads : AreRead n c left events behind) where
-  abbrev lines : List (List ℕ)
-  lines = done ++ line ∷ after
+  abbrev all_lines : List (List ℕ)
+  all_lines = done ++ line ∷ after
 
   -- A line of which the first so many of the events that were read are good.
-  pub walk_strays : (good : ℕ) (strays : FollowsFront bench new n c events good) → AreOnAir strays.made.events → Strayed lines (done ++ line ∷ []) new report (at + good + 1)
+  pub walk_strays : (good : ℕ) (strays : FollowsFront bench new n c events good) → AreOnAir strays.made.events → Strayed all_lines (done ++ line ∷ []) new report (at + good + 1)
   walk_strays good strays air =
       let es : List Event = take good events in
       let here : List ℕ = events_text n (drop good events) ++ behind in
       let ls : List (List ℕ) = so_far bench.journal n es in
       let parts : events_text n events ≡ events_text n es ++ events_text n (drop good events) =
-          ap (events_text n) (sym (take-append-drop good events)) ∙ flat_map-append (λ x. line_text n (event_text x)) es (drop good events) in
+      ap (events_text n) (sym (take-append-drop good events)) ∙ flat_map-append (λ x. line_text n (event_text x)) es (drop good events) in
       let is : report ≡ joined ls ++ here =
-          report_so_far bench.journal n es report left here w.read (reads.split ∙ ap (λ x. x ++ behind) parts ∙ append_assoc (events_text n es) (events_text n (drop good events)) behind) in
+      report_so_far bench.journal n es report left here w.read (reads.split ∙ ap (λ x. x ++ behind) parts ∙ append_assoc (events_text n es) (events_text n (drop good events)) behind) in
       let count : at + good ≡ length ls = omega (arith, w.count, count_so_far bench.journal n es, length-take-le good events strays.within) in
       stray_by done line after bench new report at left n c number w spelled other strays.made strays.given
       (subst (LegalStep bench.state strays.given strays.made) (ap (λ (b : Benched). b.state) (sym strays.is)) strays.legal) strays.numbered strays.asked strays.shows air
       (ap (λ (b : Benched). b.spoiled) strays.is ∙ w.sound) ls here (events_text n strays.behind ++ line_text n (answer_text strays.made.answer)) (so_far_clean bench.journal n es) is
-      (entry_so_far bench.journal n es strays.behind strays.made strays.numbered strays.begins) (stops_at lines report ls here (so_far_clean bench.journal n es) is (none good strays))
+      (entry_so_far bench.journal n es strays.behind strays.made strays.numbered strays.begins) (stops_at all_lines report ls here (so_far_clean bench.journal n es) is (none good strays))
       (at + good + 1) (omega (arith, count))
     where
-      none : (good : ℕ) → FollowsFront bench new n c events good → NoneGoesOn lines (so_far bench.journal n (take good events)) (events_text n (drop good events) ++ behind)
+      none : (good : ℕ) → FollowsFront bench new n c events good → NoneGoesOn all_lines (so_far bench.journal n (take good events)) (events_text n (drop good events) ++ behind)
       none good strays = by_count (cases_lt good (length events))
         where
-          by_count : (good < length events) ⊎ (length events ≤ good) → NoneGoesOn lines (so_far bench.journal n (take good events)) (events_text n (drop good events) ++ behind)
+          by_count : (good < length events) ⊎ (length events ≤ good) → NoneGoesOn all_lines (so_far bench.journal n (take good events)) (events_text n (drop good events) ++ behind)
           by_count (inl less) = none_early done line after bench report at left n c events behind number w few spelled other reads good less (strays.none_more less)
           by_count (inr all) =
               let whole : take good events ≡ events = take_all good events all in
               let nothing : drop good events ≡ [] = drop_all good events all in
-              let P : List Event → List Event → Type 0 = λ es ds. NoneGoesOn lines (so_far bench.journal n es) (events_text n ds ++ behind) in
+              let P : List Event → List Event → Type 0 = λ es ds. NoneGoesOn all_lines (so_far bench.journal n es) (events_text n ds ++ behind) in
               let late : P events [] = none_late done line after bench report at left n c events behind number w few spelled other reads strays.none_so in
               subst (λ ds. P (take good events) ds) (sym nothing) (subst (λ es. P es []) (sym whole) late)
 
   -- A line whose entry is followed whole, but whose answer's line isn't the next of the report.
   pub answer_strays : (follows : FollowsAll bench new n c events) → IsBetween bench.state → ((rest : List ℕ) → behind ≡ line_text n (answer_text follows.entry.answer) ++ rest → ⊥)
-      → Strayed lines (done ++ line ∷ []) new report (at + length events + 1)
+      → Strayed all_lines (done ++ line ∷ []) new report (at + length events + 1)
   answer_strays follows between differs =
       let ls : List (List ℕ) = so_far bench.journal n events in
       let is : report ≡ joined ls ++ behind = report_so_far bench.journal n events report left behind w.read reads.split in
@@ -131,7 +131,7 @@ module _ (done : List (List ℕ)) (line : List ℕ) (after : List (List ℕ)) (b
       (subst (LegalStep bench.state follows.given follows.entry) (ap (λ (b : Benched). b.state) (sym follows.is)) follows.legal) follows.numbered follows.asked follows.shows
       (subst AreOnAir (sym follows.happened) reads.on_air) (ap (λ (b : Benched). b.spoiled) follows.is ∙ w.sound) ls behind (line_text n (answer_text follows.entry.answer)) (so_far_clean bench.journal n events) is
       (entry_so_far bench.journal n events [] follows.entry follows.numbered (follows.happened ∙ sym (append-nil events)))
-      (stops_at lines report ls behind (so_far_clean bench.journal n events) is (none_answers done line after bench report at left n c events behind number w few spelled other reads new follows between differs))
+      (stops_at all_lines report ls behind (so_far_clean bench.journal n events) is (none_answers done line after bench report at left n c events behind number w few spelled other reads new follows between differs))
       (at + length events + 1) (omega (arith, count))
 
 -- A line behind the fault, which is obeyed.

@@ -1,6 +1,5 @@
 -- Where an audit stands before the first fault of a report, and how one line more takes it on.
-use Rattle.std.proofs.Common.{◌≡◌, ℕ, ◌+◌, ◌<◌, ◌≤◌, ◌^◌, List, [], ◌∷◌, ◌++◌, map, length, append_assoc, append-nil, false, refl, sym, ◌∙◌, ap, subst, arith}
-use Rattle.std.specs.List.{AllByRecursion}
+use Rattle.std.proofs.Common.{◌≡◌, ℕ, ◌+◌, ◌<◌, ◌^◌, List, [], ◌∷◌, ◌++◌, map, length, append_assoc, append-nil, false, refl, sym, ◌∙◌, ap, subst, arith}
 use Rattle.std.proofs.lemmas.List.{length-append}
 use Rattle.std.proofs.lemmas.Grind.{flat_map-append}
 use Rattle.nfc_base.proofs.Leading.{all_append}
@@ -8,7 +7,7 @@ use Rattle.nfc_base.specs.declared.frame.Tech.TheVariants.{A}
 use Rattle.nfc_base.specs.declared.event.Event.{Event}
 use Rattle.bench_script.specs.declared.command.Command.{Command}
 use Rattle.bench_script.specs.declared.command.Command.TheVariants.{Skip}
-use Rattle.bench_script.specs.Script.{Spells, is_skipped}
+use Rattle.bench_script.specs.Script.{Spells}
 use Rattle.bench_script.proofs.Spelling.{spells_one}
 use Rattle.bench_world.specs.declared.entry.Entry.{Entry}
 use Rattle.bench_world.specs.Alike.{Alike}
@@ -159,8 +158,8 @@ module _ (done : List (List ℕ)) (line : List ℕ) (bench new : Benched) (repor
   text_here rest is =
       let e : Entry = follows.entry in
       let parts : left ≡ entry_text false e ++ rest =
-          reads.split ∙ ap (λ x. events_text n events ++ x) is ∙ ap (λ es. events_text n es ++ (line_text n (answer_text e.answer) ++ rest)) (sym follows.happened)
-          ∙ sym (entry_first n e rest follows.numbered) in
+      reads.split ∙ ap (λ x. events_text n events ++ x) is ∙ ap (λ es. events_text n es ++ (line_text n (answer_text e.answer) ++ rest)) (sym follows.happened)
+      ∙ sym (entry_first n e rest follows.numbered) in
       w.read ∙ ap (λ x. report_text false bench.journal ++ x) parts ∙ sym (append_assoc (report_text false bench.journal) (entry_text false e) rest)
       ∙ ap (λ x. x ++ rest) (sym (text_more bench.journal e))
 
