@@ -10,6 +10,7 @@ use Rattle.bench_world.specs.Cutting.{CutsWell}
 use Rattle.bench_world.specs.Following.{BeginAlike, Compares, Follows, FollowsAll, FollowsFront, FollowsOne, LosesTrack, Records, SpoilsTrack}
 use Rattle.bench_world.specs.Legal.{Joins}
 use Rattle.bench_world.specs.Obeying.{Benched, IsCutOffBy, IsSettled, Machines, Makes, state_at, untraced}
+use Rattle.bench_world.specs.ReadBack.{AreOnAir}
 use Rattle.bench_world.specs.Showing.{IsBetween, MayShow, shown_of}
 use Rattle.bench_world.proofs.Benches.{both_ways, made_legal, made_quiet, seen}
 use Rattle.bench_world.proofs.Strays.{begins_with, none_begins, none_has}
@@ -20,7 +21,7 @@ as_follows f old new line Skip events other follows = absurd (other refl)
 as_follows f old new line c events other follows = follows
 
 module _ (rs : List (List Entry)) (a k : Machines) (js ks : List Entry) (line : ℕ) (c : Command) (e : Entry) (told : List Event)
-    (settled : IsSettled a) (cuts : CutsWell (state_at a)) (shows : MayShow (state_at a) c) (m : Makes (shown_of (state_at a) c told) a k line c e) where
+    (settled : IsSettled a) (cuts : CutsWell (state_at a)) (shows : MayShow (state_at a) c) (m : Makes (shown_of (state_at a) c told) a k line c e) (air : AreOnAir e.events) where
   between : IsBetween (state_at a)
   between = record { machines = a; settled = settled; is = refl; cuts = cuts }
 
@@ -60,6 +61,7 @@ module _ (rs : List (List Entry)) (a k : Machines) (js ks : List Entry) (line : 
         within = b.within_other;
         behind = drop good e.events;
         begins = begins_with e.events told good b;
+        on_air = air;
         none_more = none_begins (state_at a) (state_at k) between c shows i.given e i.legal i.asked told i.joined good b;
         none_so = none_has (state_at a) (state_at k) between c shows i.given e i.legal i.asked told i.joined other;
       }

@@ -13,6 +13,7 @@ use Rattle.bench_world.specs.Alike.{Alike}
 use Rattle.bench_world.specs.Halting.{CutOff}
 use Rattle.bench_world.specs.Legal.{State, Given, Joins, Accepts, LegalStep}
 use Rattle.bench_world.specs.Obeying.{Benched}
+use Rattle.bench_world.specs.ReadBack.{AreOnAir}
 use Rattle.bench_world.specs.Showing.{IsBetween, MayShow}
 use Rattle.bench_world.specs.Unfinished.{Unfinished}
 
@@ -88,6 +89,7 @@ pub record FollowsFront (old new : Benched) (line : ℕ) (c : Command) (events :
   pub within : good ≤ length events
   pub behind : List Event
   pub begins : made.events ≡ take good events ++ behind
+  pub on_air : AreOnAir made.events
   pub none_more : good < length events → NoneBegins old.state c (take (suc good) events)
   pub none_so : NoneHas old.state c events
 

@@ -1,5 +1,5 @@
 -- A stored report can be read back: its lines tell their numbers and what they say.
-use Rattle.std.specs.Prelude.{◌≡◌, ℕ, ◌<◌, ◌^◌}
+use Rattle.std.specs.Prelude.{◌≡◌, ℕ, ◌<◌, ◌^◌, List, [], ◌∷◌}
 use Rattle.nfc_base.specs.Signal.{IsSignal}
 use Rattle.nfc_base.specs.declared.frame.Tech.{Tech}
 use Rattle.nfc_base.specs.declared.event.Event.{Event}
@@ -13,6 +13,14 @@ IsOf t Reset = Unit {0}
 IsOf t (Request f x) = IsSignal f × (f.tech ≡ t)
 IsOf t (Answer f x) = IsSignal f × (f.tech ≡ t)
 IsOf t (Clash f x) = IsSignal f × (f.tech ≡ t)
+
+-- each frame is one that may be on the air
+abbrev pub AreOnAir : List Event → Type 0
+AreOnAir [] = Unit {0}
+AreOnAir (Reset ∷ es) = AreOnAir es
+AreOnAir (Request f x ∷ es) = IsSignal f × AreOnAir es
+AreOnAir (Answer f x ∷ es) = IsSignal f × AreOnAir es
+AreOnAir (Clash f x ∷ es) = IsSignal f × AreOnAir es
 
 -- Two events of one technology have one line only where they are equal. A line doesn't tell the technology; the command
 -- does.

@@ -22,6 +22,7 @@ use crate::forging::forge;
 use crate::joins::Joins;
 use crate::linking::link;
 use crate::machines::Machines;
+use crate::on_air::see_on_air;
 use crate::peers::{inbox, offer_value, place_peer};
 use crate::raws::raw;
 use crate::threes::{find_threes, read_tag_three, write_tag_three};
@@ -702,7 +703,9 @@ impl Bench {
         }
         match make_shown(self.alloc, &mut self.machines, line, command, events) {
             Ok(entry) => {
-                let followed = compared(entry.events.as_slice(), events);
+                let made = entry.events.as_slice();
+                see_on_air(made);
+                let followed = compared(made, events);
                 record_followed(&mut self.journal, entry, followed);
                 Ok(followed)
             }

@@ -29,6 +29,7 @@ mod law;
 mod linking;
 mod listed;
 mod machines;
+mod on_air;
 mod peers;
 mod pieces;
 mod raws;
@@ -46,5 +47,6 @@ pub use law::{
     alike_states, finds_complete, lines_decide, lines_tell_events, links_accept, links_complete,
     numbers_show, pieces_stay, quiet_air, reads_behind, reads_complete, writes_complete,
 };
+pub use on_air::see_on_air;
 pub use pieces::{AnswerPieces, answer_pieces};
 pub use report::render;

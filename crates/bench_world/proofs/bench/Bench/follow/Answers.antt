@@ -4,6 +4,7 @@ use Rattle.bench_world.specs.declared.following.Followed.{Followed}
 use Rattle.bench_world.specs.Following.{Compares, Follows, Records}
 use Rattle.bench_world.specs.Legal.{no_joins}
 use Rattle.bench_world.specs.Obeying.{Machines, state_at}
+use Rattle.bench_world.specs.ReadBack.{AreOnAir}
 use Rattle.bench_world.specs.Showing.{shown_of}
 use Rattle.bench_world.proofs.Legality.{untouched}
 use Rattle.bench_world.proofs.Benches.{seen, both_ways, settled_made}
@@ -39,8 +40,8 @@ returns-in-Ok c =
     let before = c.self.invariant c.if-self.false in
     record {
       ok = subst (λ v. Follows f c.args.self.now (seen rs ks k v) c.args.line c.args.command.now c.args.events.now) (sym c.if-self.false)
-          (follows rs m k js ks c.args.line c.args.command.now e c.args.events.now before.0 before.1 c.in-Ok.ensures.shows c.in-Ok.ensures.ok f c.args.self.now sound c.in_default.not-Skip
-          (subst (λ es. Compares es c.args.events.now f) c.as_slice.ensures c.compared-followed.ensures) (subst (λ xs. Records f xs ks e) c.reserve.ensures.items c.record_followed.ensures));
+          (follows rs m k js ks c.args.line c.args.command.now e c.args.events.now before.0 before.1 c.in-Ok.ensures.shows c.in-Ok.ensures.ok (subst AreOnAir c.as_slice-made.ensures c.see_on_air.ensures) f c.args.self.now sound c.in_default.not-Skip
+          (subst (λ es. Compares es c.args.events.now f) c.as_slice-made.ensures c.compared-followed.ensures) (subst (λ xs. Records f xs ks e) c.reserve.ensures.items c.record_followed.ensures));
       refused = λ e. absurd cc;
       cause = λ e. absurd cc;
       memory = λ e. absurd cc;
