@@ -4,7 +4,6 @@ use Rattle.std.specs.List.{onto_first}
 use Rattle.std.proofs.lemmas.List.{length-append}
 use Rattle.nfc_io.specs.Lines.{lines_of}
 use Rattle.bench_world.specs.Obeying.{Benched, new_bench}
-use Rattle.bench_world.specs.Showing.{IsBetween}
 use Rattle.trace_audit.specs.declared.judging.AuditFault.{AuditFault}
 use Rattle.trace_audit.specs.declared.judging.AuditFault.TheVariants.{Memory, Script}
 use Rattle.trace_audit.specs.declared.judging.Verdict.{Verdict}
@@ -12,7 +11,6 @@ use Rattle.trace_audit.specs.declared.judging.Verdict.TheVariants.{Faulty, Legal
 use Rattle.trace_audit.specs.declared.stepping.Walk.{Walk}
 use Rattle.trace_audit.specs.Auditing.{IsUnauditedAt}
 use Rattle.trace_audit.specs.Judging.{JudgedAt, Judges, RefusedAt, Refuses}
-use Rattle.trace_audit.specs.Making.{MakesOnAir}
 use Rattle.trace_audit.specs.Stepping.{AuditsLine, Shrinks}
 use Rattle.trace_audit.proofs.LineSteps.{Stands, ends_audited, ends_faulty, ends_legal, line_on, stands_first, stands_refused}
 
@@ -70,15 +68,15 @@ module _ (script report left rest text : List ℕ) (line : ℕ) (old : Benched) 
   number = omega (arith, at.count)
 
   -- takes the walk on, ...
-  pub walks_on : (new : Benched) (w' : Walk) → AuditsLine old new (line + 1) text w w' → Shrinks w w' → IsBetween old.state → MakesOnAir old new (line + 1) → WalksAt script report rest (line + 1) new w'
-  walks_on new w' audits shrinks between makes = record {
+  pub walks_on : (new : Benched) (w' : Walk) → AuditsLine old new (line + 1) text w w' → Shrinks w w' → WalksAt script report rest (line + 1) new w'
+  walks_on new w' audits shrinks = record {
     done = at.done ++ text ∷ [];
     parts = parts_here ∙ sym (append_assoc at.done (text ∷ []) (lines_of rest));
     count = omega (arith, number, length-append at.done (text ∷ []));
     stands =
         subst (λ ls. Stands ls (at.done ++ text ∷ []) new report w') (sym parts_here)
         (line_on at.done text (lines_of rest) old new report (line + 1) w w' number
-        (subst (λ ls. length ls < 2 ^ 32) parts_here (let small : length (lines_of script) < 2 ^ 32 = omega (arith, few, lines_few script) in small)) between makes stands_here audits);
+        (subst (λ ls. length ls < 2 ^ 32) parts_here (let small : length (lines_of script) < 2 ^ 32 = omega (arith, few, lines_few script) in small)) stands_here audits);
     room = omega (arith, at.room, shrinks);
   }
 

@@ -4,11 +4,12 @@ use Rattle.bench_script.specs.declared.command.Command.{Command}
 use Rattle.bench_script.specs.declared.command.Command.TheVariants.{Skip}
 use Rattle.bench_script.specs.Script.{Spells}
 use Rattle.bench_world.specs.Obeying.{Adds, Benched, Obeys, new_bench}
-use Rattle.bench_world.specs.Showing.{IsBetween, MayShow}
+use Rattle.bench_world.specs.Showing.{MayShow}
 use Rattle.trace_audit.specs.Auditing.{AreAudited, IsAudited, IsFaultyAt, IsReportOf, IsUnauditedAt}
-use Rattle.trace_audit.specs.Making.{MakesOnAir}
+use Rattle.trace_audit.specs.Making.{LastOnAir}
 use Rattle.trace_audit.specs.Stepping.{AuditsLine, ObeysOn, StaysOn, StepsOn, StepsTo, StraysAtAnswer, StraysAtEvent, TakesBy, TakesLine}
 use Rattle.trace_audit.specs.declared.stepping.Walk.{Walk}
+use Rattle.trace_audit.proofs.LastEntry.{obeyed_on_air}
 use Rattle.trace_audit.proofs.Strayed.{Strayed, answer_strays, stray_ends, stray_goes_on, stray_refuses, stray_skips, walk_strays, walk_surplus}
 use Rattle.trace_audit.proofs.Walked.{Walked, walk_begins, walk_ends, walk_goes_on, walk_refuses, walk_skips}
 
@@ -26,7 +27,7 @@ adds_of old new n Skip p other = absurd (other refl)
 adds_of old new n c p other = p
 
 module _ (done : List (List ℕ)) (text : List ℕ) (after : List (List ℕ)) (old new : Benched) (report : List ℕ) (line : ℕ) (number : line ≡ length done + 1) (few : length (done ++ text ∷ after) < 2 ^ 32)
-    (between : IsBetween old.state) (makes : MakesOnAir old new line) where
+    where
   abbrev all_lines : List (List ℕ)
   all_lines = done ++ text ∷ after
 
@@ -34,26 +35,26 @@ module _ (done : List (List ℕ)) (text : List ℕ) (after : List (List ℕ)) (o
     stays : (rest : List ℕ) (count : ℕ) → Walked done old report good left → StaysOn old new line c left rest count → Walked (done ++ text ∷ []) new report (good + count) rest
     stays rest count w s =
         subst (λ k. Walked (done ++ text ∷ []) new report (good + k) rest) (sym s.count)
-        (walk_goes_on done text old new report good left line c s.events s.behind number w between spells asks s.read s.follows rest s.answered)
+        (walk_goes_on done text old new report good left line c s.events s.behind number w s.follows.between spells asks s.read s.follows rest s.answered)
 
     at_answer : (count : ℕ) → Walked done old report good left → StraysAtAnswer old new line c left count → Strayed all_lines (done ++ text ∷ []) new report (good + count + 1)
     at_answer count w s =
         subst (λ k. Strayed all_lines (done ++ text ∷ []) new report (good + k + 1)) (sym s.count)
-        (answer_strays done text after old new report good left line c s.events s.behind number w few spells asks s.read s.follows between s.other)
+        (answer_strays done text after old new report good left line c s.events s.behind number w few spells asks s.read s.follows s.follows.between s.other)
 
     at_event : (count : ℕ) → Walked done old report good left → StraysAtEvent old new line c left count → Strayed all_lines (done ++ text ∷ []) new report (good + count + 1)
     at_event count w s =
-        walk_strays done text after old new report good left line c s.events s.behind number w few spells asks s.read count s.follows (makes.made c s.events count s.follows)
+        walk_strays done text after old new report good left line c s.events s.behind number w few spells asks s.read count s.follows s.follows.on_air
 
     steps : (v : Bool) (rest : List ℕ) (count : ℕ) → Walked done old report good left → StepsTo v old new line c left rest count → StandsBy v all_lines (done ++ text ∷ []) new report (good + count) rest
     steps false rest count w s = stays rest count w s
     steps true rest count w (inl s) = at_answer count w s
     steps true rest count w (inr s) = at_event count w s
 
-    obeys : (fault : ℕ) → Strayed all_lines done old report fault → Obeys old new line c → MayShow old.state c → Strayed all_lines (done ++ text ∷ []) new report fault
-    obeys fault s does shows =
+    obeys : (fault : ℕ) → Strayed all_lines done old report fault → Obeys old new line c → MayShow old.state c → LastOnAir new.journal → Strayed all_lines (done ++ text ∷ []) new report fault
+    obeys fault s does shows last =
         let adds : Adds old new line c = adds_of old new line c does asks in
-        stray_goes_on all_lines done text old new report fault line c number s spells asks shows adds (makes.obeyed c adds)
+        stray_goes_on all_lines done text old new report fault line c number s spells asks shows adds (obeyed_on_air old new line last c adds)
 
   -- the walk goes on as the line is taken
   step_on : (w w' : Walk) (c : Command) → Spells text c → (c ≡ Skip → ⊥) → Walked done old report w.good w.left.now → StepsOn old new line c w w' → Stands all_lines (done ++ text ∷ []) new report w'
@@ -64,7 +65,7 @@ module _ (done : List (List ℕ)) (text : List ℕ) (after : List (List ℕ)) (o
   obey_on w w' c spells asks strayed stands s =
       let S : Bool → Type 0 = λ v. StandsBy v all_lines (done ++ text ∷ []) new report w.good w.left.now in
       subst (Stands all_lines (done ++ text ∷ []) new report) (sym s.same)
-      (subst S (sym strayed) (obeys w.good w.left.now c spells asks (w.good + 1) stands s.obeys s.shows))
+      (subst S (sym strayed) (obeys w.good w.left.now c spells asks (w.good + 1) stands s.obeys s.shows s.on_air))
 
   by_walk : (v : Bool) (w w' : Walk) (c : Command) → Spells text c → (c ≡ Skip → ⊥) → w.strayed ≡ v → StandsBy v all_lines done old report w.good w.left.now → TakesBy v old new line c w w'
       → Stands all_lines (done ++ text ∷ []) new report w'
@@ -113,15 +114,15 @@ takes_asking old new line c w w' asks p = p
 
 -- So each line of the script takes the audit on.
 pub line_on : (done : List (List ℕ)) (text : List ℕ) (after : List (List ℕ)) (old new : Benched) (report : List ℕ) (line : ℕ) (w w' : Walk) → line ≡ length done + 1
-    → length (done ++ text ∷ after) < 2 ^ 32 → IsBetween old.state → MakesOnAir old new line → Stands (done ++ text ∷ after) done old report w → AuditsLine old new line text w w'
+    → length (done ++ text ∷ after) < 2 ^ 32 → Stands (done ++ text ∷ after) done old report w → AuditsLine old new line text w w'
     → Stands (done ++ text ∷ after) (done ++ text ∷ []) new report w'
-line_on done text after old new report line w w' number few between makes stands a = by_command (skip_or a.command)
+line_on done text after old new report line w w' number few stands a = by_command (skip_or a.command)
   where
     by_command : (a.command ≡ Skip) ⊎ (a.command ≡ Skip → ⊥) → Stands (done ++ text ∷ after) (done ++ text ∷ []) new report w'
     by_command (inl is) =
         skips_on (done ++ text ∷ after) done text old new report w w' (subst (Spells text) is a.spells) stands (subst (λ c. TakesLine old new line c w w') is a.takes)
     by_command (inr asks) =
-        asking done text after old new report line number few between makes w w' a.command a.spells asks stands (takes_asking old new line a.command w w' asks a.takes)
+        asking done text after old new report line number few w w' a.command a.spells asks stands (takes_asking old new line a.command w w' asks a.takes)
 
 -- What an audit comes to behind the last line: a fault of the report, or what is left of it is one, or nothing is.
 faulty_by : (v : Bool) (lines : List (List ℕ)) (bench : Benched) (report : List ℕ) (good : ℕ) (left : List ℕ) → length lines < 2 ^ 32 → StandsBy v lines lines bench report good left

@@ -10,6 +10,7 @@ use Rattle.bench_world.specs.Obeying.{Benched, Obeys}
 use Rattle.bench_world.specs.Report.{answer_text, line_text}
 use Rattle.bench_world.specs.Showing.{MayShow}
 use Rattle.trace_audit.specs.declared.stepping.Walk.{Walk}
+use Rattle.trace_audit.specs.Making.{LastOnAir}
 use Rattle.trace_audit.specs.ReadEvents.{AreRead}
 
 -- The entry is the report's next lines: its events are those that were read, its answer's line comes behind, and these
@@ -56,10 +57,11 @@ pub record StepsOn (old new : Benched) (line : ℕ) (c : Command) (w w' : Walk) 
   pub good : w'.good ≡ w.good + lines
   pub step : StepsTo w'.strayed old new line c w.left.now w'.left.now lines
 
--- Behind the report's first fault a line is only obeyed.
+-- Behind the report's first fault a line is only obeyed; its entry is the last one.
 pub record ObeysOn (old new : Benched) (line : ℕ) (c : Command) (w w' : Walk) : Type 0 where
   pub obeys : Obeys old new line c
   pub shows : MayShow old.state c
+  pub on_air : LastOnAir new.journal
   pub same : w' ≡ w
 
 abbrev pub TakesBy : Bool → Benched → Benched → ℕ → Command → Walk → Walk → Type 0

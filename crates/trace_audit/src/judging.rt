@@ -1,11 +1,9 @@
 //! The walk over a script and its report.
 
-ghost use Rattle.std.specs.Prelude.{◌≡◌, ◌+◌, ◌-◌, ◌≤◌, ◌<◌, ◌^◌, List, ℕ, IfOk, IfErr, OnOk, length};
+ghost use Rattle.std.specs.Prelude.{◌≡◌, ◌+◌, ◌-◌, ◌≤◌, ◌<◌, ◌^◌, List, ℕ, IfOk, IfErr, length};
 ghost use Rattle.bench_world.specs.Obeying.{new_bench};
 ghost use Rattle.nfc_io.specs.Lines.{lines_of};
-ghost use Rattle.bench_world.specs.Showing.{IsBetween};
 ghost use Rattle.trace_audit.specs.Judging.{JudgedAt, Judges, RefusedAt, Refuses};
-ghost use Rattle.trace_audit.specs.Making.{MakesOnAir};
 ghost use Rattle.trace_audit.specs.Stepping.{AuditsLine, Shrinks};
 
 use crate::cutting::next_line;
@@ -85,8 +83,6 @@ fn audit_line<'a>(
     requires { walk.good + length walk.left.now < 2 ^ 32 }
     ensures ok { IfOk result (λ w. AuditsLine bench.old bench.new line text.now walk.entry w) }
     ensures room { IfOk result (λ w. Shrinks walk.entry w) }
-    ensures between { OnOk result (IsBetween bench.old.state) }
-    ensures makes { OnOk result (MakesOnAir bench.old bench.new line) }
     ensures err { IfErr result (λ fault. RefusedAt bench.old.state line text.now fault) }
 {
     let command = match parse_line(alloc, text) {

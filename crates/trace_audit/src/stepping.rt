@@ -7,8 +7,10 @@ ghost use Rattle.bench_world.specs.Following.{MayFollow, MayShowAmong};
 ghost use Rattle.bench_world.specs.Obeying.{Obeys};
 ghost use Rattle.bench_world.specs.Report.{answer_text, line_text};
 ghost use Rattle.bench_world.specs.Showing.{MayShow};
+ghost use Rattle.trace_audit.specs.Making.{LastOnAir};
 ghost use Rattle.trace_audit.specs.Stepping.{ComesBehind, Shrinks, StepsOn, TakesLine};
 
+use crate::on_air::see_last;
 use crate::reading::read_events;
 use bench_devices::Device;
 use bench_script::Command;
@@ -53,13 +55,17 @@ pub fn take_line<'a>(
 
 /// Obeys a command that may be audited.
 fn obey_line(bench: &mut Bench, line: u32, command: &Command) -> Result<(), ObeyFault>
-    ensures ok { OnOk result (Obeys bench.old bench.new line command.now × MayShow bench.old.state command.now) }
+    ensures ok { OnOk result (Obeys bench.old bench.new line command.now) }
+    ensures shows { OnOk result (MayShow bench.old.state command.now) }
+    ensures on_air { OnOk result (LastOnAir bench.new.journal) }
     ensures refused { IsErrOf result ObeyFault.Refused → MayFollow bench.old.state command.now → ⊥ }
 {
     if !may_show(bench.field().listeners(), command) {
         return Err(ObeyFault::Refused);
     }
-    bench.obey(line, command)
+    bench.obey(line, command)?;
+    see_last(bench.journal());
+    Ok(())
 }
 
 /// Whether a command among these devices may be audited: not a `raw` beside a peer.

@@ -23,7 +23,7 @@ returns-in_err-walk-clause-err c =
 pub lines-preserved : goal.lines-preserved
 lines-preserved c =
     walks_on c.args.script.now c.args.report.now c.lines.left.now c.in-Some.rest.now c.in-Some.text.now c.lines.line c.lines.bench c.lines.walk c.requires.script c.lines.invariant
-    c.in-Some.ensures.lines c.audit_line.new.bench c.in_ok-walk.walk c.in_ok-walk.ensures.ok c.in_ok-walk.ensures.room c.in_ok-walk.ensures.between c.in_ok-walk.ensures.makes
+    c.in-Some.ensures.lines c.audit_line.new.bench c.in_ok-walk.walk c.in_ok-walk.ensures.ok c.in_ok-walk.ensures.room
 
 pub returns-clause-ok : goal.returns-clause-ok
 returns-clause-ok c =
