@@ -26,8 +26,7 @@ adds_of : (old new : Benched) (n : ℕ) (c : Command) → Obeys old new n c → 
 adds_of old new n Skip p other = absurd (other refl)
 adds_of old new n c p other = p
 
-module _ (done : List (List ℕ)) (text : List ℕ) (after : List (List ℕ)) (old new : Benched) (report : List ℕ) (line : ℕ) (number : line ≡ length done + 1) (few : length (done ++ text ∷ after) < 2 ^ 32)
-    where
+module _ (done : List (List ℕ)) (text : List ℕ) (after : List (List ℕ)) (old new : Benched) (report : List ℕ) (line : ℕ) (number : line ≡ length done + 1) (few : length (done ++ text ∷ after) < 2 ^ 32) where
   abbrev all_lines : List (List ℕ)
   all_lines = done ++ text ∷ after
 
@@ -52,9 +51,9 @@ module _ (done : List (List ℕ)) (text : List ℕ) (after : List (List ℕ)) (o
     steps true rest count w (inr s) = at_event count w s
 
     obeys : (fault : ℕ) → Strayed all_lines done old report fault → Obeys old new line c → MayShow old.state c → LastOnAir new.journal → Strayed all_lines (done ++ text ∷ []) new report fault
-    obeys fault s does shows last =
+    obeys fault s does shows air =
         let adds : Adds old new line c = adds_of old new line c does asks in
-        stray_goes_on all_lines done text old new report fault line c number s spells asks shows adds (obeyed_on_air old new line last c adds)
+        stray_goes_on all_lines done text old new report fault line c number s spells asks shows adds (obeyed_on_air old new line air c adds)
 
   -- the walk goes on as the line is taken
   step_on : (w w' : Walk) (c : Command) → Spells text c → (c ≡ Skip → ⊥) → Walked done old report w.good w.left.now → StepsOn old new line c w w' → Stands all_lines (done ++ text ∷ []) new report w'

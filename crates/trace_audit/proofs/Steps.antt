@@ -38,23 +38,32 @@ module _ (old new : Benched) (line : ℕ) (c : Command) (left : List ℕ) (event
     where
       number : (rest : List ℕ) → line_text follows.entry.line (answer_text follows.entry.answer) ++ rest ≡ line_text line (answer_text follows.entry.answer) ++ rest
       number rest = ap (λ n. line_text n (answer_text follows.entry.answer) ++ rest) follows.numbered
+
       by_answer : (v : Bool) → ComesBy v follows.entry (good + length events) behind w → (lines : ℕ) × (w.good ≡ good + lines) × StepsTo v old new line c left w.left.now lines
-      by_answer false h = (length events + 1, omega (arith, h.1), record {
-        events = events;
-        behind = behind;
-        read = read;
-        follows = follows;
-        answered = h.0 ∙ number w.left.now;
-        count = refl;
-      })
-      by_answer true h = (length events, h.1, inl (record {
-        events = events;
-        behind = behind;
-        read = read;
-        follows = follows;
-        other = λ rest e. h.0 rest (e ∙ sym (number rest));
-        count = refl;
-      }))
+      by_answer false h = (
+        length events + 1,
+        omega (arith, h.1),
+        record {
+          events = events;
+          behind = behind;
+          read = read;
+          follows = follows;
+          answered = h.0 ∙ number w.left.now;
+          count = refl;
+        },
+      )
+      by_answer true h = (
+        length events,
+        h.1,
+        inl (record {
+          events = events;
+          behind = behind;
+          read = read;
+          follows = follows;
+          other = λ rest e. h.0 rest (e ∙ sym (number rest));
+          count = refl;
+        }),
+      )
 
   -- Where the events aren't those of an entry, it strays.
   pub front_step : (good : ℕ) (rest : List ℕ) → FollowsFront old new line c events good → StepsTo true old new line c left rest good

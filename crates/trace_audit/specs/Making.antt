@@ -1,8 +1,8 @@
--- What a line of a script adds may be on the air, as each frame of the code.
+-- What was obeyed may be on the air, as each frame of the code.
 use Rattle.std.specs.Prelude.{◌≡◌, ◌-◌, List, length, Some, slice_get}
 use Rattle.bench_world.specs.declared.entry.Entry.{Entry}
-use Rattle.trace_audit.specs.Reading.{AreOnAir}
+use Rattle.bench_world.specs.ReadBack.{AreOnAir}
 
--- so is the last of some entries
+-- the frames of the last of some entries may
 abbrev pub LastOnAir : List Entry → Type 0
 LastOnAir entries = (e : Entry) → slice_get entries (length entries - 1) ≡ Some e → AreOnAir e.events

@@ -6,6 +6,7 @@ use Rattle.nfc_base.specs.declared.frame.Tech.{Tech}
 use Rattle.nfc_base.specs.declared.frame.Tech.TheVariants.{A, V, F}
 use Rattle.nfc_base.specs.declared.event.Event.{Event}
 use Rattle.nfc_base.specs.declared.event.Event.TheVariants.{Reset, Request, Answer, Clash}
+pub use Rattle.bench_world.specs.ReadBack.{AreOnAir}
 use Rattle.bench_script.specs.declared.command.Command.{Command}
 use Rattle.bench_script.specs.declared.command.Command.TheVariants.{Skip, Fates, PlaceT2, PlaceT3, PlaceT4, PlaceT5, PlacePeer, Lock, Busy, Offer, Remove, Dump, Inbox, Find, Crowd, Poll3, Read, Read3, Write, Write3, Link, Forge, Raw, Put, Get, Lookup, OnPut, OnGet, Puts, Unlink}
 use Rattle.bench_script.specs.DeviceIds.{tech_for}
@@ -35,11 +36,3 @@ HaveTech c last (Reset ∷ es) = HaveTech c last es
 HaveTech c last (Request f x ∷ es) = (f.tech ≡ sent_tech c f.bytes f.tail) × HaveTech c f.tech es
 HaveTech c last (Answer f x ∷ es) = (f.tech ≡ last) × HaveTech c last es
 HaveTech c last (Clash f x ∷ es) = (f.tech ≡ last) × HaveTech c last es
-
--- each frame is one that may be on the air
-abbrev pub AreOnAir : List Event → Type 0
-AreOnAir [] = Unit {0}
-AreOnAir (Reset ∷ es) = AreOnAir es
-AreOnAir (Request f x ∷ es) = IsSignal f × AreOnAir es
-AreOnAir (Answer f x ∷ es) = IsSignal f × AreOnAir es
-AreOnAir (Clash f x ∷ es) = IsSignal f × AreOnAir es

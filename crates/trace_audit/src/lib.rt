@@ -18,6 +18,5 @@ mod verdicts;
 
 pub use judging::{AuditFault, Verdict, audit};
 pub use law::technologies_told;
-pub use on_air::{see_last, see_on_air};
 pub use reading::{Read, read_event, read_events};
 pub use verdicts::verdicts_settled;

@@ -1,44 +1,14 @@
-//! That the frames of the code are such as may be on the air: their type says so of each.
+//! That what was obeyed is such as may be on the air: the type of the code's frames says so.
 
-ghost use Rattle.std.specs.Prelude.{[], ◌∷◌};
-ghost use Rattle.nfc_base.specs.Signal.{IsSignal};
 ghost use Rattle.trace_audit.specs.Making.{LastOnAir};
-ghost use Rattle.trace_audit.specs.Reading.{AreOnAir};
 
-use bench_world::Entry;
-use nfc_base::{Event, Frame};
+use bench_world::{Entry, see_on_air};
 
-/// The frames of these events may be on the air. The call does nothing.
-pub fn see_on_air(events: &[Event])
-    ensures { AreOnAir events.now }
-{
-    for event in events {
-        see_event(event);
-    }
-}
-
-/// So may those of the last of some entries.
-pub fn see_last(entries: &[Entry])
+/// The frames of the last of some entries may be on the air. The call does nothing.
+pub(crate) fn see_last(entries: &[Entry])
     ensures { LastOnAir entries.now }
 {
     if let Some(entry) = entries.last() {
         see_on_air(entry.events.as_slice());
     }
-}
-
-fn see_event(event: &Event)
-    ensures { AreOnAir (event.now ∷ []) }
-{
-    match event {
-        Event::Reset => {}
-        Event::Request { frame, .. } => see_frame(frame),
-        Event::Answer { frame, .. } => see_frame(frame),
-        Event::Clash { frame, .. } => see_frame(frame),
-    }
-}
-
-fn see_frame(frame: &Frame)
-    ensures { IsSignal frame.now }
-{
-    frame.view();
 }

@@ -55,9 +55,8 @@ pub fn take_line<'a>(
 
 /// Obeys a command that may be audited.
 fn obey_line(bench: &mut Bench, line: u32, command: &Command) -> Result<(), ObeyFault>
-    ensures ok { OnOk result (Obeys bench.old bench.new line command.now) }
-    ensures shows { OnOk result (MayShow bench.old.state command.now) }
-    ensures on_air { OnOk result (LastOnAir bench.new.journal) }
+    ensures ok { OnOk result (Obeys bench.old bench.new line command.now × MayShow bench.old.state command.now) }
+    ensures air { OnOk result (LastOnAir bench.new.journal) }
     ensures refused { IsErrOf result ObeyFault.Refused → MayFollow bench.old.state command.now → ⊥ }
 {
     if !may_show(bench.field().listeners(), command) {
