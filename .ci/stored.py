@@ -3,8 +3,8 @@
 that it ends with.
 
 `NAME.script` with `NAME.script.stdout` in `examples/`, or `NAME` with `NAME.stdout` in a folder of `tests/cases/`; `NAME.args` has other
-words than `run`, one a line. Those of `tests/cases/sweep` are swept. The status is the number in the fault line that ends the report, and 0
-where there is none.
+words than `run`, one a line. Those of `tests/cases/sweep` are swept, and those of `tests/cases/audit` audited. The status is the number in
+the fault line that ends the report, 1 where that is the line of an audit which found a fault, and else 0.
 """
 
 import re
@@ -15,6 +15,8 @@ from pathlib import Path
 
 ROOT = Path(__file__).resolve().parent.parent
 LIMIT = 120
+# The folders whose scripts are run by another word.
+WORDS = {"sweep": "sweep", "audit": "audit"}
 
 
 def stored_scripts():
@@ -23,12 +25,14 @@ def stored_scripts():
         script = report.with_suffix("")
         words = Path(f"{script}.args")
         said = words.read_text().split() if words.exists() else []
-        yield script, ["sweep" if script.parent.name == "sweep" else "run", *said], report
+        yield script, [WORDS.get(script.parent.name, "run"), *said], report
 
 
 def status_of(report):
     fault = re.search(rb"(?:^|\n)fault (\d) [^\n]*\n\Z", report)
-    return int(fault[1]) if fault else 0
+    if fault:
+        return int(fault[1])
+    return 1 if re.fullmatch(rb"faulty line \d+\n", report) else 0
 
 
 def check(program, script, words, report):

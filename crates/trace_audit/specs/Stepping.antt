@@ -57,7 +57,7 @@ pub record StepsOn (old new : Benched) (line : ℕ) (c : Command) (w w' : Walk) 
   pub good : w'.good ≡ w.good + lines
   pub step : StepsTo w'.strayed old new line c w.left.now w'.left.now lines
 
--- Behind the report's first fault a line is only obeyed.
+-- Behind the report's first fault a line is only obeyed; its entry is the last one.
 pub record ObeysOn (old new : Benched) (line : ℕ) (c : Command) (w w' : Walk) : Type 0 where
   pub obeys : Obeys old new line c
   pub shows : MayShow old.state c
