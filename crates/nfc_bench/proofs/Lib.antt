@@ -13,3 +13,5 @@ pub mod SweptLines
 pub mod Sweeping
 pub mod WrittenTag
 pub mod BrokenRuns
+pub mod AuditReading
+pub mod AuditTelling

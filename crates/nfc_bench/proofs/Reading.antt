@@ -102,7 +102,7 @@ looks_in_time left mid left' a m done r p look = elim look.wanted [
 ]
 
 -- nothing is held or left: every line was given
-told_all : (left left' : Option (List ℕ)) (text : List ℕ) → left ≡ with_front text left' → IfSome left' (λ rest. rest ≡ []) → IfSome left (λ bytes. (text ≡ bytes) × (left' ≡ Some []))
+pub told_all : (left left' : Option (List ℕ)) (text : List ℕ) → left ≡ with_front text left' → IfSome left' (λ rest. rest ≡ []) → IfSome left (λ bytes. (text ≡ bytes) × (left' ≡ Some []))
 told_all left None text read none =
     let nothing : Option (List ℕ) = None in
     let P : Option (List ℕ) → Type 0 = λ o. IfSome o (λ bytes. (text ≡ bytes) × (nothing ≡ Some [])) in

@@ -7,3 +7,6 @@ pub mod Sweep
 pub mod SweepStops
 pub mod SweptReads
 pub mod Gathering
+pub mod AuditInput
+pub mod AuditReading
+pub mod AuditText

@@ -7,6 +7,8 @@ ghost use Rattle.nfc_bench.specs.Limits.{most_read};
 ghost use Rattle.nfc_bench.specs.Run.{Ran, sees, line_fault, AllTaken, AddsFault, EndsDone, EndsRefused, EndsUnread, EndsUnwritten, EndsMemory, ReadsInTime, ReadsAtMost};
 ghost use Rattle.bench_world.specs.Obeying.{new_bench};
 
+mod audit_input;
+mod audit_telling;
 mod counting;
 mod found;
 mod gathering;
