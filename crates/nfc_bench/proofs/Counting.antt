@@ -12,7 +12,7 @@ use Rattle.bench_script.specs.Script.{is_skipped, longest_message}
 use Rattle.bench_world.specs.declared.entry.Answer.{Answer}
 use Rattle.bench_world.specs.declared.entry.Answer.TheVariants.{Success}
 use Rattle.bench_world.specs.declared.entry.Entry.{Entry}
-use Rattle.bench_world.specs.Journal.{NumberedLine, asking_lines, AreEntriesOf}
+use Rattle.bench_world.specs.Journal.{NumberedLine, asking_lines, AreEntriesOf, Numbered}
 use Rattle.bench_world.specs.Legal.{State, Given, Accepts, EachLegal, first_state}
 use Rattle.bench_world.specs.Obeying.{Benched}
 use Rattle.nfc_bench.specs.Made.{put_size, size_told}
@@ -52,10 +52,13 @@ entries_few [] (e ∷ es) of = absurd of
 entries_few (l ∷ ls) [] of = omega arith
 entries_few (l ∷ ls) (e ∷ es) of = omega (arith, entries_few ls es of.2)
 
+pub numbered_few : (n : ℕ) (lines : List (List ℕ)) (journal : List Entry) → Numbered n lines journal → length journal ≤ length lines
+numbered_few n lines journal numbered = omega (arith, asking_few n lines, entries_few (asking_lines n lines) journal numbered)
+
 pub journal_few : (lines : List (List ℕ)) (b : Benched) → AreWithinLimits lines → AreObeyed lines b → length b.journal ≤ most_lines
 journal_few lines b limits obeyed =
     let few : length lines ≤ most_lines = limits.few in
-    omega (arith, few, asking_few 1 lines, entries_few (asking_lines 1 lines) b.journal obeyed.run.legal.leads.numbered)
+    omega (arith, few, numbered_few 1 lines b.journal obeyed.run.legal.leads.numbered)
 
 -- No put of a legal journal is too long.
 accepted_short : (s : State) (c : Command) → Accepts s c → put_size c ≤ longest_message

@@ -15,3 +15,6 @@ pub mod WrittenTag
 pub mod BrokenRuns
 pub mod AuditReading
 pub mod AuditTelling
+pub mod Auditing
+pub mod AuditBounds
+pub mod AuditOnce

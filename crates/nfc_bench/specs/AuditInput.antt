@@ -1,8 +1,9 @@
 -- What an input to be audited holds: the lines of a script, a line that ends them, and a report. (This project's own.)
-use Rattle.std.specs.Prelude.{◌≡◌, ◌≢◌, ◌⊎◌, ℕ, ◌+◌, ◌<◌, List, [], ◌∷◌, ◌++◌, length, take, codes, ◌==◌}
+use Rattle.std.specs.Prelude.{◌≡◌, ◌≢◌, ◌⊎◌, ℕ, ◌+◌, ◌<◌, List, [], ◌∷◌, ◌++◌, length, take, codes, ◌==◌, ◌*◌}
 use Rattle.std.specs.List.{All, count_by}
 use Rattle.nfc_io.specs.Lines.{lines_of, joined}
 use Rattle.bench_script.specs.Limits.{most_lines, longest_line, AreWithinLimits}
+use Rattle.nfc_bench.specs.Limits.{chunk_size, longest_script}
 
 -- the line that ends a script
 abbrev pub mark : List ℕ
@@ -11,6 +12,11 @@ mark = codes "%%"
 -- how many bytes a report may have
 abbrev pub most_report : ℕ
 most_report = 16777216
+
+-- How many bytes of an input are read: at most those of the longest script, of two lines more, of the longest report, and of one
+-- call.
+abbrev pub most_audited : ℕ
+most_audited = longest_script + 2 * (longest_line + 1) + most_report + chunk_size
 
 -- none of these lines is that one
 abbrev pub HaveNoMark : List (List ℕ) → Type 0

@@ -1,13 +1,15 @@
 -- What reading an input to be audited comes to, part by part; for private calls.
-use Rattle.std.specs.Prelude.{◌≡◌, ◌≢◌, ◌⊎◌, ℕ, ◌+◌, ◌<◌, ◌≤◌, List, [], ◌∷◌, ◌++◌, length, take, true, false, Option, Some, None, IfSome, Ok, Err}
+use Rattle.std.specs.Prelude.{◌≡◌, ◌≢◌, ◌⊎◌, ℕ, ◌+◌, ◌*◌, ◌<◌, ◌≤◌, List, [], ◌∷◌, ◌++◌, length, take, true, false, Option, Some, None, IfSome, Result, Ok, Err, Bool}
 use Rattle.std.specs.List.{AllByRecursion}
 use Rattle.nfc_io.specs.Lines.{lines_of, joined, NoLf}
 use Rattle.nfc_io.specs.Reading.{Lined, new_lined, Advances, GaveLines}
+use Rattle.nfc_io.specs.declared.line_reader.LineStop.{LineStop}
 use Rattle.nfc_io.specs.declared.line_reader.LineStop.TheVariants as stops
 use Rattle.nfc_io.specs.Behind.{HandsOver, bytes_of}
 use Rattle.nfc_io.specs.declared.rest.Rest.{Rest}
 use Rattle.nfc_io.specs.declared.rest.Rest.TheVariants as rests
-use Rattle.bench_script.specs.Limits.{most_lines, AreWithinLimits}
+use Rattle.bench_script.specs.Limits.{most_lines, longest_line, AreWithinLimits}
+use Rattle.nfc_bench.specs.Limits.{longest_script}
 use Rattle.nfc_bench.specs.AuditInput.{mark, most_report, HaveNoMark, HasReport, LacksReport, HasNone, ends_in}
 use Rattle.nfc_bench.specs.declared.top.audit_input.Ahead.{Ahead}
 use Rattle.nfc_bench.specs.declared.top.audit_input.Ahead.TheVariants.{Marked, Unmarked}
@@ -21,6 +23,16 @@ abbrev pub GoesTo : Lined → Lined → Option (List ℕ) → Option (List ℕ) 
 GoesTo a b left left' Line = Advances a b left left' (Ok true) × (b.line ≢ mark)
 GoesTo a b left left' Mark = Advances a b left left' (Ok true) × (b.line ≡ mark)
 GoesTo a b left left' Nothing = Advances a b left left' (Ok false) ⊎ Advances a b left left' (Err stops.TooLong)
+
+-- It came to something, and holds no more than it has room for.
+pub record WentOn (a b : Lined) (left left' : Option (List ℕ)) : Type 0 where
+  pub result : Result Bool LineStop
+  pub advanced : Advances a b left left' result
+  pub few : length b.held ≤ 4097
+
+-- how many bytes are read up to the line that ends a script: those of two lines more at most, of which one is held
+abbrev pub most_ahead : ℕ
+most_ahead = longest_script + 2 * (longest_line + 1)
 
 -- The lines of a script, as they were read: these are their bytes, each with its LF, and so many they are.
 pub record AreLines (lines : List (List ℕ)) (script : List ℕ) (count : ℕ) : Type 0 where

@@ -10,3 +10,5 @@ pub mod Gathering
 pub mod AuditInput
 pub mod AuditReading
 pub mod AuditText
+pub mod Audit
+pub mod AuditStops

@@ -7,8 +7,11 @@ ghost use Rattle.nfc_bench.specs.Limits.{most_read};
 ghost use Rattle.nfc_bench.specs.Run.{Ran, sees, line_fault, AllTaken, AddsFault, EndsDone, EndsRefused, EndsUnread, EndsUnwritten, EndsMemory, ReadsInTime, ReadsAtMost};
 ghost use Rattle.bench_world.specs.Obeying.{new_bench};
 
+mod audit;
 mod audit_input;
 mod audit_telling;
+#[cfg(test)]
+mod audit_tests;
 mod counting;
 mod found;
 mod gathering;

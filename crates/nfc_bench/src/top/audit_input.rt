@@ -1,10 +1,12 @@
 //! An input to be audited: the lines of a script, the line that ends them, and a report.
 
-ghost use Rattle.std.specs.Prelude.{◌≡◌, ◌≤◌, ◌<◌, ◌^◌, ◌++◌, [], ◌∷◌, length, None, IfOk, OnOk, Err};
+ghost use Rattle.std.specs.Prelude.{◌≡◌, ◌+◌, ◌≤◌, ◌<◌, ◌^◌, ◌++◌, [], ◌∷◌, length, None, IfOk, OnOk, Err};
 ghost use Rattle.nfc_io.specs.Counts.{HasRisen};
 ghost use Rattle.nfc_io.specs.Reading.{new_lined};
-ghost use Rattle.nfc_bench.specs.AuditInput.{ends_in};
-ghost use Rattle.nfc_bench.specs.AuditReading.{GoesTo, Comes, HandsReport, ReadsInput};
+ghost use Rattle.nfc_bench.specs.AuditInput.{ends_in, most_report, most_audited};
+ghost use Rattle.nfc_bench.specs.Limits.{chunk_size};
+ghost use Rattle.nfc_bench.specs.Run.{ReadsAtMost};
+ghost use Rattle.nfc_bench.specs.AuditReading.{most_ahead, GoesTo, WentOn, Comes, HandsReport, ReadsInput};
 
 use super::script::Unread;
 use nfc_io::{LineReader, LineStop, Rest, RestFault, Source};
@@ -59,6 +61,7 @@ pub enum Ahead {
 fn next_line<S: Source>(reader: &mut LineReader, source: &mut S) -> Result<Next, Unread>
     requires { reader.old.stop ≡ None }
     ensures ok { IfOk result (λ next. GoesTo reader.old reader.new (S.left source.old) (S.left source.new) next) }
+    ensures went { WentOn reader.old reader.new (S.left source.old) (S.left source.new) }
     ensures still { OnOk result (S.faults source.new ≡ S.faults source.old) }
     ensures cause { result ≡ Err Unread.Fault → HasRisen (S.faults source.old) (S.faults source.new) }
     ensures count { S.faults source.old ≤ S.faults source.new }
@@ -89,6 +92,7 @@ fn read_ahead<S: Source>(
 ) -> Result<Ahead, Unread>
     requires { reader.old ≡ new_lined }
     ensures ok { IfOk result (λ a. Comes (S.left source.old) (S.left source.new) reader.new a) }
+    ensures bound { ReadsAtMost most_ahead (S.left source.old) (S.left source.new) }
     ensures still { OnOk result (S.faults source.new ≡ S.faults source.old) }
     ensures cause { result ≡ Err Unread.Fault → HasRisen (S.faults source.old) (S.faults source.new) }
     ensures count { S.faults source.old ≤ S.faults source.new }
@@ -125,6 +129,7 @@ fn ends_in(bytes: &[u8]) -> u32
 }
 
 /// Reads what stands behind the line that ends a script of so many lines.
+#[tactic(auto, using(crate::proofs::AuditBounds::rest_bound, crate::proofs::AuditBounds::fault_bound))]
 fn read_report<S: Source>(
     alloc: Global,
     reader: LineReader,
@@ -134,6 +139,7 @@ fn read_report<S: Source>(
     requires going { reader.stop ≡ None }
     requires few { count ≤ 1000 }
     ensures ok { IfOk result (λ behind. HandsReport reader (S.left source.old) (S.left source.new) count behind) }
+    ensures bound { ReadsAtMost (most_report + chunk_size) (S.left source.old) (S.left source.new) }
     ensures still { OnOk result (S.faults source.new ≡ S.faults source.old) }
     ensures cause { result ≡ Err Unread.Fault → HasRisen (S.faults source.old) (S.faults source.new) }
     ensures count { S.faults source.old ≤ S.faults source.new }
@@ -155,6 +161,7 @@ fn read_report<S: Source>(
 pub fn read_input<S: Source>(alloc: Global, source: &mut S) -> Result<AuditInput, Unread>
     ensures ok { IfOk result
         (λ i. ReadsInput (S.left source.old) (S.left source.new) i.script.items i.behind) }
+    ensures bound { ReadsAtMost most_audited (S.left source.old) (S.left source.new) }
     ensures still { OnOk result (S.faults source.new ≡ S.faults source.old) }
     ensures cause { result ≡ Err Unread.Fault → HasRisen (S.faults source.old) (S.faults source.new) }
     ensures count { S.faults source.old ≤ S.faults source.new }

@@ -2,6 +2,7 @@ use Rattle.std.proofs.Common.{◌≡◌, ℕ, ◌+◌, ◌++◌, ◌∷◌, [], 
 use Rattle.nfc_io.specs.Reading.{Lined}
 use Rattle.nfc_bench.specs.AuditReading.{GoesTo, HasGathered}
 use Rattle.nfc_bench.specs.declared.top.audit_input.Next.TheVariants.{Line, Mark, Nothing}
+use Rattle.nfc_bench.proofs.AuditBounds.{ahead_bound}
 use Rattle.nfc_bench.proofs.AuditReading.{gathered_more, comes_to_mark, comes_nowhere, none_too_many}
 use Rattle.nfc_bench.proofs.top.audit_input.read_ahead.Goals as goal
 
@@ -65,3 +66,43 @@ returns-in-Ok-Nothing-next_line-clause-ok g c =
     let goes : GoesTo c.lines.reader c.next_line-2.new.reader mid left' Nothing =
     subst (λ n. GoesTo c.lines.reader c.next_line-2.new.reader mid left' n) c.in-Ok-Nothing-next_line.field-0-is c.in-Ok-Nothing-next_line.ensures.ok in
     (comes_nowhere left mid left' c.lines.reader c.next_line-2.new.reader c.lines.script.items c.lines.count c.lines.invariant.gathered goes, c.lines.invariant.few)
+
+pub returns-in-Ok-Mark-clause-bound : goal.returns-in-Ok-Mark-clause-bound
+returns-in-Ok-Mark-clause-bound g c =
+    ahead_bound (g.S.Source.left c.args.source.now) (g.S.Source.left c.lines.source) (g.S.Source.left c.next_line.new.source) c.lines.reader c.next_line.new.reader c.lines.script.items c.lines.count
+    c.lines.invariant.gathered c.in-Ok-Mark.ensures.went
+
+pub returns-in-Ok-Nothing-clause-bound : goal.returns-in-Ok-Nothing-clause-bound
+returns-in-Ok-Nothing-clause-bound g c =
+    ahead_bound (g.S.Source.left c.args.source.now) (g.S.Source.left c.lines.source) (g.S.Source.left c.next_line.new.source) c.lines.reader c.next_line.new.reader c.lines.script.items c.lines.count
+    c.lines.invariant.gathered c.in-Ok-Nothing.ensures.went
+
+pub returns-in-Err-clause-bound : goal.returns-in-Err-clause-bound
+returns-in-Err-clause-bound g c =
+    ahead_bound (g.S.Source.left c.args.source.now) (g.S.Source.left c.lines.source) (g.S.Source.left c.next_line.new.source) c.lines.reader c.next_line.new.reader c.lines.script.items c.lines.count
+    c.lines.invariant.gathered c.in-Err.ensures.went
+
+pub returns-in_default-clause-bound : goal.returns-in_default-clause-bound
+returns-in_default-clause-bound g c =
+    ahead_bound (g.S.Source.left c.args.source.now) (g.S.Source.left c.lines.source) (g.S.Source.left c.next_line.new.source) c.lines.reader c.next_line.new.reader c.lines.script.items c.lines.count
+    c.lines.invariant.gathered c.in-Ok-Line.ensures.went
+
+pub returns-in-Ok-Line-next_line-clause-bound : goal.returns-in-Ok-Line-next_line-clause-bound
+returns-in-Ok-Line-next_line-clause-bound g c =
+    ahead_bound (g.S.Source.left c.args.source.now) (g.S.Source.left c.lines.source) (g.S.Source.left c.next_line-2.new.source) c.lines.reader c.next_line-2.new.reader c.lines.script.items c.lines.count
+    c.lines.invariant.gathered c.in-Ok-Line-next_line.ensures.went
+
+pub returns-in-Ok-Mark-next_line-clause-bound : goal.returns-in-Ok-Mark-next_line-clause-bound
+returns-in-Ok-Mark-next_line-clause-bound g c =
+    ahead_bound (g.S.Source.left c.args.source.now) (g.S.Source.left c.lines.source) (g.S.Source.left c.next_line-2.new.source) c.lines.reader c.next_line-2.new.reader c.lines.script.items c.lines.count
+    c.lines.invariant.gathered c.in-Ok-Mark-next_line.ensures.went
+
+pub returns-in-Ok-Nothing-next_line-clause-bound : goal.returns-in-Ok-Nothing-next_line-clause-bound
+returns-in-Ok-Nothing-next_line-clause-bound g c =
+    ahead_bound (g.S.Source.left c.args.source.now) (g.S.Source.left c.lines.source) (g.S.Source.left c.next_line-2.new.source) c.lines.reader c.next_line-2.new.reader c.lines.script.items c.lines.count
+    c.lines.invariant.gathered c.in-Ok-Nothing-next_line.ensures.went
+
+pub returns-in-Err-next_line-clause-bound : goal.returns-in-Err-next_line-clause-bound
+returns-in-Err-next_line-clause-bound g c =
+    ahead_bound (g.S.Source.left c.args.source.now) (g.S.Source.left c.lines.source) (g.S.Source.left c.next_line-2.new.source) c.lines.reader c.next_line-2.new.reader c.lines.script.items c.lines.count
+    c.lines.invariant.gathered c.in-Err-next_line.ensures.went

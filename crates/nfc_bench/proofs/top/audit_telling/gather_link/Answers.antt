@@ -1,4 +1,4 @@
-use Rattle.std.proofs.Common.{◌≡◌, ℕ, ◌+◌, List, [], ◌++◌, get_or, drop, Option, ◌∙◌, subst, ap, arith}
+use Rattle.std.proofs.Common.{◌≡◌, ℕ, ◌+◌, List, ◌++◌, get_or, drop, Option, ◌∙◌, subst, arith}
 use Rattle.nfc_io.specs.Moves.{GainsFront}
 use Rattle.nfc_bench.specs.AuditText.{accepted_line, messages_text}
 use Rattle.nfc_bench.specs.Gathering.{IsWritten}

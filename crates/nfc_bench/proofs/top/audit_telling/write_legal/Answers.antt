@@ -1,4 +1,4 @@
-use Rattle.std.proofs.Common.{◌≡◌, ℕ, List, [], ◌++◌, length, Option, ◌∙◌, subst, ap}
+use Rattle.std.proofs.Common.{◌≡◌, ℕ, List, ◌++◌, length, Option, ◌∙◌, subst, ap}
 use Rattle.nfc_io.specs.Moves.{with_end, GainsFront}
 use Rattle.nfc_io.proofs.Moves.{GainsFront-more}
 use Rattle.nfc_bench.specs.AuditText.{legal_line, links_text}
