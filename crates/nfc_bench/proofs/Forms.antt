@@ -5,14 +5,26 @@ use Rattle.std.specs.Fmt.{decimal}
 use Rattle.std.proofs.lemmas.Fmt.{decimal_injective}
 use Rattle.workload.specs.Workload.{IsCount}
 use Rattle.nfc_bench.specs.declared.top.words.Form.{Form}
-use Rattle.nfc_bench.specs.declared.top.words.Form.TheVariants.{Run, Sweep, Make}
+use Rattle.nfc_bench.specs.declared.top.words.Form.TheVariants.{Run, Sweep, Audit, Make}
 use Rattle.nfc_bench.specs.Run.{FormOf, most_seed}
 
--- `run` isn't `sweep`
+-- `run`, `sweep` and `audit` begin with three letters
+abbrev first_letter : List (List ℕ) → ℕ
+first_letter words = get_or (get_or words 0 []) 0 0
+
 run_or_sweep : (words : List (List ℕ)) → words ≡ codes "run" ∷ [] → words ≡ codes "sweep" ∷ [] → ⊥
 run_or_sweep words one two =
-    let letter : List (List ℕ) → ℕ = λ ws. get_or (get_or ws 0 []) 0 0 in
-    let same : 114 ≡ 115 = sym (ap letter one) ∙ ap letter two in
+    let same : 114 ≡ 115 = sym (ap first_letter one) ∙ ap first_letter two in
+    omega (arith, same)
+
+run_or_audit : (words : List (List ℕ)) → words ≡ codes "run" ∷ [] → words ≡ codes "audit" ∷ [] → ⊥
+run_or_audit words one two =
+    let same : 114 ≡ 97 = sym (ap first_letter one) ∙ ap first_letter two in
+    omega (arith, same)
+
+sweep_or_audit : (words : List (List ℕ)) → words ≡ codes "sweep" ∷ [] → words ≡ codes "audit" ∷ [] → ⊥
+sweep_or_audit words one two =
+    let same : 115 ≡ 97 = sym (ap first_letter one) ∙ ap first_letter two in
     omega (arith, same)
 
 -- no words are of two forms
@@ -32,6 +44,15 @@ one_form words (Run true) Sweep one two = absurd (omega (arith, ap length one, a
 one_form words Sweep (Run true) one two = absurd (omega (arith, ap length one, ap length two))
 one_form words Sweep (Make seed count) one two = absurd (omega (arith, ap length one, ap length two.0))
 one_form words (Make seed count) Sweep one two = absurd (omega (arith, ap length one.0, ap length two))
+one_form words Audit Audit one two = refl
+one_form words (Run false) Audit one two = absurd (run_or_audit words one two)
+one_form words Audit (Run false) one two = absurd (run_or_audit words two one)
+one_form words (Run true) Audit one two = absurd (omega (arith, ap length one, ap length two))
+one_form words Audit (Run true) one two = absurd (omega (arith, ap length one, ap length two))
+one_form words Sweep Audit one two = absurd (sweep_or_audit words one two)
+one_form words Audit Sweep one two = absurd (sweep_or_audit words two one)
+one_form words Audit (Make seed count) one two = absurd (omega (arith, ap length one, ap length two.0))
+one_form words (Make seed count) Audit one two = absurd (omega (arith, ap length one.0, ap length two))
 one_form words (Make seed count) (Make seed' count') one two =
     let word : ℕ → List (List ℕ) → List ℕ = λ i ws. get_or ws i [] in
     let first : decimal seed ≡ decimal seed' = sym (ap (word 1) one.0) ∙ ap (word 1) two.0 in
@@ -48,6 +69,9 @@ pub not_six : (n : ℕ) → (n ≡ 0) ⊎ ((2 ≤ n) × (n ≤ 5)) → n ≡ 6 �
 not_six n (inl none) six = omega (arith, none, six)
 not_six n (inr some) six = omega (arith, some.1, six)
 
+pub not_six_audit : (n : ℕ) → n ≤ 5 → n ≡ 6 → ⊥
+not_six_audit n few six = omega (arith, few, six)
+
 pub not_six_made : (n : ℕ) → (n ≡ 0) ⊎ ((n ≡ 4) ⊎ (n ≡ 5)) → n ≡ 6 → ⊥
 not_six_made n (inl none) six = omega (arith, none, six)
 not_six_made n (inr (inl four)) six = omega (arith, four, six)
@@ -58,5 +82,6 @@ pub made_words : (seed count : List ℕ) (form : Form) → FormOf (codes "make" 
 made_words seed count (Run false) is = absurd (omega (arith, ap length is))
 made_words seed count (Run true) is = absurd (omega (arith, ap length is))
 made_words seed count Sweep is = absurd (omega (arith, ap length is))
+made_words seed count Audit is = absurd (omega (arith, ap length is))
 made_words seed count (Make s n) (words, few, many) =
     let word : ℕ → List (List ℕ) → List ℕ = λ i ws. get_or ws i [] in (s, n, ap (word 1) words, ap (word 2) words, few, many)

@@ -8,7 +8,6 @@ use Rattle.bench_world.specs.Obeying.{Benched}
 use Rattle.trace_audit.specs.Auditing.{AreAudited, IsFaultyAt, IsReportOf, IsUnauditedAt}
 use Rattle.nfc_bench.specs.AuditInput.{most_report, most_audited, HaveNoMark, HasReport, IsScriptOf, HasNone}
 use Rattle.nfc_bench.specs.AuditText.{faulty_line, legal_text}
-use Rattle.nfc_bench.specs.Run.{Seen, line_fault, read_fault, memory_fault, AddsFault, ReadsAtMost}
 
 -- An input that is audited: a script, whose lines are all audited, and a report that isn't too long.
 pub record IsAudited (input : List ℕ) : Type 0 where
@@ -50,20 +49,6 @@ pub record EndsFaulty (left left' taken taken' : Option (List ℕ)) : Type 0 whe
   pub faulty : IsFaultyAt read.parts.lines read.parts.report number
   pub written : taken' ≡ with_end taken (faulty_line number)
 
--- Status 2: this line of the input isn't audited.
-pub record EndsUnaudited (left taken taken' : Option (List ℕ)) (writes writes' : ℕ) : Type 0 where
-  pub input : List ℕ
-  pub told : IfSome left (λ bytes. input ≡ bytes)
-  pub number : ℕ
-  pub line : IsUnaudited input number
-  pub written : AddsFault [] (line_fault number) taken taken' writes writes'
-
--- Status 3: the source failed, and no line was followed.
-pub record EndsUnheard (taken taken' : Option (List ℕ)) (reads reads' writes writes' : ℕ) (b b' : Benched) : Type 0 where
-  pub risen : HasRisen reads reads'
-  pub bench : b' ≡ b
-  pub written : AddsFault [] read_fault taken taken' writes writes'
-
 -- what an audit found, of which the sink gained a front
 abbrev pub IsCutOff : List (List ℕ) → List ℕ → Option (List ℕ) → Option (List ℕ) → Benched → Type 0
 IsCutOff lines report taken taken' b =
@@ -75,22 +60,3 @@ pub record EndsUnfound (left left' taken taken' : Option (List ℕ)) (writes wri
   pub risen : HasRisen writes writes'
   pub read : ReadsAudited left left'
   pub found : IsCutOff read.parts.lines read.parts.report taken taken' b
-
--- Where an input is audited and neither count rose, there is a verdict, or memory is wanting.
-abbrev pub Verdicts : {S : Type 0} → Seen S → Seen S → ℕ → Type 0
-Verdicts old new n =
-    (bytes : List ℕ) → old.left ≡ Some bytes → IsAudited bytes → (HasRisen old.reads new.reads → ⊥)
-    → (HasRisen old.writes new.writes → ⊥) → (n ≡ 0) ⊎ ((n ≡ 1) ⊎ (n ≡ 5))
-
--- What an audit did. At status 5 memory was wanting; of the bench nothing is said but at 0 and 3.
-pub record RanAudit {S : Type 0} (old new : Seen S) (n : ℕ) : Type 0 where
-  pub status : n ≤ 5
-  pub legal : n ≡ 0 → EndsLegal old.left new.left old.taken new.taken new.bench
-  pub faulty : n ≡ 1 → EndsFaulty old.left new.left old.taken new.taken
-  pub still : n ≤ 1 → (new.reads ≡ old.reads) × (new.writes ≡ old.writes)
-  pub refused : n ≡ 2 → EndsUnaudited old.left old.taken new.taken old.writes new.writes
-  pub unread : n ≡ 3 → EndsUnheard old.taken new.taken old.reads new.reads old.writes new.writes old.bench new.bench
-  pub unwritten : n ≡ 4 → EndsUnfound old.left new.left old.taken new.taken old.writes new.writes new.bench
-  pub memory : n ≡ 5 → AddsFault [] memory_fault old.taken new.taken old.writes new.writes
-  pub complete : Verdicts old new n
-  pub bound : ReadsAtMost most_audited old.left new.left

@@ -18,7 +18,7 @@ use Rattle.nfc_io.specs.Lines.{lines_of, whole_lines}
 use Rattle.bench_script.specs.Limits.{most_lines, longest_line, AreWithinLimits}
 use Rattle.nfc_bench.specs.Limits.{chunk_size, most_read}
 use Rattle.nfc_bench.specs.declared.top.words.Form.{Form}
-use Rattle.nfc_bench.specs.declared.top.words.Form.TheVariants.{Run, Sweep, Make}
+use Rattle.nfc_bench.specs.declared.top.words.Form.TheVariants.{Run, Sweep, Audit, Make}
 use Rattle.nfc_bench.specs.declared.top.program.WordsFault.{WordsFault}
 use Rattle.nfc_bench.specs.declared.top.program.WordsFault.TheVariants.{Memory, NoText}
 use Rattle.bench_world.specs.Legal.{State, no_joins}
@@ -30,6 +30,8 @@ use Rattle.bench_world.specs.LinkLaw.{LinksAccept}
 use Rattle.bench_world.specs.Taking.{IsTaken, AreTaken, standing_of}
 use Rattle.bench_world.specs.Report.{entry_text, report_text}
 use Rattle.workload.specs.Workload.{IsCount, workload_lines, workload_commands}
+use Rattle.nfc_bench.specs.Audit.{IsAudited, IsUnaudited, EndsLegal, EndsFaulty, EndsUnfound}
+use Rattle.nfc_bench.specs.AuditInput.{most_audited}
 use Rattle.nfc_bench.specs.Made.{made_line}
 use Rattle.nfc_bench.specs.Sweep.{sweep_lines, read_line, last_entry, all_transmissions, found_in, found_line}
 
@@ -42,6 +44,7 @@ abbrev pub FormOf : List (List ℕ) → Form → Type 0
 FormOf words (Run false) = words ≡ codes "run" ∷ []
 FormOf words (Run true) = words ≡ codes "run" ∷ codes "quiet" ∷ []
 FormOf words Sweep = words ≡ codes "sweep" ∷ []
+FormOf words Audit = words ≡ codes "audit" ∷ []
 FormOf words (Make seed count) = (words ≡ codes "make" ∷ decimal seed ∷ decimal count ∷ []) × (seed ≤ most_seed) × IsCount count
 
 -- What a run sees: its source, what that has left and the sink has taken, where they tell it, how often each failed,
@@ -420,11 +423,47 @@ pub record RanSweep {S : Type 0} (old new : Seen S) (n : ℕ) : Type 0 where
   pub stop : ReadsInTime old.left new.left
   pub bound : ReadsAtMost most_read old.left new.left
 
+-- An audit of a report by its script (Audit.antt).
+
+-- Status 2: this line of the input isn't audited.
+pub record EndsUnaudited (left taken taken' : Option (List ℕ)) (writes writes' : ℕ) : Type 0 where
+  pub input : List ℕ
+  pub told : IfSome left (λ bytes. input ≡ bytes)
+  pub number : ℕ
+  pub line : IsUnaudited input number
+  pub written : AddsFault [] (line_fault number) taken taken' writes writes'
+
+-- Status 3: the source failed, and no line was followed.
+pub record EndsUnheard (taken taken' : Option (List ℕ)) (reads reads' writes writes' : ℕ) (b b' : Benched) : Type 0 where
+  pub risen : HasRisen reads reads'
+  pub bench : b' ≡ b
+  pub written : AddsFault [] read_fault taken taken' writes writes'
+
+-- Where an input is audited and neither count rose, there is a verdict, or memory is wanting.
+abbrev pub Verdicts : {S : Type 0} → Seen S → Seen S → ℕ → Type 0
+Verdicts old new n =
+    (bytes : List ℕ) → old.left ≡ Some bytes → IsAudited bytes → (HasRisen old.reads new.reads → ⊥)
+    → (HasRisen old.writes new.writes → ⊥) → (n ≡ 0) ⊎ ((n ≡ 1) ⊎ (n ≡ 5))
+
+-- What an audit did. At status 5 memory was wanting; of the bench nothing is said but at 0 and 3.
+pub record RanAudit {S : Type 0} (old new : Seen S) (n : ℕ) : Type 0 where
+  pub status : n ≤ 5
+  pub legal : n ≡ 0 → EndsLegal old.left new.left old.taken new.taken new.bench
+  pub faulty : n ≡ 1 → EndsFaulty old.left new.left old.taken new.taken
+  pub still : n ≤ 1 → (new.reads ≡ old.reads) × (new.writes ≡ old.writes)
+  pub refused : n ≡ 2 → EndsUnaudited old.left old.taken new.taken old.writes new.writes
+  pub unread : n ≡ 3 → EndsUnheard old.taken new.taken old.reads new.reads old.writes new.writes old.bench new.bench
+  pub unwritten : n ≡ 4 → EndsUnfound old.left new.left old.taken new.taken old.writes new.writes new.bench
+  pub memory : n ≡ 5 → AddsFault [] memory_fault old.taken new.taken old.writes new.writes
+  pub complete : Verdicts old new n
+  pub bound : ReadsAtMost most_audited old.left new.left
+
 -- What a run of a form did: which statuses there are and what each means is the form's own.
 abbrev pub RanAs : {S : Type 0} → Form → Seen S → Seen S → ℕ → Type 0
 RanAs (Run quiet) old new n = RanScript quiet old new n
 RanAs (Make seed count) old new n = RanWorkload seed count old new n
 RanAs Sweep old new n = RanSweep old new n
+RanAs Audit old new n = RanAudit old new n
 
 -- What is left as it was, and the fault line, where the words are of no form: nothing was read, and no line obeyed.
 pub record RefusesWords {S : Type 0} (old new : Seen S) : Type 0 where

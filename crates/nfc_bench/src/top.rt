@@ -42,6 +42,7 @@ mod world_tests;
 mod writing;
 
 use arrayvec::ArrayVec;
+use audit::audit_and_tell;
 use bench_world::Bench;
 use lines::{Stop, run_script};
 use making::make_and_tell;
@@ -67,6 +68,7 @@ pub fn run_bench<S: Source, K: Sink>(
     match form_of(words) {
         Some(Form::Run { quiet }) => run_and_tell(alloc, quiet, source, sink, bench),
         Some(Form::Sweep) => sweep_and_tell(alloc, source, sink, bench),
+        Some(Form::Audit) => audit_and_tell(alloc, source, sink, bench),
         Some(Form::Make { seed, count }) => make_and_tell(alloc, seed, count, sink, bench),
         None => {
             write_fault(sink, b"fault 6 words\n");

@@ -6,10 +6,10 @@ ghost use Rattle.nfc_io.specs.Lines.{lines_of};
 ghost use Rattle.bench_script.specs.Limits.{AreWithinLimits};
 ghost use Rattle.bench_world.specs.Obeying.{new_bench};
 ghost use Rattle.trace_audit.specs.Judging.{Judges};
-ghost use Rattle.nfc_bench.specs.Audit.{EndsLegal, EndsFaulty, EndsUnaudited, EndsUnheard, EndsUnfound, IsAudited};
+ghost use Rattle.nfc_bench.specs.Audit.{EndsLegal, EndsFaulty, EndsUnfound, IsAudited};
 ghost use Rattle.nfc_bench.specs.AuditInput.{most_audited};
 ghost use Rattle.nfc_bench.specs.AuditStops.{HasJudged, LinesStop, AuditStops};
-ghost use Rattle.nfc_bench.specs.Run.{AddsFault, ReadsAtMost, memory_fault};
+ghost use Rattle.nfc_bench.specs.Run.{AddsFault, EndsUnaudited, EndsUnheard, ReadsAtMost, memory_fault};
 
 use super::audit_input::{AuditInput, Behind, read_input};
 use super::audit_telling::{faulty_line, write_legal};

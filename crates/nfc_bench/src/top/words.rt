@@ -15,6 +15,8 @@ pub enum Form {
     Run { quiet: bool },
     /// A run over a script, and one more for each transmission of its last line, in which a Break comes there.
     Sweep,
+    /// An audit of a report by the script before it.
+    Audit,
     /// A run over the workload of a seed and a count, of which one line tells what came through.
     Make { seed: u16, count: u8 },
 }
@@ -67,6 +69,7 @@ pub fn form_of(words: &[String]) -> Option<Form>
             form_of_workload(seed.as_str(), count.as_str())
         }
         [sweep] if sweep.as_str() == "sweep" => Some(Form::Sweep),
+        [audit] if audit.as_str() == "audit" => Some(Form::Audit),
         _ => None,
     }
 }

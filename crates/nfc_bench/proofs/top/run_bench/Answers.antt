@@ -1,8 +1,8 @@
 use Rattle.std.proofs.Common.{ℕ, refl, sym, subst, string_bytes, map, arith}
 use Rattle.nfc_bench.specs.declared.top.words.Form.{Form}
 use Rattle.nfc_bench.specs.declared.top.words.Form.TheVariants.{Make}
-use Rattle.nfc_bench.specs.Run.{FormOf, RanAs, RanScript, RanSweep, RanWorkload, RefusesWords, sees}
-use Rattle.nfc_bench.proofs.Forms.{by_form, not_six, not_six_made}
+use Rattle.nfc_bench.specs.Run.{FormOf, RanAs, RanAudit, RanScript, RanSweep, RanWorkload, RefusesWords, sees}
+use Rattle.nfc_bench.proofs.Forms.{by_form, not_six, not_six_audit, not_six_made}
 use Rattle.nfc_bench.proofs.top.run_bench.Goals as goal
 
 pub returns-in-Some-Run : goal.returns-in-Some-Run
@@ -64,6 +64,36 @@ returns-in-Some-Sweep g c =
         known = by_form words form of (λ f. RanAs f old new n) (subst (λ f. RanAs f old new n) (sym c.in-Some-Sweep.field-0-is) swept);
         unknown = (λ six. absurd (not_six n e.status six), λ none. absurd (none form of));
         same = λ six. absurd {A = RefusesWords old new} (not_six n e.status six);
+        counts = (e.reads, e.writes);
+      };
+    }
+
+pub returns-in-Some-Audit : goal.returns-in-Some-Audit
+returns-in-Some-Audit g c =
+    let words = map string_bytes c.args.words.now in
+    let old = sees g.S.Source g.K.Sink c.args.source.now c.args.sink.now c.args.bench.now in
+    let new = sees g.S.Source g.K.Sink c.audit_and_tell.new.source c.audit_and_tell.new.sink c.audit_and_tell.new.bench in
+    let n : ℕ = c.audit_and_tell.result in
+    let e = c.audit_and_tell.ensures in
+    let form : Form = c.in-Some-Audit.field-0 in
+    let of : FormOf words form = c.in-Some-Audit.ensures.some in
+    let audited : RanAudit old new n = record {
+      status = e.status;
+      legal = e.legal;
+      faulty = e.faulty;
+      still = e.still;
+      refused = e.refused;
+      unread = e.unread;
+      unwritten = e.unwritten;
+      memory = e.memory;
+      complete = e.complete;
+      bound = e.bound;
+    } in
+    record {
+      ran = record {
+        known = by_form words form of (λ f. RanAs f old new n) (subst (λ f. RanAs f old new n) (sym c.in-Some-Audit.field-0-is) audited);
+        unknown = (λ six. absurd (not_six_audit n e.status six), λ none. absurd (none form of));
+        same = λ six. absurd {A = RefusesWords old new} (not_six_audit n e.status six);
         counts = (e.reads, e.writes);
       };
     }

@@ -30,10 +30,10 @@ pub returns-in-len2-clause-some : goal.returns-in-len2-clause-some
 returns-in-len2-clause-some c =
     let two = only_two c.args.words.now c.run-item-then-words-lt3.result c.quiet-item.result (omega arith) c.run-item-then-words-lt3.is c.quiet-item.is in
     let first : List ℕ = c.as_str-then-words-lt3.result.now in
-    let second : List ℕ = c.as_str-then-eq-3.result.now in
-    let run : first ≡ codes "run" = same_text first (codes "run") (sym c.if-eq-3.true ∙ c.eq-then-words-lt3.ensures) in
-    let quiet : second ≡ codes "quiet" = same_text second (codes "quiet") (sym c.if-eq-4.true ∙ c.eq-then-eq-3.ensures) in
-    rw two (ap (λ w. w ∷ string_bytes c.quiet-item.result ∷ []) (sym c.as_str-then-words-lt3.ensures.value ∙ run) ∙ ap (λ w. codes "run" ∷ w ∷ []) (sym c.as_str-then-eq-3.ensures.value ∙ quiet))
+    let second : List ℕ = c.as_str-then-eq-4.result.now in
+    let run : first ≡ codes "run" = same_text first (codes "run") (sym c.if-eq-4.true ∙ c.eq-then-words-lt3.ensures) in
+    let quiet : second ≡ codes "quiet" = same_text second (codes "quiet") (sym c.if-eq-5.true ∙ c.eq-then-eq-4.ensures) in
+    rw two (ap (λ w. w ∷ string_bytes c.quiet-item.result ∷ []) (sym c.as_str-then-words-lt3.ensures.value ∙ run) ∙ ap (λ w. codes "run" ∷ w ∷ []) (sym c.as_str-then-eq-4.ensures.value ∙ quiet))
 
 pub returns-in-len3-clause-some : goal.returns-in-len3-clause-some
 returns-in-len3-clause-some c =
@@ -41,7 +41,7 @@ returns-in-len3-clause-some c =
     let first : List ℕ = c.as_str-then-words-lt4.result.now in
     let seed : List ℕ = c.as_str-in-len3.result.now in
     let count : List ℕ = c.as_str-in-len3-2.result.now in
-    let make : first ≡ codes "make" = same_text first (codes "make") (sym c.if-eq-5.true ∙ c.eq-then-words-lt4.ensures) in
+    let make : first ≡ codes "make" = same_text first (codes "make") (sym c.if-eq-6.true ∙ c.eq-then-words-lt4.ensures) in
     let words : map string_bytes c.args.words.now ≡ codes "make" ∷ seed ∷ count ∷ [] =
     ap (map string_bytes) three
     ∙ ap (λ w. w ∷ string_bytes c.seed-item.result ∷ string_bytes c.count-item.result ∷ []) (sym c.as_str-then-words-lt4.ensures.value ∙ make)
@@ -56,3 +56,10 @@ returns-in-len1-2-clause-some c =
     let text : List ℕ = c.as_str-then-words-lt2.result.now in
     let same : text ≡ codes "sweep" = same_text text (codes "sweep") (sym c.if-eq-2.true ∙ c.eq-then-words-lt2.ensures) in
     rw one (ap (λ w. w ∷ []) (sym c.as_str-then-words-lt2.ensures.value ∙ same))
+
+pub returns-in-len1-3-clause-some : goal.returns-in-len1-3-clause-some
+returns-in-len1-3-clause-some c =
+    let one = only_one c.args.words.now c.audit-item.result (omega arith) c.audit-item.is in
+    let text : List ℕ = c.as_str-then-words-lt2-2.result.now in
+    let same : text ≡ codes "audit" = same_text text (codes "audit") (sym c.if-eq-3.true ∙ c.eq-then-words-lt2-2.ensures) in
+    rw one (ap (λ w. w ∷ []) (sym c.as_str-then-words-lt2-2.ensures.value ∙ same))
