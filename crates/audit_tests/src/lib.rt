@@ -2,4 +2,8 @@
 #![tactic(auto)]
 
 #[cfg(test)]
+mod own_report_tests;
+#[cfg(test)]
 mod reading_tests;
+#[cfg(test)]
+mod verdict_tests;

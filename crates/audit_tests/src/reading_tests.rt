@@ -113,7 +113,8 @@ fn tech_letter(frame: &Frame) -> u8 {
 
 #[test]
 fn events_have_the_technology_of_their_request(rt: HostRuntime) -> Result<(), Fail> {
-    const SEARCH: &[u8] = b"7 ! reset\n7 > 26/7 pass\n7 < 4400 pass\n7 > 260100 pass\n7 < 00 pass\n7 found 0\n";
+    const SEARCH: &[u8] =
+        b"7 ! reset\n7 > 26/7 pass\n7 < 4400 pass\n7 > 260100 pass\n7 < 00 pass\n7 found 0\n";
     let rows: [(Command, &[u8], &[u8], usize); 6] = [
         (Command::Find, SEARCH, b"!AAVV", 10),
         (Command::Crowd, SEARCH, b"!VVVV", 10),
