@@ -36,3 +36,8 @@ RefusedAt s line text Memory = Unit {0}
 abbrev pub JudgedAt : Walk → Verdict → Type 0
 JudgedAt w Legal = (w.strayed ≡ false) × (w.left.now ≡ [])
 JudgedAt w (Faulty n) = (n ≡ w.good + 1) × ((w.strayed ≡ true) ⊎ (0 < length w.left.now))
+
+-- the numbers of the errors
+abbrev pub audit_fault_number : AuditFault → ℕ
+audit_fault_number (Script n) = 1
+audit_fault_number Memory = 2

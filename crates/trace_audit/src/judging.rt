@@ -3,7 +3,7 @@
 ghost use Rattle.std.specs.Prelude.{◌≡◌, ◌+◌, ◌-◌, ◌≤◌, ◌<◌, ◌^◌, List, ℕ, IfOk, IfErr, length};
 ghost use Rattle.bench_world.specs.Obeying.{new_bench};
 ghost use Rattle.nfc_io.specs.Lines.{lines_of};
-ghost use Rattle.trace_audit.specs.Judging.{JudgedAt, Judges, RefusedAt, Refuses};
+ghost use Rattle.trace_audit.specs.Judging.{JudgedAt, Judges, RefusedAt, Refuses, audit_fault_number};
 ghost use Rattle.trace_audit.specs.Stepping.{AuditsLine, Shrinks};
 
 use crate::cutting::next_line;
@@ -27,6 +27,18 @@ pub enum AuditFault {
     Script { line: u32 },
     #[error("out of memory")]
     Memory,
+}
+
+impl AuditFault {
+    /// Its number in reports and tests.
+    pub fn number(&self) -> u8
+        ensures { result ≡ audit_fault_number self.now }
+    {
+        match self {
+            AuditFault::Script { .. } => 1,
+            AuditFault::Memory => 2,
+        }
+    }
 }
 
 /// Judges a report by its script, over a new bench. Each line of the script is followed by the report's next lines; behind the
