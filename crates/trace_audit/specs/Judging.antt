@@ -26,10 +26,6 @@ abbrev pub Refuses : List (List ℕ) → AuditFault → Type 0
 Refuses lines (Script n) = IsUnauditedAt lines n
 Refuses lines Memory = Unit {0}
 
-abbrev pub audit_fault_number : AuditFault → ℕ
-audit_fault_number (Script n) = 1
-audit_fault_number Memory = 2
-
 -- A line of the script is refused where it isn't audited, by its number.
 abbrev pub RefusedAt : State → ℕ → List ℕ → AuditFault → Type 0
 RefusedAt s line text (Script n) = (n ≡ line) × (IsAudited s text → ⊥)
@@ -40,3 +36,8 @@ RefusedAt s line text Memory = Unit {0}
 abbrev pub JudgedAt : Walk → Verdict → Type 0
 JudgedAt w Legal = (w.strayed ≡ false) × (w.left.now ≡ [])
 JudgedAt w (Faulty n) = (n ≡ w.good + 1) × ((w.strayed ≡ true) ⊎ (0 < length w.left.now))
+
+-- the numbers of the errors
+abbrev pub audit_fault_number : AuditFault → ℕ
+audit_fault_number (Script n) = 1
+audit_fault_number Memory = 2

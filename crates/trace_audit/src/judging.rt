@@ -3,7 +3,7 @@
 ghost use Rattle.std.specs.Prelude.{◌≡◌, ◌+◌, ◌-◌, ◌≤◌, ◌<◌, ◌^◌, List, ℕ, IfOk, IfErr, length};
 ghost use Rattle.bench_world.specs.Obeying.{new_bench};
 ghost use Rattle.nfc_io.specs.Lines.{lines_of};
-ghost use Rattle.trace_audit.specs.Judging.{audit_fault_number, JudgedAt, Judges, RefusedAt, Refuses};
+ghost use Rattle.trace_audit.specs.Judging.{JudgedAt, Judges, RefusedAt, Refuses, audit_fault_number};
 ghost use Rattle.trace_audit.specs.Stepping.{AuditsLine, Shrinks};
 
 use crate::cutting::next_line;
@@ -30,7 +30,7 @@ pub enum AuditFault {
 }
 
 impl AuditFault {
-    /// Its number in tests.
+    /// Its number in reports and tests.
     pub fn number(&self) -> u8
         ensures { result ≡ audit_fault_number self.now }
     {
