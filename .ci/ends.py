@@ -49,6 +49,11 @@ read 01020304
 SWEEP = b"""place t5 E004010203040506 4 32 E1400F000303D00000FE
 write E004010203040506 D101
 """
+# A script whose report is audited: two messages are accepted.
+AUDITED = b"""place peer 08010203 3 128 1 1024
+link 08010203 128 1
+puts 0:D1 1:gen:200:0
+"""
 READ_FAULT, WRITE_FAULT = 3, 4
 
 # how many bytes a line of a script may have
@@ -173,8 +178,23 @@ def check_sweep(program):
         yield "the sink of a sweep fails at once: another status or report"
 
 
+def check_audit(program):
+    """An audit reads its whole input before it follows a line, and writes what it found behind that."""
+    audited = AUDITED + b"%%\n" + by_pieces(program, ["run"], AUDITED, 4096)[1]
+    for count in range(len(audited) + 1):
+        if with_source_failing(program, ["audit"], audited, count) != (READ_FAULT, b"fault 3 read\n"):
+            yield f"the source of an audit fails behind byte {count}: another status or report"
+    status, found = by_pieces(program, ["audit"], audited, 4096)
+    pieces = with_sink_failing(program, ["audit"], audited, len(found) + 1)[1]
+    if status != 0 or b"".join(pieces) != found or found.count(b"accepted") != 2:
+        yield "an audit of a script's own report: another status or report"
+    for faulty in (audited, audited + b"x"):
+        if with_sink_failing(program, ["audit"], faulty, 0) != (WRITE_FAULT, []):
+            yield "the sink of an audit fails at once: another status or report"
+
+
 def main(program):
-    faults = [fault for check in (check_pieces, check_source, check_sink, check_sweep) for fault in check(program)]
+    faults = [fault for check in (check_pieces, check_source, check_sink, check_sweep, check_audit) for fault in check(program)]
     for fault in faults:
         print(f"ends: {fault}")
     if not faults:
