@@ -94,7 +94,7 @@ def scripts() -> Iterator[Path]:
         for report in sorted(folder.glob("*.stdout")):
             script = report.with_suffix("")
             words = script.with_name(script.name + ".args")
-            if folder.name != "sweep" and script.exists() and not (words.exists() and "run" != words.read_text().strip()):
+            if folder.name not in ("sweep", "audit") and script.exists() and not (words.exists() and "run" != words.read_text().strip()):
                 yield script
 
 

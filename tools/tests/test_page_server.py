@@ -26,7 +26,7 @@ EXAMPLES = ROOT / "examples"
 
 def stored() -> list[tuple[str, Path]]:
     """The stored reports, which stand beside their scripts, each with its form of words."""
-    cases = [report for report in sorted((ROOT / "tests" / "cases").rglob("*.stdout")) if report.parent.name != "sweep"]
+    cases = [report for report in sorted((ROOT / "tests" / "cases").rglob("*.stdout")) if report.parent.name not in ("sweep", "audit")]
     reports = [*cases, *sorted(EXAMPLES.glob("*.stdout"))]
     return [(form_of(report.with_suffix(".args")), report) for report in reports]
 

@@ -177,11 +177,12 @@ class Reasons(unittest.TestCase):
 
 
 class Stored(unittest.TestCase):
-    """Each stored script, whose report tells which line the program refused; but for sweeps that are refused, which refuse more than a run."""
+    """Each stored script, whose report tells which line the program refused; but for audits, which read a report too, and refused sweeps,
+    which refuse more than a run."""
 
     def scripts(self) -> list[Path]:
-        cases = [path for path in ROOT.glob("tests/cases/*/*") if not path.suffix and not self.is_refused_sweep(path)]
-        return sorted(cases) + sorted(ROOT.glob("examples/*.script"))
+        cases = [path for path in ROOT.glob("tests/cases/*/*") if not path.suffix and path.parent.name != "audit"]
+        return sorted(path for path in cases if not self.is_refused_sweep(path)) + sorted(ROOT.glob("examples/*.script"))
 
     def is_refused_sweep(self, script: Path) -> bool:
         return script.parent.name == "sweep" and "fault 2 " in script.with_name(script.name + ".stdout").read_text("ascii")

@@ -28,7 +28,8 @@ LAST_LINE = re.compile(rb"(?:^|\n)fault 2 line ([0-9]+)\n\Z")
 
 def seeds() -> list[bytes]:
     """The first lines of the short ones of the stored scripts: what is refused doesn't hang on what is sent."""
-    paths = [path for path in ROOT.glob("tests/cases/*/*") if not path.suffix] + list(ROOT.glob("examples/*.script"))
+    cases = [path for path in ROOT.glob("tests/cases/*/*") if not path.suffix and path.parent.name != "audit"]
+    paths = cases + list(ROOT.glob("examples/*.script"))
     small = [path.read_bytes() for path in paths if path.stat().st_size <= LARGEST_SEED]
     return [b"".join(script.splitlines(keepends=True)[:MOST_LINES]) for script in small]
 
