@@ -48,7 +48,8 @@ fn push_line(report: &mut Vec<u8>, text: &str) -> Result<(), AllocError> {
     Ok(())
 }
 
-/// 0 for a legal report; 1 for a faulty one, 2 for a script that is refused, each with its line; 5 where memory is wanting.
+/// 0 for a legal report; 1 for a faulty one, 2 for a script that is refused, each with its line; 5 where memory is
+/// wanting.
 fn judged(alloc: Global, script: &[u8], report: &[u8]) -> (u8, u32) {
     if script.len() > MOST_BYTES || report.len() > MOST_BYTES {
         return (9, 0);

@@ -6,7 +6,7 @@ use Rattle.bench_script.specs.Script.{Spells}
 use Rattle.bench_world.specs.Obeying.{Adds, Benched, Obeys, new_bench}
 use Rattle.bench_world.specs.Showing.{MayShow}
 use Rattle.trace_audit.specs.Auditing.{AreAudited, IsAudited, IsFaultyAt, IsReportOf, IsUnauditedAt}
-use Rattle.trace_audit.specs.Making.{LastOnAir}
+use Rattle.trace_audit.specs.OnAir.{LastOnAir}
 use Rattle.trace_audit.specs.Stepping.{AuditsLine, ObeysOn, StaysOn, StepsOn, StepsTo, StraysAtAnswer, StraysAtEvent, TakesBy, TakesLine}
 use Rattle.trace_audit.specs.declared.stepping.Walk.{Walk}
 use Rattle.trace_audit.proofs.LastEntry.{obeyed_on_air}

@@ -1,6 +1,6 @@
 pub mod Auditing
 pub mod Judging
-pub mod Making
+pub mod OnAir
 pub mod Reading
 pub mod Cutting
 pub mod Finding

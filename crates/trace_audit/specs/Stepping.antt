@@ -10,7 +10,7 @@ use Rattle.bench_world.specs.Obeying.{Benched, Obeys}
 use Rattle.bench_world.specs.Report.{answer_text, line_text}
 use Rattle.bench_world.specs.Showing.{MayShow}
 use Rattle.trace_audit.specs.declared.stepping.Walk.{Walk}
-use Rattle.trace_audit.specs.Making.{LastOnAir}
+use Rattle.trace_audit.specs.OnAir.{LastOnAir}
 use Rattle.trace_audit.specs.ReadEvents.{AreRead}
 
 -- The entry is the report's next lines: its events are those that were read, its answer's line comes behind, and these

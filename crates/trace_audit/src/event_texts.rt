@@ -14,8 +14,8 @@ use nfc_base::{Event, Fate, Frame, Tech};
 /// How many bytes a frame has at most.
 const MOST_BYTES: usize = 288;
 
-/// The event of which a text is the line, of whatever number, if it is one of this technology. What it finds in another text
-/// may be anything.
+/// The event of which a text is the line, of whatever number, if it is one of this technology. What it finds in
+/// another text may be anything.
 pub fn likely_event(tech: Tech, text: &[u8]) -> Option<Event>
     ensures finds { Finds (IsLineOf tech text.now) result }
     ensures of { IfSome result (IsOf tech) }
@@ -81,7 +81,8 @@ fn frame_of(tech: Tech, word: &[u8]) -> Option<Frame>
 
 /// How many bits of the last byte are sent, by the digit behind a slash.
 fn tail_of(count: &[u8]) -> Option<u8>
-    ensures { MatchOption result ((t : ℕ) → 0 < t → t < 8 → count.now ≢ (48 + t) ∷ []) (λ t. count.now ≡ (48 + t) ∷ []) }
+    ensures { MatchOption result ((t : ℕ) → 0 < t → t < 8 → count.now ≢ (48 + t) ∷ [])
+        (λ t. count.now ≡ (48 + t) ∷ []) }
 {
     match count {
         [digit @ b'1'..=b'7'] => Some(*digit - b'0'),
@@ -112,7 +113,8 @@ fn frame_with(tech: Tech, digits: &[u8], tail: u8) -> Option<Frame>
 /// Whether a text is digits, two for each byte of the room, where the bytes are then.
 fn decodes(digits: &[u8], room: &mut [u8]) -> bool
     requires { length room.old ≡ length digits.now / 2 }
-    ensures { (bytes : List ℕ) → digits.now ≡ encode_upper bytes → IsBytes bytes → (result ≡ true) × (room.new ≡ bytes) }
+    ensures { (bytes : List ℕ) → digits.now ≡ encode_upper bytes → IsBytes bytes
+        → (result ≡ true) × (room.new ≡ bytes) }
 {
     hex::decode_to_slice(digits, room).is_ok()
 }

@@ -41,8 +41,8 @@ impl AuditFault {
     }
 }
 
-/// Judges a report by its script, over a new bench. Each line of the script is followed by the report's next lines; behind the
-/// report's first fault it is only obeyed, which shows that it is accepted and that some run goes on.
+/// Judges a report by its script, over a new bench. Each line of the script is followed by the report's next lines;
+/// behind the report's first fault it is only obeyed, which shows that it is accepted and that some run goes on.
 pub fn audit(
     alloc: Global,
     script: &[u8],

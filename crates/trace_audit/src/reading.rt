@@ -52,7 +52,8 @@ fn tech_behind(last: Tech, event: &Event) -> Tech
     }
 }
 
-/// The event of a command whose line stands at the front of a text, behind a request of this technology, and what stands behind it.
+/// The event of a command whose line stands at the front of a text, behind a request of this technology, and what
+/// stands behind it.
 fn front_event<'a>(
     line: u32,
     command: &Command,
@@ -69,7 +70,8 @@ fn front_event<'a>(
 
 /// The event of a command of which a text is the line, behind a request of this technology.
 fn next_event(line: u32, command: &Command, last: Tech, text: &[u8]) -> Option<Event>
-    ensures { MatchOption result ((e : Happens) → IsNext line command.now last text.now e → ⊥) (IsNext line command.now last text.now) }
+    ensures { MatchOption result ((e : Happens) → IsNext line command.now last text.now e → ⊥)
+        (IsNext line command.now last text.now) }
 {
     match read_event(line, last, text)? {
         Event::Request { frame, fate } => Some(Event::Request {
@@ -82,7 +84,8 @@ fn next_event(line: u32, command: &Command, last: Tech, text: &[u8]) -> Option<E
 
 /// The event of this technology of which a text is the line, with its LF. It takes no memory.
 pub fn read_event(line: u32, tech: Tech, text: &[u8]) -> Option<Event>
-    ensures { MatchOption result ((e : Happens) → IsOf tech e → text.now ≢ line_text line (event_text e)) (λ e. IsOf tech e × (text.now ≡ line_text line (event_text e))) }
+    ensures { MatchOption result ((e : Happens) → IsOf tech e → text.now ≢ line_text line (event_text e))
+        (λ e. IsOf tech e × (text.now ≡ line_text line (event_text e))) }
 {
     let event = likely_event(tech, text)?;
     if event_line(line, &event).as_slice() == text {

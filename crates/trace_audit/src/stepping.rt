@@ -7,7 +7,7 @@ ghost use Rattle.bench_world.specs.Following.{MayFollow, MayShowAmong};
 ghost use Rattle.bench_world.specs.Obeying.{Obeys};
 ghost use Rattle.bench_world.specs.Report.{answer_text, line_text};
 ghost use Rattle.bench_world.specs.Showing.{MayShow};
-ghost use Rattle.trace_audit.specs.Making.{LastOnAir};
+ghost use Rattle.trace_audit.specs.OnAir.{LastOnAir};
 ghost use Rattle.trace_audit.specs.Stepping.{ComesBehind, Shrinks, StepsOn, TakesLine};
 
 use crate::on_air::see_last;
@@ -28,8 +28,8 @@ pub struct Walk<'a> {
     pub strayed: bool,
 }
 
-/// Takes the command of a line: as long as all was good its entry is looked for at the front of what is left of the report;
-/// behind the first fault it is only obeyed.
+/// Takes the command of a line: as long as all was good its entry is looked for at the front of what is left of the
+/// report; behind the first fault it is only obeyed.
 pub fn take_line<'a>(
     alloc: Global,
     bench: &mut Bench,
@@ -137,7 +137,8 @@ fn behind_events<'a>(entry: &Entry, good: u32, left: &'a [u8]) -> Walk<'a>
 
 /// What stands behind the line of an entry's answer, if a text begins with it. It takes no memory.
 fn behind_answer<'a>(entry: &Entry, text: &'a [u8]) -> Option<&'a [u8]>
-    ensures { MatchOption result ((rest : List ℕ) → text.now ≡ line_text entry.now.line (answer_text entry.now.answer) ++ rest → ⊥)
+    ensures { MatchOption result
+        ((rest : List ℕ) → text.now ≡ line_text entry.now.line (answer_text entry.now.answer) ++ rest → ⊥)
         (λ rest. text.now ≡ line_text entry.now.line (answer_text entry.now.answer) ++ rest.now) }
 {
     let mut left = text;
