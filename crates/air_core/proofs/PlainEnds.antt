@@ -1,9 +1,11 @@
 -- How the waits of a plain link begin, go on and end.
-use Rattle.std.proofs.Common.{◌≡◌, ℕ, zero, suc, ◌<◌, inl, inr, List, [], ◌∷◌, Bool, true, false, Option, Some, None, Err, refl, sym, ◌∙◌, ap, subst, append-nil, arith}
+use Rattle.std.proofs.Common.{◌≡◌, ℕ, zero, suc, ◌<◌, inl, inr, List, [], ◌∷◌, Bool, true, false, Option, Some, None, Result, Ok, Err, refl, sym, ◌∙◌, ap, subst, append-nil, arith}
 use Rattle.nfc_base.specs.declared.frame.Tech.{Tech}
 use Rattle.nfc_base.specs.declared.frame.Tech.TheVariants.{A}
 use Rattle.nfc_base.specs.declared.event.Heard.{Heard}
-use Rattle.nfc_base.specs.declared.event.Heard.TheVariants.{Whole, Collided, Damaged, Silent}
+use Rattle.nfc_base.specs.declared.event.Heard.TheVariants.{Whole}
+use Rattle.nfc_base.specs.Trace.{is_bad_in_wait}
+use Rattle.nfc_base.specs.declared.tag_link.AskFault.{AskFault}
 use Rattle.nfc_base.specs.declared.tag_link.AskFault.TheVariants as ask
 use Rattle.nfc_base.specs.Signal.{Signal}
 use Rattle.nfc_base.specs.TagLinks.{MayAsk}
@@ -14,12 +16,14 @@ use Rattle.air_core.specs.Turning.{going_start}
 use Rattle.air_core.specs.Waits.{waits_next}
 use Rattle.air_core.specs.PlainTags.{plain_kind, HasPlainTag, MayTell}
 use Rattle.air_core.specs.PlainLinks.{at_place, MayAskAt}
-use Rattle.air_core.specs.PlainWaits.{GoesOn, GoesFrom, HasWaited}
+use Rattle.air_core.specs.PlainWaits.{GoesOn, GoesFrom, Answered, Darkened, HasWaited}
+use Rattle.air_core.specs.FirstAnswers.{EndsWait, AsksFirst}
 use Rattle.air_core.specs.declared.listener.Listener.{Ghosts}
 use Rattle.air_core.proofs.Quiet.{quiet_turn, quiet_goes_on}
 use Rattle.air_core.proofs.PlainAside.{Laws}
 use Rattle.air_core.proofs.PlainTagging.{IsSteady, steady}
 use Rattle.air_core.proofs.PlainStores.{place_is}
+use Rattle.air_core.proofs.FirstAnswers.{by_bad, on_bads, six_at_most}
 use Rattle.air_core.proofs.PlainSteps.{Outcome, each_quiet, turned}
 
 module _ {L : Type 0} (k : Ghosts L) where
@@ -91,12 +95,34 @@ module _ {L : Type 0} (k : Ghosts L) where
         let still : IsSteady k g.tag.tag f = steady_now laws old place f g.tag tell in
         absurd (quiet_goes_on k.machine restarts steps stops is_stuck f mid.listeners far s.listeners far' (each_quiet k laws old mid place f g.tag.tag bad still tell g.tag.named g.goes) s.some)
 
-  pub goes_six : (old mid : Air L) (place : ℕ) (f : Signal) (bad : ℕ) → bad ≡ 6 → GoesFrom k old mid place f bad → HasWaited k old mid place f (Err ask.SixBad)
-  goes_six old mid place f bad six g = let Q : ℕ → Type 0 = λ n. GoesOn k old mid place f g.tag.tag n in record { tag = g.tag; ends = subst Q six g.goes }
+  -- a wait of the tag, by its turns
+  module _ (laws : Laws k) {F : Type 0} (restarts : F → List ℕ → F → Type 0) (steps : F → List ℕ → List ℕ → F → Type 0) (stops : F → List ℕ → F → Type 0) (is_stuck : F → Bool)
+      (old : Air L) (place : ℕ) (f : Signal) (may : MayAskAt k old place f) where
+    goes_more : (mid : Air L) (half : F) (n : ℕ) → n < 6 → GoesFrom k old mid place f n → (new : Air L) (after : F) (h : Heard)
+        → TurnIs k.machine restarts steps mid f half (Some h) new after → is_bad_in_wait h ≡ true → GoesFrom k old new place f (suc n)
+    goes_more mid half n bound g new after h turn bad =
+        let tag : L = g.tag.tag in record {
+          tag = g.tag;
+          goes = by_bad (Darkened k old new place f tag) (λ x. Answered k old new place f tag x) (GoesOn k old new place f tag (suc n)) h bad
+              (goes_turn laws restarts steps stops is_stuck old mid place f n bound g may new half after (Some h) turn);
+        }
 
-  -- what a turn comes to where no whole frame was heard
-  pub outcome_bad : (old new : Air L) (place : ℕ) (f : Signal) (tag : L) (bad : ℕ) (h : Heard) → ((g : Signal) → h ≡ Whole g → ⊥) → Outcome k old new place f tag bad (Some h) → GoesOn k old new place f tag (suc bad)
-  outcome_bad old new place f tag bad (Whole g) other o = absurd (other g refl)
-  outcome_bad old new place f tag bad (Collided g) other o = o
-  outcome_bad old new place f tag bad Damaged other o = o
-  outcome_bad old new place f tag bad Silent other o = o
+    goes_end : (bad : ℕ) (mid : Air L) (half : F) → GoesFrom k old mid place f bad → (far : F) (new : Air L) (after : F) (r : Result Signal AskFault)
+        → EndsWait k.machine restarts steps f old far stops is_stuck bad mid half new after r → HasWaited k old new place f r
+    goes_end bad mid half g far new after (Ok answer) (bound, turn) =
+        record { tag = g.tag; ends = goes_turn laws restarts steps stops is_stuck old mid place f bad bound g may new half after (Some (Whole answer)) turn }
+    goes_end bad mid half g far new after (Err ask.FieldLost) (bound, turn) = goes_lost laws restarts steps stops is_stuck old mid place f bad bound g may new half after turn
+    goes_end bad mid half g far new after (Err ask.Memory) (bound, turn) = goes_stops laws restarts steps stops is_stuck old mid place f bad bound g may new half after turn
+    goes_end bad mid half g far new after (Err ask.SixBad) (six, same, rests) =
+        let P : Air L → Type 0 = λ a. HasWaited k old a place f (Err ask.SixBad) in
+        let Q : ℕ → Type 0 = λ n. GoesOn k old mid place f g.tag.tag n in
+        subst P (sym same) (record { tag = g.tag; ends = subst Q six g.goes })
+    goes_end bad mid half g far new after (Err ask.Protocol) e = absurd e
+
+    pub has_waited : HasPlainTag k old place → (far : F) (new : Air L) (after : F) (r : Result Signal AskFault)
+        → AsksFirst k.machine restarts steps f old far stops is_stuck new after r → HasWaited k old new place f r
+    has_waited t far new after r a =
+        goes_end a.bad a.mid a.half
+        (on_bads k.machine restarts steps f old far (λ mid half n. GoesFrom k old mid place f n) goes_more (begins old place f t)
+        a.bad (six_at_most k.machine restarts steps f old far stops is_stuck a.bad a.mid a.half new after r a.ends) a.mid a.half a.before)
+        far new after r a.ends

@@ -7,7 +7,7 @@ use Rattle.nfc_base.specs.declared.event.Event.{Event}
 use Rattle.nfc_base.specs.declared.event.Fate.{Fate}
 use Rattle.nfc_base.specs.declared.event.Fate.TheVariants.{Pass, Damage, Lose, Break}
 use Rattle.nfc_base.specs.declared.event.Heard.{Heard}
-use Rattle.nfc_base.specs.declared.event.Heard.TheVariants.{Whole, Collided, Damaged, Silent}
+use Rattle.nfc_base.specs.declared.event.Heard.TheVariants.{Whole, Damaged, Silent}
 use Rattle.nfc_base.specs.declared.tag_link.AskFault.TheVariants as ask
 use Rattle.nfc_base.specs.Signal.{Signal}
 use Rattle.nfc_base.specs.Far.{Untouched}
@@ -24,6 +24,7 @@ use Rattle.air_core.specs.PlainTags.{heard_times, tag_step, IsAside, IsAlone, Ma
 use Rattle.air_core.specs.PlainLinks.{obeyed_in, answered_in, Follows, stores_after}
 use Rattle.air_core.specs.PlainWaits.{after_bad, times, Waited, GoesOn, Answered, Darkened}
 use Rattle.air_core.specs.declared.listener.Listener.{Ghosts}
+use Rattle.air_core.proofs.FirstAnswers.{ByHeard}
 use Rattle.air_core.proofs.OneAir.{same_itself}
 use Rattle.air_core.proofs.Quiet.{quiet_turns_to}
 use Rattle.air_core.proofs.PlainAside.{Laws, IsUnmoved, aside_silent, may_tech, alone_dark, alone_quiet, alone_says, alone_steps}
@@ -34,11 +35,7 @@ use Rattle.air_core.proofs.PlainTurns.{one, joint_one, tag_events, tag_heard, tu
 module _ {L : Type 0} (k : Ghosts L) where
   -- what a turn comes to after some bad receptions, by what was heard
   abbrev pub Outcome : Air L → Air L → ℕ → Signal → L → ℕ → Option Heard → Type 0
-  Outcome old new place f tag bad None = Darkened k old new place f tag
-  Outcome old new place f tag bad (Some (Whole g)) = Answered k old new place f tag g
-  Outcome old new place f tag bad (Some (Collided g)) = GoesOn k old new place f tag (suc bad)
-  Outcome old new place f tag bad (Some Damaged) = GoesOn k old new place f tag (suc bad)
-  Outcome old new place f tag bad (Some Silent) = GoesOn k old new place f tag (suc bad)
+  Outcome old new place f tag bad h = ByHeard (Darkened k old new place f tag) (λ g. Answered k old new place f tag g) (GoesOn k old new place f tag (suc bad)) h
 
   module _ (laws : Laws k) where
     -- what the tag is after a turn

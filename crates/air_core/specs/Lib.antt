@@ -12,6 +12,7 @@ pub mod Turning
 pub mod Waits
 pub mod Waiting
 pub mod Speaking
+pub mod FirstAnswers
 pub mod PlainTags
 pub mod PlainLinks
 pub mod PlainWaits

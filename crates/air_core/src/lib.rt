@@ -5,6 +5,8 @@
 //! `specs/Turn.antt` says what a turn is with a far end of any type, and `specs/Conversation.antt` speaks of turns over
 //! any air; `proofs/Quiet.antt` leads from the one to the other where nothing is asked of a far end.
 //!
+//! `first_answer` is one wait: a request, sent up to its first whole answer.
+//!
 //! `plain_link` is the link to a tag that takes commands as they are sent: `specs/PlainTags.antt` says which tags do,
 //! `specs/Waits.antt` what is due while commands are asked, `specs/PlainLinks.antt` what the link shows.
 #![tactic(auto)]
@@ -14,6 +16,7 @@ pub mod bits;
 mod fates;
 mod fault;
 mod field;
+mod first_answer;
 mod hearing;
 pub mod law;
 mod listener;
@@ -21,5 +24,6 @@ mod plain_link;
 
 pub use fault::AirFault;
 pub use field::Field;
+pub use first_answer::{BAD_RECEPTIONS, ask_first};
 pub use listener::Listener;
-pub use plain_link::{BAD_RECEPTIONS, PlainLink};
+pub use plain_link::PlainLink;

@@ -5,14 +5,11 @@ ghost use Rattle.air_core.specs.PlainLinks.{MayAskAt};
 ghost use Rattle.air_core.specs.PlainTags.{HasPlainTag};
 ghost use Rattle.air_core.specs.PlainWaits.{HasWaited};
 
-use crate::fault::AirFault;
 use crate::field::Field;
+use crate::first_answer::ask_first;
 use crate::listener::Listener;
-use nfc_base::{AskFault, Frame, Heard, Mute, TagLink};
+use nfc_base::{AskFault, Frame, Mute, TagLink};
 use std::alloc::Global;
-
-/// How many bad receptions end a wait (this project's own).
-pub const BAD_RECEPTIONS: u8 = 6;
 
 /// A link to one Type 2, Type 3 or Type 5 tag, which is selected and alone in the field. A command is sent again after each bad
 /// reception (NFC Forum Digital Protocol). The far end of its turns is mute, since such a tag asks nothing of one.
@@ -51,21 +48,7 @@ fn wait<L: Listener>(field: &mut Field<L>, place: usize, command: &Frame) -> Res
     requires fits { MayAskAt L.Listener field.old place command.now }
     ensures { HasWaited L.Listener field.old field.new place command.now result }
 {
-    let mut far = Mute;
-    let mut bad = 0;
-    while bad < BAD_RECEPTIONS {
-        match field.transmit(command, &mut far) {
-            Ok(heard) => {
-                if let Heard::Whole(answer) = heard {
-                    return Ok(answer);
-                }
-                bad += 1;
-            }
-            Err(AirFault::FieldLost) => return Err(AskFault::FieldLost),
-            Err(AirFault::Memory) => return Err(AskFault::Memory),
-        }
-    }
-    Err(AskFault::SixBad)
+    ask_first(field, command, &mut Mute)
 }
 
 impl<'a, L: Listener> TagLink for PlainLink<'a, L> {

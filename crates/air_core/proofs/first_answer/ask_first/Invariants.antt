@@ -1,10 +1,10 @@
 use Rattle.std.proofs.Common.{◌-◌, ◌≤◌}
-use Rattle.air_core.specs.PlainWaits.{GoesFrom}
-use Rattle.air_core.proofs.plain_link.wait.Given as goal
+use Rattle.air_core.specs.FirstAnswers.{BadTurns}
+use Rattle.air_core.proofs.first_answer.ask_first.Given as goal
 
 abbrev pub invariant-loop-bad : goal.invariant-loop-bad
 invariant-loop-bad g l = record {
-  goes : GoesFrom g.L.Listener l.fn.field l.field l.place l.command l.bad;
+  before : BadTurns g.L.Listener.machine g.A.Answerer.restarts g.A.Answerer.steps l.request l.fn.field l.fn.far l.bad l.field l.far;
   most : l.bad ≤ 6;
 }
 
