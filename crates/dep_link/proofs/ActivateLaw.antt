@@ -1,19 +1,20 @@
 -- The wait of ATR_REQ at a target, turn by turn.
-use Rattle.std.proofs.Common.{◌≡◌, ℕ, zero, suc, ◌+◌, ◌<◌, ◌≤◌, inl, inr, List, [], ◌∷◌, ◌++◌, length, Bool, true, false, if◌then◌else◌, Option, Some, None, Err, refl, sym, ◌∙◌, ap, subst, arith, append_assoc, append-nil, length-append}
+use Rattle.std.proofs.Common.{◌≡◌, ℕ, zero, suc, ◌+◌, ◌<◌, ◌≤◌, inl, inr, List, [], ◌∷◌, ◌++◌, length, Bool, true, false, if◌then◌else◌, Option, Some, None, Result, Ok, Err, refl, sym, ◌∙◌, ap, subst, arith, append_assoc, append-nil, length-append}
 use Rattle.std.specs.List.{AllByRecursion, filter_map, cons_option}
 use Rattle.nfc_base.specs.declared.frame.Tech.TheVariants.{A}
 use Rattle.nfc_base.specs.declared.event.Event.{Event}
-use Rattle.nfc_base.specs.declared.event.Event.TheVariants.{Answer, Clash, Request, Reset}
 use Rattle.nfc_base.specs.declared.event.Fate.{Fate}
 use Rattle.nfc_base.specs.declared.event.Fate.TheVariants.{Pass, Damage, Lose, Break}
 use Rattle.nfc_base.specs.declared.event.Heard.{Heard}
-use Rattle.nfc_base.specs.declared.event.Heard.TheVariants.{Whole, Collided, Damaged, Silent}
+use Rattle.nfc_base.specs.declared.event.Heard.TheVariants.{Whole, Damaged, Silent}
+use Rattle.nfc_base.specs.declared.tag_link.AskFault.{AskFault}
 use Rattle.nfc_base.specs.declared.tag_link.AskFault.TheVariants as faults
+use Rattle.nfc_base.specs.declared.carrier.EndCause.{EndCause}
 use Rattle.nfc_base.specs.declared.carrier.EndCause.TheVariants as cause
 use Rattle.nfc_base.specs.Signal.{Signal}
 use Rattle.nfc_base.specs.Far.{FarUse, Untouched, Restarts, Hands}
 use Rattle.nfc_base.specs.LinkTurns.{arrived, bad_receptions}
-use Rattle.nfc_base.specs.Trace.{breaks, noise}
+use Rattle.nfc_base.specs.Trace.{is_bad_in_wait, breaks, noise}
 use Rattle.air_core.specs.declared.fault.AirFault.TheVariants as air
 use Rattle.air_core.specs.Joint.{joint, same_tech}
 use Rattle.air_core.specs.World.{World, hears, hands_over, answered_by, stepped_by, quiet_air}
@@ -25,7 +26,10 @@ use Rattle.air_core.specs.Waits.{Standing, Asking, Broken, stand, due_at, waits_
 use Rattle.air_core.specs.Waiting.{stand_on}
 use Rattle.air_core.specs.PlainTags.{IsAside, IsAlone}
 use Rattle.air_core.specs.PlainWaits.{after_bad}
+use Rattle.air_core.specs.FirstAnswers.{EndsWait, AsksFirst}
 use Rattle.air_core.specs.declared.listener.Listener.{Ghosts}
+use Rattle.air_core.proofs.FirstAnswers.{ByHeard, by_bad, told_as, on_bads, six_at_most, tells_wait}
+use Rattle.air_core.proofs.LostField.{breaks-append}
 use Rattle.air_core.proofs.Quiet.{quiet_turns_to}
 use Rattle.air_core.proofs.PlainAside.{Laws, IsUnmoved, aside_silent, alone_says}
 use Rattle.air_core.proofs.PlainTurns.{one, joint_one, tag_events, tag_heard, turn_events_as, heard_as, asking_bad, noise_append}
@@ -33,12 +37,13 @@ use Rattle.arrayvec.specs.ArrayVec.{ArrayVec}
 use Rattle.dep_link.specs.Sizes.{initiator_lr}
 use Rattle.dep_link.specs.Frames.{air_frame, spelled}
 use Rattle.dep_link.specs.Target.{TargetState, TargetTurn, target_table, framed, heeded, restarted, atr_res}
-use Rattle.dep_link.specs.Initiator.{waiting}
+use Rattle.dep_link.specs.Initiator.{InitState, waiting}
 use Rattle.dep_link.specs.Exchange.{InStep, IsCut}
 use Rattle.dep_link.specs.Answering.{reply_for, payload_of, answering, answering_air}
 use Rattle.dep_link.specs.Peers.{target_use, answered_with, left_with, heard_with}
 use Rattle.dep_link.specs.Asking.{HasPeer}
-use Rattle.dep_link.specs.Activating.{atr_req, atr_frame, told_atr, RestartedTimes, sent_times, HasTarget, AtrSent, AtrLost, IsActivated, AtrFails}
+use Rattle.dep_link.specs.Activating.{atr_req, atr_frame, told_atr, RestartedTimes, sent_times, HasTarget, AtrSent, AtrLost, IsActivated, AtrFails, AtrEnds, Activates}
+use Rattle.dep_link.specs.AnyTarget.{told_initiator, cause_of, told_first, AsksAtr}
 use Rattle.dep_link.proofs.Wire.{written_read, target_heeds}
 use Rattle.dep_link.proofs.Begun.{in_step_first}
 use Rattle.nfc_base.proofs.LinkTurns.{arrived_append, bads_append}
@@ -62,19 +67,12 @@ arrived_one f Damage y o = refl
 arrived_one f Lose y o = refl
 arrived_one f Break y o = refl
 
-breaks_append : (a b : List Event) → breaks (a ++ b) ≡ breaks a + breaks b
-breaks_append [] b = omega arith
-breaks_append (Reset ∷ a) b = breaks_append a b
-breaks_append (Request f x ∷ a) b = let e : breaks (a ++ b) ≡ breaks a + breaks b = breaks_append a b in omega (arith, e)
-breaks_append (Answer g x ∷ a) b = let e : breaks (a ++ b) ≡ breaks a + breaks b = breaks_append a b in omega (arith, e)
-breaks_append (Clash g x ∷ a) b = let e : breaks (a ++ b) ≡ breaks a + breaks b = breaks_append a b in omega (arith, e)
-
 -- of events that end so, with a transmission that didn't pass, or that lost the field
 ends_noisy : (es before now : List Event) → es ≡ before ++ now → 0 < noise now → 0 < noise es
 ends_noisy es before now e some = let n : noise es ≡ noise before + noise now = ap noise e ∙ noise_append before now in omega (arith, n, some)
 
 ends_broken : (es before now : List Event) → es ≡ before ++ now → 0 < breaks now → 0 < breaks es
-ends_broken es before now e some = let n : breaks es ≡ breaks before + breaks now = ap breaks e ∙ breaks_append before now in omega (arith, n, some)
+ends_broken es before now e some = let n : breaks es ≡ breaks before + breaks now = ap breaks e ∙ breaks-append before now in omega (arith, n, some)
 
 module _ {F : Type 0} (restarts : F → List ℕ → F → Type 0) (steps : F → List ℕ → List ℕ → F → Type 0) (general : List ℕ) where
   none_more : (far far' : F) → far' ≡ far → (far0 : F) (n : ℕ) → RestartedTimes restarts general n far0 far → RestartedTimes restarts general (n + 0) far0 far'
@@ -182,7 +180,7 @@ module _ {L F : Type 0} (k : Ghosts L) (laws : Laws k) (target : L → TargetSta
   abbrev pub On : Air L → F → ℕ → Type 0
   On mid far bad = AtrOn k target restarts old general t far0 mid far bad
 
-  pub first_atr : On old far0 0
+  first_atr : On old far0 0
   first_atr = record {
     heard = 0;
     alone = t.alone;
@@ -202,14 +200,14 @@ module _ {L F : Type 0} (k : Ghosts L) (laws : Laws k) (target : L → TargetSta
     noisy = λ e. e;
   }
 
-  -- what a turn comes to, by what was heard
-  abbrev pub After : Air L → F → ℕ → Option Heard → Type 0
-  After new far bad None = AtrLost k target restarts old new general far0 far
-  After new far bad (Some (Whole g)) =
+  -- the answer came
+  abbrev pub Came : Air L → F → Signal → Type 0
+  Came new far g =
       (n : ℕ) × (g ≡ answer) × (sent : Sent new far (Asking 0 [])) × (0 < sent.times) × (new.lit ≡ true) × IsAlone k (k.identifier l) new.listeners t.place (sent_times k target l f (suc n))
-  After new far bad (Some (Collided g)) = On new far (suc bad)
-  After new far bad (Some Damaged) = On new far (suc bad)
-  After new far bad (Some Silent) = On new far (suc bad)
+
+  -- what a turn comes to, by what was heard
+  abbrev After : Air L → F → ℕ → Option Heard → Type 0
+  After new far bad h = ByHeard (AtrLost k target restarts old new general far0 far) (λ g. Came new far g) (On new far (suc bad)) h
 
   nothing_in : (x : Fate) (u : FarUse) → u ≡ Restarts general → HandsNothing x u
   nothing_in Pass u e = ap payload_of e
@@ -261,7 +259,7 @@ module _ {L F : Type 0} (k : Ghosts L) (laws : Laws k) (target : L → TargetSta
       finish Lose y s m lit alone = on_bad Lose (tag_events f Lose y (Some answer)) (Some Silent) s refl (omega arith) m o.heard alone (lit ∙ m)
       finish Break y s m lit alone = on_break Break (tag_events f Break y (Some answer)) s (omega arith) lit
 
-      pub atr_turn : (h : Option Heard) → TurnIs k.machine restarts steps mid f far h new far' → After new far' bad h
+      atr_turn : (h : Option Heard) → TurnIs k.machine restarts steps mid f far h new far' → After new far' bad h
       atr_turn h turn =
           let x : Fate = first_fate mid.fates in
           let y : Fate = first_fate (later_fates mid.fates) in
@@ -308,11 +306,11 @@ module _ {L F : Type 0} (k : Ghosts L) (laws : Laws k) (target : L → TargetSta
           (subst P (sym after) (alone_after k laws [] (k.identifier l) f (aside_in m ml) (world mid) t.place now lone moves x y (Some answer)))))
 
       module _ (stops : F → List ℕ → F → Type 0) (is_stuck : F → Bool) where
-        pub atr_lost : Transmits k.machine restarts steps stops is_stuck mid f far (Err air.FieldLost) new far' → AtrFails k target restarts old new general far0 far' cause.FieldLost
+        atr_lost : Transmits k.machine restarts steps stops is_stuck mid f far (Err air.FieldLost) new far' → AtrFails k target restarts old new general far0 far' cause.FieldLost
         atr_lost (inl d) = let z = o.dim d.0 in inl (sym o.lit ∙ d.0, d.1 ∙ z.0, d.2 ∙ z.1)
         atr_lost (inr turn) = inr (atr_turn None turn)
 
-        pub atr_memory : Transmits k.machine restarts steps stops is_stuck mid f far (Err air.Memory) new far' → AtrFails k target restarts old new general far0 far' cause.Memory
+        atr_memory : Transmits k.machine restarts steps stops is_stuck mid f far (Err air.Memory) new far' → AtrFails k target restarts old new general far0 far' cause.Memory
         atr_memory (lit, inl same) =
             let P : Air L → Type 0 = λ a. AtrFails k target restarts old a general far0 far' cause.Memory in
             let Q : F → Type 0 = λ y. AtrFails k target restarts old mid general far0 y cause.Memory in
@@ -326,18 +324,6 @@ module _ {L F : Type 0} (k : Ghosts L) (laws : Laws k) (target : L → TargetSta
             never : (p : List ℕ) → Restarts general ≡ Hands p → ⊥
             never p e = absurd (cc)
 
-  -- a bad reception
-  pub atr_more : (new : Air L) (far : F) (bad : ℕ) (h : Heard) → ((g : Signal) → h ≡ Whole g → ⊥) → After new far bad (Some h) → On new far (suc bad)
-  atr_more new far bad (Whole g) never a = absurd (never g refl)
-  atr_more new far bad (Collided g) never a = a
-  atr_more new far bad Damaged never a = a
-  atr_more new far bad Silent never a = a
-
-  pub atr_six : (new : Air L) (far : F) (bad : ℕ) → bad ≡ 6 → On new far bad → AtrFails k target restarts old new general far0 far cause.SixBad
-  atr_six new far bad e o =
-      let P : ℕ → Type 0 = λ n. (sent : Sent new far (after_bad f n)) × (0 < noise sent.events) in
-      subst P e (o.sent, o.noisy (omega (arith, e)))
-
   -- the answer is read as the target's ATR_RES
   reads : (g : Signal) → g ≡ answer → spelled g ≡ Some (atr_res own)
   reads g e = ap spelled e ∙ written_read (atr_res own) t.takes.says
@@ -345,13 +331,13 @@ module _ {L F : Type 0} (k : Ghosts L) (laws : Laws k) (target : L → TargetSta
   told_own : (g : Signal) → g ≡ answer → told_atr (spelled g) ≡ Some (own.lr, record { items = own.general })
   told_own g e = ap told_atr (reads g e)
 
-  pub atr_never : (new : Air L) (far : F) (bad : ℕ) (g : Signal) → After new far bad (Some (Whole g)) → told_atr (spelled g) ≡ None → ⊥
-  atr_never new far bad g a q = let z = told_own g a.1 in absurd (cc)
+  atr_never : (new : Air L) (far : F) (g : Signal) → Came new far g → told_atr (spelled g) ≡ None → ⊥
+  atr_never new far g a q = let z = told_own g a.1 in absurd (cc)
 
   -- ATR_RES came: the peer is activated
-  pub atr_done : (new : Air L) (far : F) (bad : ℕ) (g : Signal) → After new far bad (Some (Whole g)) → (told : ℕ × ArrayVec ℕ) → told_atr (spelled g) ≡ Some told
+  atr_done : (new : Air L) (far : F) (g : Signal) → Came new far g → (told : ℕ × ArrayVec ℕ) → told_atr (spelled g) ≡ Some told
       → (sent : Sent new far (Asking 0 [])) × (0 < sent.times) × IsActivated k target new own (waiting told.0) told.1.items
-  atr_done new far bad g (n, e, sent, some, lit, alone) told q =
+  atr_done new far g (n, e, sent, some, lit, alone) told q =
       let z : Some told ≡ Some (own.lr, record { items = own.general }) = sym q ∙ told_own g e in
       let same : told ≡ (own.lr, record { items = own.general }) = cc in
       let code : told.0 ≡ own.lr = ap (λ (p : ℕ × ArrayVec ℕ). p.0) same in
@@ -376,3 +362,57 @@ module _ {L F : Type 0} (k : Ghosts L) (laws : Laws k) (target : L → TargetSta
           peer = subst (λ (c : ℕ). HasPeer k target new (waiting c) 0 [] []) (sym code) peer;
         },
       )
+
+  abbrev Ends : Air L → F → Result (InitState × ArrayVec ℕ) EndCause → Type 0
+  Ends new far r = AtrEnds k target restarts old new general own far0 far r
+
+  -- what is made of a whole answer
+  ends_by : (new : Air L) (far : F) (g : Signal) → Came new far g → Ends new far (told_first g)
+  ends_by new far g a = by_told (told_atr (spelled g)) refl
+    where
+      by_told : (x : Option (ℕ × ArrayVec ℕ)) → told_atr (spelled g) ≡ x → Ends new far (told_initiator x)
+      by_told None e = absurd (atr_never new far g a e)
+      by_told (Some p) e = atr_done new far g a p e
+
+  module _ (stops : F → List ℕ → F → Type 0) (is_stuck : F → Bool) where
+    ends_at : (bad : ℕ) (mid : Air L) (half : F) → On mid half bad → (new : Air L) (after : F) (r : Result Signal AskFault)
+        → EndsWait k.machine restarts steps f old far0 stops is_stuck bad mid half new after r → Ends new after (told_as told_first (λ fault. Err (cause_of fault)) r)
+    ends_at bad mid half o new after (Ok g) (bound, turn) = ends_by new after g (atr_turn mid half bad bound o new after (Some (Whole g)) turn)
+    ends_at bad mid half o new after (Err faults.FieldLost) (bound, turn) = atr_lost mid half bad bound o new after stops is_stuck turn
+    ends_at bad mid half o new after (Err faults.Memory) (bound, turn) = atr_memory mid half bad bound o new after stops is_stuck turn
+    ends_at bad mid half o new after (Err faults.SixBad) (six, same, rests) =
+        let N : ℕ → Type 0 = λ n. (sent : Sent mid half (after_bad f n)) × (0 < noise sent.events) in
+        let P : Air L → Type 0 = λ a. Ends a after (Err cause.SixBad) in
+        let Q : F → Type 0 = λ a. Ends mid a (Err cause.SixBad) in
+        subst P (sym same) (subst Q (sym rests) (subst N six (o.sent, o.noisy (omega (arith, six)))))
+    ends_at bad mid half o new after (Err faults.Protocol) e = absurd e
+
+    -- a wait of ATR_REQ at the target
+    atr_ends : (new : Air L) (after : F) (r : Result Signal AskFault) → AsksFirst k.machine restarts steps f old far0 stops is_stuck new after r
+        → Ends new after (told_as told_first (λ fault. Err (cause_of fault)) r)
+    atr_ends new after r a =
+        ends_at a.bad a.mid a.half
+        (on_bads k.machine restarts steps f old far0 On more_bad first_atr
+        a.bad (six_at_most k.machine restarts steps f old far0 stops is_stuck a.bad a.mid a.half new after r a.ends) a.mid a.half a.before)
+        new after r a.ends
+      where
+        more_bad : (mid : Air L) (half : F) (n : ℕ) → n < 6 → On mid half n → (next : Air L) (rest : F) (h : Heard)
+            → TurnIs k.machine restarts steps mid f half (Some h) next rest → is_bad_in_wait h ≡ true → On next rest (suc n)
+        more_bad mid half n bound o next rest h turn bad =
+            by_bad (AtrLost k target restarts old next general far0 rest) (λ g. Came next rest g) (On next rest (suc n)) h bad (atr_turn mid half n bound o next rest (Some h) turn)
+
+-- A wait of ATR_REQ, with listeners of any kind and at the target.
+pub asked_atr : {L F : Type 0} (k : Ghosts L) (laws : Laws k) (target : L → TargetState) (restarts : F → List ℕ → F → Type 0) (steps : F → List ℕ → List ℕ → F → Type 0)
+    (stops : F → List ℕ → F → Type 0) (is_stuck : F → Bool) (old : Air L) (general : List ℕ) → length general ≤ 48 → (far : F) (new : Air L) (after : F) (f : Signal) → f ≡ atr_frame general
+    → (r : Result Signal AskFault) → AsksFirst k.machine restarts steps f old far stops is_stuck new after r → (result : Result (InitState × ArrayVec ℕ) EndCause)
+    → told_as told_first (λ fault. Err (cause_of fault)) r ≡ result
+    → AsksAtr k.machine restarts steps stops is_stuck old far new after general result × Activates k target restarts old new general far after result
+asked_atr k laws target restarts steps stops is_stuck old general short far new after f is r a result e =
+    let A : Signal → Type 0 = λ x. AsksFirst k.machine restarts steps x old far stops is_stuck new after r in
+    let asks : A (atr_frame general) = subst A is a in
+    let P : Result (InitState × ArrayVec ℕ) EndCause → Type 0 =
+    λ x. AsksAtr k.machine restarts steps stops is_stuck old far new after general x × Activates k target restarts old new general far after x in
+    subst P e (
+      tells_wait k.machine restarts steps (atr_frame general) old far stops is_stuck told_first (λ fault. Err (cause_of fault)) new after r asks,
+      λ t. atr_ends k laws target restarts steps old general short t far stops is_stuck new after r asks,
+    )

@@ -19,5 +19,4 @@ pub mod Carrying
 pub mod Swapped
 mod Replies
 pub mod ActivateLaw
-pub mod AnyTarget
 pub mod Released

@@ -2,16 +2,16 @@
 
 ghost use Rattle.std.specs.Prelude.{◌≡◌, ◌≤◌, ◌<◌, length, IfSome, IfErr};
 ghost use Rattle.dep_link.specs.Frames.{spelled};
-ghost use Rattle.dep_link.specs.AnyTarget.{AsksAtr};
+ghost use Rattle.dep_link.specs.AnyTarget.{cause_of, AsksAtr};
 ghost use Rattle.dep_link.specs.Activating.{atr_frame, told_atr, Activates, by_cause, IsUnanswered};
 
 use crate::frames::{INITIATOR_LR, air_frame, spelled};
 use crate::initiator::Initiator;
 use crate::listener::PeerListener;
-use air_core::{AirFault, BAD_RECEPTIONS, Field};
+use air_core::{Field, ask_first};
 use arrayvec::ArrayVec;
 use dep_pdu::DepFrame;
-use nfc_base::{Answerer, EndCause, Frame, Heard, LinkEnd};
+use nfc_base::{Answerer, AskFault, EndCause, Frame, LinkEnd};
 
 /// The initiator's NFCID3 (this project's own).
 const INITIATOR_ID: [u8; 10] = [0, 1, 2, 3, 4, 5, 6, 7, 8, 9];
@@ -41,6 +41,18 @@ fn told_atr(frame: &Frame) -> Option<(u8, ArrayVec<u8, 47>)>
     }
 }
 
+/// The fault of a wait as a cause.
+fn cause_of(fault: AskFault) -> EndCause
+    ensures { result ≡ cause_of fault }
+{
+    match fault {
+        AskFault::FieldLost => EndCause::FieldLost,
+        AskFault::SixBad => EndCause::SixBad,
+        AskFault::Protocol => EndCause::Protocol,
+        AskFault::Memory => EndCause::Memory,
+    }
+}
+
 /// Sends ATR_REQ, again after each bad reception, and gives an initiator for the target and its general bytes.
 fn ask_atr<L: PeerListener, A: Answerer>(
     field: &mut Field<L>,
@@ -52,24 +64,13 @@ fn ask_atr<L: PeerListener, A: Answerer>(
         field.old far.old field.new far.new general.now result }
     ensures ends { Activates L.Listener L.target A.restarts field.old field.new general.now far.old far.new result }
 {
-    let request = atr_frame(general);
-    let mut bad = 0;
-    while bad < BAD_RECEPTIONS {
-        match field.transmit(&request, far) {
-            Ok(heard) => {
-                if let Heard::Whole(answer) = heard {
-                    return match told_atr(&answer) {
-                        Some((lr, general)) => Ok((Initiator::new(lr), general)),
-                        None => Err(EndCause::Protocol),
-                    };
-                }
-                bad += 1;
-            }
-            Err(AirFault::FieldLost) => return Err(EndCause::FieldLost),
-            Err(AirFault::Memory) => return Err(EndCause::Memory),
-        }
+    match ask_first(field, &atr_frame(general), far) {
+        Ok(answer) => match told_atr(&answer) {
+            Some((lr, general)) => Ok((Initiator::new(lr), general)),
+            None => Err(EndCause::Protocol),
+        },
+        Err(fault) => Err(cause_of(fault)),
     }
-    Err(EndCause::SixBad)
 }
 
 /// Activates the target that is selected in a field, with general bytes of at most 48, and gives an initiator for it and its general
