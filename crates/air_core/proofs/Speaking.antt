@@ -185,6 +185,15 @@ rests_there {L} {A} m restarts steps stops is_stuck never mid f half new after s
     goes_on (l ∷ ls) ls' a b (l', later, e, inl h) = never a b h.0.payload h.0.far
     goes_on (l ∷ ls) ls' a b (l', later, e, inr (answer, c, meets, h)) = goes_on ls later c b h
 
+-- Such a far end leaves off where it stands.
+pub rests_off : {L A : Type 0} (m : Machine L) (restarts : A → List ℕ → A → Type 0) (steps : A → List ℕ → List ℕ → A → Type 0) (next : List Note → Next)
+    (stops : A → List ℕ → A → Type 0) (is_stuck : A → Bool)
+    → ((a b : A) (p : List ℕ) → stops a p b → ⊥) → (old : Air L) (far : A) (mid : Air L) (half : A) (new : Air L) (after : A) (ns : List Note) → Speaks m restarts steps next old far mid half ns
+    → LeavesOff m restarts steps next stops is_stuck ns mid half new after → Speaks m restarts steps next old far new after ns
+rests_off m restarts steps next stops is_stuck never old far mid half new after ns s (inl same) =
+    subst (λ (a : Air _). Speaks m restarts steps next old far a after ns) (sym same.0) (subst (λ (b : _). Speaks m restarts steps next old far mid b ns) (sym same.1) s)
+rests_off m restarts steps next stops is_stuck never old far mid half new after ns s (inr (f, due, stop)) = absurd (rests_there m restarts steps stops is_stuck never mid f half new after stop)
+
 module _ {L A : Type 0} (m : Machine L) (restarts : A → List ℕ → A → Type 0) (steps : A → List ℕ → List ℕ → A → Type 0) (next : List Note → Next)
     (old : Air L) (far : A) (mid new : Air L) (half after : A) (ns : List Note) (f : Signal) (o : SpeaksOn m restarts steps next old far mid half ns) where
   pub on_turn : (h : Heard) → next ns ≡ Asks f → TurnIs m restarts steps mid f half (Some h) new after → SpeaksOn m restarts steps next old far new after (ns ++ Got h ∷ [])
@@ -216,8 +225,6 @@ module _ {L A : Type 0} (m : Machine L) (restarts : A → List ℕ → A → Typ
   -- a far end that never stops leaves off where it stands
   pub on_resting : {R : Type 0} (dark wanting : R) (stops : A → List ℕ → A → Type 0) (is_stuck : A → Bool) → ((a b : A) (p : List ℕ) → stops a p b → ⊥)
       → Transmits m restarts steps stops is_stuck mid f half (Err air.Memory) new after → Speaks m restarts steps next old far new after ns × TellsWhy dark wanting old.lit ns wanting
-  on_resting dark wanting stops is_stuck never (lit, inl same) = (
-    subst (λ (a : Air L). Speaks m restarts steps next old far a after ns) (sym same.0) (subst (λ (b : A). Speaks m restarts steps next old far mid b ns) (sym same.1) o.speaks),
-    wanting_lit dark wanting old.lit ns (sym o.lit ∙ lit),
-  )
+  on_resting dark wanting stops is_stuck never (lit, inl same) =
+      (rests_off m restarts steps next stops is_stuck never old far mid half new after ns o.speaks (inl same), wanting_lit dark wanting old.lit ns (sym o.lit ∙ lit))
   on_resting dark wanting stops is_stuck never (lit, inr s) = absurd (rests_there m restarts steps stops is_stuck never mid f half new after s)

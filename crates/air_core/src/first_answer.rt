@@ -8,7 +8,7 @@ use crate::listener::Listener;
 use nfc_base::{Answerer, AskFault, Frame, Heard};
 
 /// How many bad receptions end a wait (this project's own).
-pub const BAD_RECEPTIONS: u8 = 6;
+const BAD_RECEPTIONS: u8 = 6;
 
 /// Sends a request, again after each bad reception (NFC Forum Digital Protocol), and gives the first whole answer.
 /// What the answer means is for the caller to see, so it never fails by `Protocol`.

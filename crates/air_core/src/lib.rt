@@ -24,6 +24,6 @@ mod plain_link;
 
 pub use fault::AirFault;
 pub use field::Field;
-pub use first_answer::{BAD_RECEPTIONS, ask_first};
+pub use first_answer::ask_first;
 pub use listener::Listener;
 pub use plain_link::PlainLink;

@@ -1,11 +1,14 @@
 -- The wait of RATS at a Type 4 tag that nothing was asked of, turn by turn.
-use Rattle.std.proofs.Common.{◌≡◌, ℕ, suc, ◌<◌, ◌≤◌, inl, inr, List, [], ◌∷◌, ◌++◌, Bool, true, false, if◌then◌else◌, Option, Some, None, Ok, Err, refl, sym, ◌∙◌, ap, subst, arith}
+use Rattle.std.proofs.Common.{◌≡◌, ℕ, suc, ◌<◌, ◌≤◌, inl, inr, List, [], ◌∷◌, ◌++◌, Bool, true, false, if◌then◌else◌, Option, Some, None, Result, Ok, Err, refl, sym, ◌∙◌, ap, subst, arith}
 use Rattle.std.specs.List.{filter_map, cons_option}
 use Rattle.nfc_base.specs.declared.frame.Tech.TheVariants.{A}
 use Rattle.nfc_base.specs.declared.event.Fate.{Fate}
 use Rattle.nfc_base.specs.declared.event.Fate.TheVariants.{Pass, Damage, Lose, Break}
 use Rattle.nfc_base.specs.declared.event.Heard.{Heard}
-use Rattle.nfc_base.specs.declared.event.Heard.TheVariants.{Whole, Collided, Damaged, Silent}
+use Rattle.nfc_base.specs.declared.event.Heard.TheVariants.{Whole, Damaged, Silent}
+use Rattle.nfc_base.specs.Trace.{is_bad_in_wait}
+use Rattle.nfc_base.specs.declared.far.Mute.{Mute}
+use Rattle.nfc_base.specs.declared.tag_link.AskFault.{AskFault}
 use Rattle.nfc_base.specs.declared.tag_link.AskFault.TheVariants as ask
 use Rattle.nfc_base.specs.Signal.{Signal}
 use Rattle.nfc_base.specs.Far.{Untouched}
@@ -21,7 +24,9 @@ use Rattle.air_core.specs.Waits.{Standing, Asking, Broken, stand, due_at, waits_
 use Rattle.air_core.specs.Waiting.{stand_on}
 use Rattle.air_core.specs.PlainTags.{heard_times, IsAside, IsAlone}
 use Rattle.air_core.specs.PlainWaits.{after_bad}
+use Rattle.air_core.specs.FirstAnswers.{EndsWait, AsksFirst}
 use Rattle.air_core.specs.declared.listener.Listener.{Ghosts}
+use Rattle.air_core.proofs.FirstAnswers.{ByHeard, by_bad, told_as, on_bads, six_at_most}
 use Rattle.air_core.proofs.Quiet.{quiet_turns_to, quiet_turn, quiet_transmits}
 use Rattle.air_core.proofs.PlainAside.{Laws, IsUnmoved, aside_silent, alone_quiet, alone_says}
 use Rattle.air_core.proofs.PlainTurns.{one, joint_one, tag_events, tag_heard, turn_events_as, heard_as, asking_bad}
@@ -30,7 +35,9 @@ use Rattle.isodep_link.specs.Sizes.{piece_size, ats_frame, most_code}
 use Rattle.isodep_link.specs.Card.{CardState, activated}
 use Rattle.isodep_link.specs.Reader.{waiting}
 use Rattle.isodep_link.specs.Exchange.{InStep, IsCut}
-use Rattle.isodep_link.specs.Activating.{reader_code, rats, ats_code, HasFreshTag, IsActivated, RatsSent, RatsEnds}
+use Rattle.isodep_link.specs.Activating.{reader_code, rats, ats_code, told_code, told_ats, AsksRats, HasFreshTag, IsActivated, RatsSent, RatsEnds, Activates}
+use Rattle.isodep_link.specs.Muted.{mute_restarts, mute_steps}
+use Rattle.isodep_link.proofs.AnyTag.{rats_any}
 use Rattle.isodep_link.proofs.Session.{ready_first}
 use Rattle.isodep_link.proofs.CardTurns.{Holds, left_by, alone_after}
 
@@ -66,15 +73,18 @@ module _ {L : Type 0} (k : Ghosts L) (laws : Laws k) (card : L → CardState) (t
     sent = record { notes = []; going = going_start (quiet_air k.machine) (waits_next (rats ∷ [])) (moment old); stands = refl };
   }
 
-  -- what a turn comes to, by what was heard
-  abbrev pub After : Air L → ℕ → Option Heard → Type 0
-  After new bad None = RatsSent k card tag old new (Broken ask.FieldLost (rats ∷ [])) × (new.lit ≡ false)
-  After new bad (Some (Whole g)) =
+  -- the answer came, and the field was lost
+  abbrev Came : Air L → Signal → Type 0
+  Came new g =
       (n : ℕ) × (g ≡ ats) × (sent : RatsSent k card tag old new (Asking 0 [])) × (new.lit ≡ true) × IsAlone k (k.identifier l) new.listeners place (heard_times k l rats (suc n))
       × (before : List Note) × (sent.notes ≡ before ++ Got (Whole g) ∷ [])
-  After new bad (Some (Collided g)) = On new (suc bad)
-  After new bad (Some Damaged) = On new (suc bad)
-  After new bad (Some Silent) = On new (suc bad)
+
+  abbrev Lost : Air L → Type 0
+  Lost new = RatsSent k card tag old new (Broken ask.FieldLost (rats ∷ [])) × (new.lit ≡ false)
+
+  -- what a turn comes to, by what was heard
+  abbrev pub After : Air L → ℕ → Option Heard → Type 0
+  After new bad h = ByHeard (Lost new) (λ g. Came new g) (On new (suc bad)) h
 
   rats_aside : (own : List ℕ) (x : L) → IsAside k own x → IsUnmoved k laws own rats x
   rats_aside own x s = aside_silent k laws own A rats refl tt x s
@@ -140,29 +150,19 @@ module _ {L : Type 0} (k : Ghosts L) (laws : Laws k) (card : L → CardState) (t
           (subst P (sym after) (alone_after k laws card tag holds (k.identifier l) rats (rats_aside (k.identifier l)) (world mid) place now o.alone steps x y (Some ats))))
 
     module _ {F : Type 0} (restarts : F → List ℕ → F → Type 0) (steps : F → List ℕ → List ℕ → F → Type 0) (far far' : F) (new : Air L) where
-      pub after_rats : (h : Heard) → TurnIs k.machine restarts steps mid rats far (Some h) new far' → After new bad (Some h)
+      after_rats : (h : Heard) → TurnIs k.machine restarts steps mid rats far (Some h) new far' → After new bad (Some h)
       after_rats h turn = rats_turn far far' new (Some h) (quiet_turn k.machine restarts steps mid rats far (Some h) new far' quiet_rats turn)
 
       module _ (stops : F → List ℕ → F → Type 0) (is_stuck : F → Bool) where
-        pub rats_lost : Transmits k.machine restarts steps stops is_stuck mid rats far (Err air.FieldLost) new far' → RatsEnds k card tag old new place (Err ask.FieldLost)
+        rats_lost : Transmits k.machine restarts steps stops is_stuck mid rats far (Err air.FieldLost) new far' → RatsEnds k card tag old new place (Err ask.FieldLost)
         rats_lost (inl d) = inl (sym o.lit ∙ d.0, d.1 ∙ o.dim d.0)
         rats_lost (inr turn) = inr (rats_turn far far' new None (quiet_turn k.machine restarts steps mid rats far None new far' quiet_rats turn))
 
-        pub rats_stopped : Transmits k.machine restarts steps stops is_stuck mid rats far (Err air.Memory) new far' → RatsEnds k card tag old new place (Err ask.Memory)
+        rats_stopped : Transmits k.machine restarts steps stops is_stuck mid rats far (Err air.Memory) new far' → RatsEnds k card tag old new place (Err ask.Memory)
         rats_stopped turn =
             let q = quiet_transmits k.machine restarts steps stops is_stuck mid rats far (Err air.Memory) new far' quiet_rats turn in
             let P : Air L → Type 0 = λ a. RatsEnds k card tag old a place (Err ask.Memory) in
             subst P (sym q.1) (bad, (record { notes = o.sent.notes; going = o.sent.going; stands = o.sent.stands ∙ asking_bad rats bad bound }))
-
-  -- a bad reception
-  pub rats_more : (new : Air L) (bad : ℕ) (h : Heard) → ((g : Signal) → h ≡ Whole g → ⊥) → After new bad (Some h) → On new (suc bad)
-  rats_more new bad (Whole g) never a = absurd (never g refl)
-  rats_more new bad (Collided g) never a = a
-  rats_more new bad Damaged never a = a
-  rats_more new bad Silent never a = a
-
-  pub rats_six : (new : Air L) (bad : ℕ) → bad ≡ 6 → On new bad → RatsEnds k card tag old new place (Err ask.SixBad)
-  rats_six new bad e o = subst (λ (n : ℕ). RatsSent k card tag old new (after_bad rats n)) e o.sent
 
   -- ATS came: the tag is activated
   pub rats_done : (new : Air L) (bad : ℕ) (g : Signal) → After new bad (Some (Whole g)) → (c : ℕ) → ats_code g ≡ Some c → RatsEnds k card tag old new place (Ok c)
@@ -189,3 +189,48 @@ module _ {L : Type 0} (k : Ghosts L) (laws : Laws k) (card : L → CardState) (t
   -- own cards never answer RATS otherwise
   pub rats_never : (new : Air L) (bad : ℕ) (g : Signal) → After new bad (Some (Whole g)) → ats_code g ≡ None → ⊥
   rats_never new bad g (n, e, sent, lit, alone, before, last) q = let z : None ≡ Some t.takes.made.code = sym q ∙ ap ats_code e ∙ ats_read t.takes.made.code t.takes.small in absurd (cc)
+
+  abbrev Ends : Air L → Result ℕ AskFault → Type 0
+  Ends new r = RatsEnds k card tag old new place r
+
+  -- what is made of a whole answer
+  ends_by : (new : Air L) (bad : ℕ) (g : Signal) → After new bad (Some (Whole g)) → Ends new (told_ats g)
+  ends_by new bad g a = by_code (ats_code g) refl
+    where
+      by_code : (x : Option ℕ) → ats_code g ≡ x → Ends new (told_code x)
+      by_code None e = absurd (rats_never new bad g a e)
+      by_code (Some c) e = rats_done new bad g a c e
+
+  module _ {F : Type 0} (restarts : F → List ℕ → F → Type 0) (steps : F → List ℕ → List ℕ → F → Type 0) (stops : F → List ℕ → F → Type 0) (is_stuck : F → Bool) (far : F) where
+    ends_at : (bad : ℕ) (mid : Air L) (half : F) → On mid bad → (new : Air L) (after : F) (r : Result Signal AskFault)
+        → EndsWait k.machine restarts steps rats old far stops is_stuck bad mid half new after r → Ends new (told_as told_ats (λ fault. Err fault) r)
+    ends_at bad mid half o new after (Ok g) (bound, turn) = ends_by new bad g (after_rats mid bad bound o restarts steps half after new (Whole g) turn)
+    ends_at bad mid half o new after (Err ask.FieldLost) (bound, turn) = rats_lost mid bad bound o restarts steps half after new stops is_stuck turn
+    ends_at bad mid half o new after (Err ask.Memory) (bound, turn) = rats_stopped mid bad bound o restarts steps half after new stops is_stuck turn
+    ends_at bad mid half o new after (Err ask.SixBad) (six, same, rests) =
+        subst (λ (a : Air L). Ends a (Err ask.SixBad)) (sym same) (subst (λ (n : ℕ). RatsSent k card tag old mid (after_bad rats n)) six o.sent)
+    ends_at bad mid half o new after (Err ask.Protocol) e = absurd e
+
+    -- a wait of RATS at the tag
+    rats_ends : (new : Air L) (after : F) (r : Result Signal AskFault) → AsksFirst k.machine restarts steps rats old far stops is_stuck new after r
+        → Ends new (told_as told_ats (λ fault. Err fault) r)
+    rats_ends new after r a =
+        ends_at a.bad a.mid a.half
+        (on_bads k.machine restarts steps rats old far (λ mid half n. On mid n) more_bad first_rats
+        a.bad (six_at_most k.machine restarts steps rats old far stops is_stuck a.bad a.mid a.half new after r a.ends) a.mid a.half a.before)
+        new after r a.ends
+      where
+        more_bad : (mid : Air L) (half : F) (n : ℕ) → n < 6 → On mid n → (next : Air L) (rest : F) (h : Heard)
+            → TurnIs k.machine restarts steps mid rats half (Some h) next rest → is_bad_in_wait h ≡ true → On next (suc n)
+        more_bad mid half n bound o next rest h turn bad = by_bad (Lost next) (λ g. Came next g) (On next (suc n)) h bad (after_rats mid n bound o restarts steps half rest next h turn)
+
+-- A wait of RATS, with listeners of any kind and at the tag.
+pub asked_rats : {L : Type 0} (k : Ghosts L) (laws : Laws k) (card : L → CardState) (tag : L → TagState) → Holds k tag → (stops : Mute → List ℕ → Mute → Type 0) (is_stuck : Mute → Bool)
+    → ((a b : Mute) (p : List ℕ) → stops a p b → ⊥) → (old : Air L) (place : ℕ) (far : Mute) (new : Air L) (after : Mute) (f : Signal) → f ≡ rats
+    → (r : Result Signal AskFault) → AsksFirst k.machine mute_restarts mute_steps f old far stops is_stuck new after r → (result : Result ℕ AskFault)
+    → told_as told_ats (λ fault. Err fault) r ≡ result → AsksRats k.machine old new result × Activates k card tag old new place result
+asked_rats k laws card tag holds stops is_stuck never old place far new after f is r a result e =
+    let A : Signal → Type 0 = λ x. AsksFirst k.machine mute_restarts mute_steps x old far stops is_stuck new after r in
+    let asks : A rats = subst A is a in
+    let P : Result ℕ AskFault → Type 0 = λ x. AsksRats k.machine old new x × Activates k card tag old new place x in
+    subst P e (rats_any k.machine old far stops is_stuck never new after r asks, λ t. rats_ends k laws card tag holds old place t mute_restarts mute_steps stops is_stuck far new after r asks)

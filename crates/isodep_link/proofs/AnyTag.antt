@@ -1,91 +1,42 @@
 -- A reader with listeners of any kind: the wait of RATS, and one command, turn by turn.
-use Rattle.std.proofs.Common.{◌≡◌, ℕ, suc, ◌<◌, inl, inr, List, [], ◌∷◌, ◌++◌, Bool, Some, Result, Ok, Err, refl, sym, ◌∙◌, ap, subst}
+use Rattle.std.proofs.Common.{◌≡◌, ℕ, inl, inr, List, [], ◌∷◌, ◌++◌, Bool, Some, Result, Ok, Err, refl, sym, ◌∙◌, ap, subst}
 use Rattle.nfc_base.specs.Signal.{Signal, whole_a}
 use Rattle.nfc_base.specs.declared.event.Heard.{Heard}
-use Rattle.nfc_base.specs.declared.event.Heard.TheVariants.{Whole, Collided, Damaged, Silent}
 use Rattle.nfc_base.specs.declared.tag_link.AskFault.{AskFault}
 use Rattle.nfc_base.specs.declared.tag_link.AskFault.TheVariants as ask
 use Rattle.air_core.specs.World.{Machine}
 use Rattle.air_core.specs.Turn.{Air, TurnIs, Transmits}
 use Rattle.air_core.specs.Conversation.{Note, Got, Lost, Next, Asks}
-use Rattle.air_core.specs.Waits as waits
-use Rattle.air_core.specs.Waits.{Asking, waits_next}
-use Rattle.air_core.specs.Waiting as waiting
-use Rattle.air_core.specs.PlainWaits.{after_bad}
+use Rattle.air_core.specs.Waits.{waits_next}
+use Rattle.air_core.specs.FirstAnswers.{AsksFirst}
 use Rattle.air_core.specs.declared.fault.AirFault.TheVariants as air
 use Rattle.air_core.specs.Speaking.{Speaks}
-use Rattle.air_core.proofs.PlainTurns.{asking_bad}
-use Rattle.air_core.proofs.Speaking.{SpeaksOn, on_start, on_turn, on_lost, on_dark, on_resting}
+use Rattle.air_core.proofs.FirstAnswers.{told_as, tells_wait}
+use Rattle.air_core.proofs.Speaking.{SpeaksOn, on_start, on_turn, on_lost, on_dark, on_resting, rests_off}
 use Rattle.isodep_link.specs.declared.reader.ReaderStep.{ReaderStep}
 use Rattle.isodep_link.specs.declared.reader.ReaderStep.TheVariants as step
 use Rattle.isodep_link.specs.Reader.{ReaderState, ReaderTurn, reader_table}
 use Rattle.nfc_base.specs.declared.far.Mute.{Mute}
 use Rattle.isodep_link.specs.Muted.{mute_restarts, mute_steps}
-use Rattle.isodep_link.specs.Activating.{rats, ats_code, told_code, AnswersRats, AsksRats}
+use Rattle.isodep_link.specs.Activating.{rats, told_ats, AsksRats}
 use Rattle.isodep_link.specs.Asking.{IsoStanding, Waits, Rests, Broken, asks, goes_by, noted, stand, due_at, iso_next, Finishes, AnswersCommand, AsksCommand}
 use Rattle.isodep_link.proofs.AskingLaw.{stand_on}
 
--- after so many bad receptions of RATS
-pub record RatsSaid {L : Type 0} (m : Machine L) (old mid : Air L) (half : Mute) (bad : ℕ) : Type 0 where
-  pub first : Mute
-  pub notes : List Note
-  pub on : SpeaksOn m mute_restarts mute_steps (waits_next (rats ∷ [])) old first mid half notes
-  pub stands : waits.stand 0 (rats ∷ []) notes ≡ after_bad rats bad
-
-pub rats_said : {L : Type 0} (m : Machine L) (old : Air L) (far : Mute) → RatsSaid m old old far 0
-rats_said m old far = record { first = far; notes = []; on = on_start m mute_restarts mute_steps (waits_next (rats ∷ [])) old far; stands = refl }
-
--- what a wait of RATS answers where it stands so
-rats_told : {L : Type 0} (m : Machine L) (old new : Air L) (ns : List Note) (s : waits.Standing) (r : Result ℕ AskFault) (far after : Mute) → Speaks m mute_restarts mute_steps (waits_next (rats ∷ [])) old far new after ns → waits.stand 0 (rats ∷ []) ns ≡ s
-    → AnswersRats old.lit ns s r → AsksRats m old new r
-rats_told m old new ns s r far after speaks e a = record { notes = ns; speaks = record { far = far; after = after; speaks = speaks }; answers = subst (λ (x : waits.Standing). AnswersRats old.lit ns x r) (sym e) a }
-
-module _ {L : Type 0} (m : Machine L) (far far' : Mute) (old mid new : Air L) (bad : ℕ) (bound : bad < 6) (o : RatsSaid m old mid far bad) where
-  rats_stand : waits.stand 0 (rats ∷ []) o.notes ≡ Asking bad (rats ∷ [])
-  rats_stand = o.stands ∙ asking_bad rats bad bound
-
-  rats_due : waits_next (rats ∷ []) o.notes ≡ Asks rats
-  rats_due = ap waits.due_at rats_stand
-
-  rats_then : (n : Note) → waits.stand 0 (rats ∷ []) (o.notes ++ n ∷ []) ≡ waits.stand bad (rats ∷ []) (n ∷ [])
-  rats_then n = waiting.stand_on 0 (rats ∷ []) o.notes bad (rats ∷ []) rats_stand [] (n ∷ [])
-
-  rats_on : (h : Heard) → TurnIs m mute_restarts mute_steps mid rats far (Some h) new far' → SpeaksOn m mute_restarts mute_steps (waits_next (rats ∷ [])) old o.first new far' (o.notes ++ Got h ∷ [])
-  rats_on h t = on_turn m mute_restarts mute_steps (waits_next (rats ∷ [])) old o.first mid new far far' o.notes rats o.on h rats_due t
-
-  -- a bad reception
-  pub rats_again : (h : Heard) → ((g : Signal) → h ≡ Whole g → ⊥) → TurnIs m mute_restarts mute_steps mid rats far (Some h) new far' → RatsSaid m old new far' (suc bad)
-  rats_again h never t = record { first = o.first; notes = o.notes ++ Got h ∷ []; on = rats_on h t; stands = rats_then (Got h) ∙ by_heard h never }
-    where
-      by_heard : (k : Heard) → ((g : Signal) → k ≡ Whole g → ⊥) → waits.stand bad (rats ∷ []) (Got k ∷ []) ≡ after_bad rats (suc bad)
-      by_heard (Whole g) other = absurd (other g refl)
-      by_heard (Collided g) other = refl
-      by_heard Damaged other = refl
-      by_heard Silent other = refl
-
-  -- a whole frame
-  pub rats_whole : (g : Signal) → TurnIs m mute_restarts mute_steps mid rats far (Some (Whole g)) new far' → AsksRats m old new (told_code (ats_code g))
-  rats_whole g t =
-      rats_told m old new (o.notes ++ Got (Whole g) ∷ []) (Asking 0 []) (told_code (ats_code g)) o.first far' (rats_on (Whole g) t).speaks (rats_then (Got (Whole g))) (o.notes, g, refl, refl)
-
-  module _ (stops : Mute → List ℕ → Mute → Type 0) (is_stuck : Mute → Bool) where
-    pub rats_lost_any : Transmits m mute_restarts mute_steps stops is_stuck mid rats far (Err air.FieldLost) new far' → AsksRats m old new (Err ask.FieldLost)
-    rats_lost_any (inl d) =
-        let s = on_dark m mute_restarts mute_steps (waits_next (rats ∷ [])) old o.first mid new far far' o.notes rats o.on {R = Result ℕ AskFault} (Err ask.FieldLost) (Err ask.Memory) d.0 d.1 d.2 in
-        rats_told m old new o.notes (Asking bad (rats ∷ [])) (Err ask.FieldLost) o.first far' s.0 rats_stand s.1
-    rats_lost_any (inr t) =
-        rats_told m old new (o.notes ++ Lost ∷ []) (waits.Broken ask.FieldLost (rats ∷ [])) (Err ask.FieldLost) o.first far'
-        (on_lost m mute_restarts mute_steps (waits_next (rats ∷ [])) old o.first mid new far far' o.notes rats o.on rats_due t) (rats_then Lost) refl
-
-    pub rats_stopped_any : ((a b : Mute) (p : List ℕ) → stops a p b → ⊥) → Transmits m mute_restarts mute_steps stops is_stuck mid rats far (Err air.Memory) new far' → AsksRats m old new (Err ask.Memory)
-    rats_stopped_any never t =
-        let s = on_resting m mute_restarts mute_steps (waits_next (rats ∷ [])) old o.first mid new far far' o.notes rats o.on {R = Result ℕ AskFault} (Err ask.FieldLost) (Err ask.Memory) stops is_stuck never t in
-        rats_told m old new o.notes (Asking bad (rats ∷ [])) (Err ask.Memory) o.first far' s.0 rats_stand s.1
-
--- the sixth
-pub rats_six_any : {L : Type 0} (m : Machine L) (old mid : Air L) (half : Mute) (bad : ℕ) → bad ≡ 6 → RatsSaid m old mid half bad → AsksRats m old mid (Err ask.SixBad)
-rats_six_any m old mid half bad e o =
-    rats_told m old mid o.notes (waits.Broken ask.SixBad (rats ∷ [])) (Err ask.SixBad) o.first half o.on.speaks (o.stands ∙ ap (after_bad rats) e) refl
+-- a wait of RATS, by what was heard
+pub rats_any : {L : Type 0} (m : Machine L) (old : Air L) (far : Mute) (stops : Mute → List ℕ → Mute → Type 0) (is_stuck : Mute → Bool) → ((a b : Mute) (p : List ℕ) → stops a p b → ⊥)
+    → (new : Air L) (after : Mute) (r : Result Signal AskFault) → AsksFirst m mute_restarts mute_steps rats old far stops is_stuck new after r
+    → AsksRats m old new (told_as told_ats (λ fault. Err fault) r)
+rats_any m old far stops is_stuck never new after r a =
+    let t = tells_wait m mute_restarts mute_steps rats old far stops is_stuck {R = Result ℕ AskFault} told_ats (λ fault. Err fault) new after r a in
+    record {
+      notes = t.notes;
+      speaks = record {
+        far = far;
+        after = after;
+        speaks = rests_off m mute_restarts mute_steps (waits_next (rats ∷ [])) stops is_stuck never old far t.mid t.half new after t.notes t.speaks t.leaves;
+      };
+      answers = t.answers;
+    }
 
 -- a command is under way: this was sent last
 pub record CommandSaid {L : Type 0} (m : Machine L) (old mid : Air L) (i0 : ReaderState) (command : List ℕ) (half : Mute) (i : ReaderState) (f : Signal) : Type 0 where

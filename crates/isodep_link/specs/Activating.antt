@@ -1,5 +1,5 @@
 -- How a reader activates a Type 4 tag by RATS (ISO/IEC 14443-4; NFC Forum Digital Protocol).
-use Rattle.std.specs.Prelude.{◌≡◌, ◌⊎◌, ℕ, Bool, ◌%◌, ◌≤◌, ◌==◌, ◌&&◌, nat_lt, List, [], ◌∷◌, ◌++◌, length, slice_index, true, false, if◌then◌else◌, Option, Some, None, Result, Ok, Err}
+use Rattle.std.specs.Prelude.{◌≡◌, ◌⊎◌, ℕ, ◌%◌, ◌≤◌, ◌==◌, ◌&&◌, nat_lt, List, [], ◌∷◌, ◌++◌, length, slice_index, true, false, if◌then◌else◌, Option, Some, None, Result, Ok, Err}
 use Rattle.nfc_base.specs.declared.frame.Tech.TheVariants.{A}
 use Rattle.nfc_base.specs.Signal.{Signal, whole_a, is_whole_a}
 use Rattle.nfc_base.specs.Headed.{rats_byte}
@@ -11,7 +11,8 @@ use Rattle.air_core.specs.World.{Machine, quiet_air}
 use Rattle.air_core.specs.Turn.{Air, moment}
 use Rattle.nfc_base.specs.declared.event.Heard.TheVariants.{Whole}
 use Rattle.air_core.specs.Conversation.{Note, Got, Going}
-use Rattle.air_core.specs.Waits.{Standing, Asking, Broken, Astray, stand, waits_next}
+use Rattle.air_core.specs.Waits.{Standing, Asking, Broken, stand, waits_next}
+use Rattle.air_core.specs.FirstAnswers.{TellsFirst}
 use Rattle.air_core.specs.PlainTags.{heard_times, IsAlone}
 use Rattle.air_core.specs.declared.listener.Listener.{Ghosts}
 use Rattle.isodep_link.specs.Sizes.{piece_size, most_code, ats_frame}
@@ -19,7 +20,7 @@ use Rattle.isodep_link.specs.Card.{CardState, activated}
 use Rattle.isodep_link.specs.Exchange.{IsMade}
 use Rattle.isodep_link.specs.Reader.{ReaderState, waiting}
 use Rattle.isodep_link.specs.CardTags.{IsCardTag}
-use Rattle.isodep_link.specs.Muted.{SpeaksMute, IsStopped}
+use Rattle.isodep_link.specs.Muted.{SpeaksMute}
 use Rattle.isodep_link.specs.Asking.{HasCardTag}
 use Rattle.isodep_link.specs.IsoLinks.{IsoSeen, IsIsoReady}
 
@@ -45,21 +46,15 @@ abbrev pub told_code : Option ℕ → Result ℕ AskFault
 told_code None = Err Protocol
 told_code (Some code) = Ok code
 
--- How a wait of RATS ends: by the first whole frame, which is an answer to RATS and tells a size code or isn't one; at the sixth
--- bad reception; or as the field is lost. Nothing else ends it but want of memory.
-abbrev pub AnswersRats : Bool → List Note → Standing → Result ℕ AskFault → Type 0
-AnswersRats lit ns (Asking bad []) result =
-    (before : List Note) × (f : Signal) × (ns ≡ before ++ Got (Whole f) ∷ []) × (result ≡ told_code (ats_code f))
-AnswersRats lit ns (Asking bad (c ∷ cs)) result = IsStopped lit ns result
-AnswersRats lit ns (Broken fault cs) result = result ≡ Err fault
-AnswersRats lit ns Astray result = ⊥
+-- what the first whole answer tells
+abbrev pub told_ats : Signal → Result ℕ AskFault
+told_ats g = told_code (ats_code g)
 
--- From one field to another, with listeners of any kind: RATS was sent again after each bad reception, as long as it was due, and
--- this is told by what was heard.
+-- From one field to another, with listeners of any kind: RATS was sent in one wait, and this is told by what was heard.
 pub record AsksRats {L : Type 0} (m : Machine L) (old new : Air L) (result : Result ℕ AskFault) : Type 0 where
   pub notes : List Note
   pub speaks : SpeaksMute m (waits_next (rats ∷ [])) old new notes
-  pub answers : AnswersRats old.lit notes (stand 0 (rats ∷ []) notes) result
+  pub answers : TellsFirst told_ats (λ fault. Err fault) old.lit notes (stand 0 (rats ∷ []) notes) result
 
 -- the last that was heard is an answer to RATS that tells this code
 abbrev pub TellsCode : List Note → ℕ → Type 0

@@ -4,8 +4,8 @@ ghost use Rattle.std.specs.Prelude.{◌≡◌};
 ghost use Rattle.isodep_link.specs.Activating.{rats, ats_code, AsksRats, Activates};
 
 use crate::listener::CardListener;
-use air_core::{AirFault, BAD_RECEPTIONS, Field};
-use nfc_base::{AskFault, Frame, Heard, Mute, Tech};
+use air_core::{Field, ask_first};
+use nfc_base::{AskFault, Frame, Mute, Tech};
 
 /// RATS of this reader: its size code, the largest, in the high nibble of the second byte.
 const RATS: [u8; 2] = [0xE0, 0x80];
@@ -44,23 +44,6 @@ pub(crate) fn activate_card<L: CardListener>(
     ensures turns { AsksRats L.machine field.old field.new result }
     ensures ends { Activates L.Listener L.card L.tag field.old field.new place result }
 {
-    let mut far = Mute;
-    let request = rats();
-    let mut bad = 0;
-    while bad < BAD_RECEPTIONS {
-        match field.transmit(&request, &mut far) {
-            Ok(heard) => {
-                if let Heard::Whole(answer) = heard {
-                    return match ats_code(&answer) {
-                        Some(code) => Ok(code),
-                        None => Err(AskFault::Protocol),
-                    };
-                }
-                bad += 1;
-            }
-            Err(AirFault::FieldLost) => return Err(AskFault::FieldLost),
-            Err(AirFault::Memory) => return Err(AskFault::Memory),
-        }
-    }
-    Err(AskFault::SixBad)
+    let answer = ask_first(field, &rats(), &mut Mute)?;
+    ats_code(&answer).ok_or(AskFault::Protocol)
 }
