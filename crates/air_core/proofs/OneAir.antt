@@ -12,12 +12,13 @@ use Rattle.nfc_base.specs.Signal.{Signal}
 use Rattle.nfc_base.specs.Trace.{turns, heard, heard_by}
 use Rattle.nfc_base.specs.StopAndWait as exchanges
 use Rattle.nfc_base.specs.StopAndWait.{StopAndWait, Does, Quiet, Reply, Deliver, Next, Send, Ends, Silent, Stage, Requests, stage_of, transmitted, counted, hears, answering_does}
-use Rattle.nfc_base.specs.LinkTurns.{Turned, heard_in, arrived, settled, step, answered, turned}
+use Rattle.nfc_base.specs.LinkTurns.{Turned, arrived, settled, step, answered, turned}
 use Rattle.air_core.specs.Joint.{Joint, Nothing, Single, Clashing, joint, same_tech}
 use Rattle.air_core.specs.World.{quiet_air}
 use Rattle.air_core.specs.Conversation.{AirModel, joint_events, joint_back, replay}
 use Rattle.air_core.specs.OneAir.{TellsHeard, listener_of, alone, IsAirTurn, back_by, both_by, stage_by, IsBothTransmitted, TurnsOnAir, SendsTurns}
 use Rattle.air_core.proofs.PlainTurns.{one, joint_one}
+use Rattle.air_core.proofs.TableTurns.{passed_events, passed_heard}
 
 joint_tells : (f : Signal) (j : Joint) (y : Fate) → map heard (turns (Request f Pass ∷ joint_events j y)) ≡ heard_by Pass (joint_back j y) ∷ []
 joint_tells f Nothing y = refl
@@ -36,17 +37,6 @@ same_itself V = refl
 same_itself F = refl
 
 module _ {I T : Type 0} (L : StopAndWait I T Signal) (reply : List ℕ) where
-  passed_events : (t : T) (asked : Option (List ℕ)) (f : Signal) (o : Option Signal) (y : Fate) → (answered L t asked f o y).events ≡ Request f Pass ∷ joint_events (one o) y
-  passed_events t asked f None y = refl
-  passed_events t asked f (Some g) y = refl
-
-  passed_heard : (t : T) (asked : Option (List ℕ)) (f : Signal) (o : Option Signal) (y : Fate) → heard_in (answered L t asked f o y).heard ≡ heard_by Pass (joint_back (one o) y)
-  passed_heard t asked f None y = refl
-  passed_heard t asked f (Some g) Pass = refl
-  passed_heard t asked f (Some g) Damage = refl
-  passed_heard t asked f (Some g) Lose = refl
-  passed_heard t asked f (Some g) Break = refl
-
   -- the end once the request has passed, whatever comes back
   passed_left : (u : Tech) (s t : T) (asked : Option (List ℕ)) (f : Signal) (o : Option Signal) (y : Fate) → s ≡ t
       → (replay (quiet_air (listener_of L reply u)) (alone L reply s) (joint_events (one o) y)).listeners ≡ (answered L t asked f o y).answering ∷ []
@@ -66,9 +56,9 @@ module _ {I T : Type 0} (L : StopAndWait I T Signal) (reply : List ℕ) where
       let steps : (if same_tech f.tech f.tech then s else t) ≡ s = ap (λ v. if v then s else t) own in
       let R : List Event → List T = λ es. (replay (quiet_air (listener_of L reply f.tech)) (alone L reply t) es).listeners in
       record {
-        events = passed_events s asked f o y ∙ sym (ap (λ j. Request f Pass ∷ joint_events j y) joins);
-        heard_is = passed_heard s asked f o y ∙ sym (ap (λ j. heard_by Pass (joint_back j y)) joins);
-        left = ap R (passed_events s asked f o y) ∙ passed_left f.tech (if same_tech f.tech f.tech then s else t) s asked f o y steps;
+        events = passed_events L s asked f o y ∙ sym (ap (λ j. Request f Pass ∷ joint_events j y) joins);
+        heard_is = passed_heard L s asked f o y ∙ sym (ap (λ j. heard_by Pass (joint_back j y)) joins);
+        left = ap R (passed_events L s asked f o y) ∙ passed_left f.tech (if same_tech f.tech f.tech then s else t) s asked f o y steps;
       }
   air_turn t f Damage y = record { events = refl; heard_is = refl; left = refl }
   air_turn t f Lose y = record { events = refl; heard_is = refl; left = refl }

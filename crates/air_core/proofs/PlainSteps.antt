@@ -1,7 +1,6 @@
 -- How a wait of a plain tag goes on by one turn, and how it ends.
 use Rattle.std.proofs.Common.{◌≡◌, ℕ, zero, suc, ◌+◌, ◌<◌, ◌≤◌, ◌⊎◌, inl, inr, List, [], ◌∷◌, ◌++◌, length, true, if◌then◌else◌, Option, Some, None, refl, sym, ◌∙◌, ap, subst, append-nil, arith, false}
 use Rattle.std.specs.Prelude.{map}
-use Rattle.std.specs.List.{filter_map, cons_option}
 use Rattle.nfc_base.specs.declared.frame.Tech.{Tech}
 use Rattle.nfc_base.specs.declared.event.Event.{Event}
 use Rattle.nfc_base.specs.declared.event.Fate.{Fate}
@@ -14,9 +13,9 @@ use Rattle.nfc_base.specs.Far.{Untouched}
 use Rattle.nfc_base.specs.TagLinks.{TagState, plain_state, IsNamedIn, after_all, passed}
 use Rattle.nfc_base.specs.Trace.{Turn, back_of, noise}
 use Rattle.nfc_base.specs.Trace as backs
-use Rattle.air_core.specs.Joint.{joint, same_tech}
-use Rattle.air_core.specs.World.{World, hears, hands_over, answered_by, stepped_by, quiet_air}
-use Rattle.air_core.specs.Conversation.{note, replay, turn_events, TurnsTo, first_fate, later_fates}
+use Rattle.air_core.specs.Joint.{same_tech}
+use Rattle.air_core.specs.World.{hears, hands_over, stepped_by, quiet_air}
+use Rattle.air_core.specs.Conversation.{note, replay, TurnsTo, first_fate, later_fates}
 use Rattle.air_core.specs.Turn.{Air, moment, world}
 use Rattle.air_core.specs.Quiet.{EachQuiet, QuietTurn}
 use Rattle.air_core.specs.Waits.{Asking, Broken, stand}
@@ -27,10 +26,11 @@ use Rattle.air_core.specs.declared.listener.Listener.{Ghosts}
 use Rattle.air_core.proofs.FirstAnswers.{ByHeard}
 use Rattle.air_core.proofs.OneAir.{same_itself}
 use Rattle.air_core.proofs.Quiet.{quiet_turns_to}
-use Rattle.air_core.proofs.PlainAside.{Laws, IsUnmoved, aside_silent, may_tech, alone_dark, alone_quiet, alone_says, alone_steps}
+use Rattle.air_core.proofs.PlainAside.{Laws, IsUnmoved, aside_silent, may_tech, alone_quiet}
+use Rattle.air_core.proofs.AloneTurns.{left_by, ComesTo, stepped_alone, comes_to}
 use Rattle.air_core.proofs.PlainTagging.{IsSteady}
 use Rattle.air_core.proofs.PlainStores.{newly, passed_more, pictures}
-use Rattle.air_core.proofs.PlainTurns.{one, joint_one, tag_events, tag_heard, turn_events_as, heard_as, tag_most, noise_append, times_more, asking_bad, extend}
+use Rattle.air_core.proofs.PlainTurns.{tag_events, tag_heard, tag_most, noise_append, times_more, asking_bad, extend}
 
 module _ {L : Type 0} (k : Ghosts L) where
   -- what a turn comes to after some bad receptions, by what was heard
@@ -38,33 +38,6 @@ module _ {L : Type 0} (k : Ghosts L) where
   Outcome old new place f tag bad h = ByHeard (Darkened k old new place f tag) (λ g. Answered k old new place f tag g) (GoesOn k old new place f tag (suc bad)) h
 
   module _ (laws : Laws k) where
-    -- what the tag is after a turn
-    abbrev pub back_left : L → Fate → L
-    back_left l Pass = l
-    back_left l Damage = l
-    back_left l Lose = l
-    back_left l Break = k.machine.darkened l
-
-    abbrev pub tag_left : L → Signal → Fate → Fate → Option Signal → L
-    tag_left l f Pass y None = k.machine.after l f None
-    tag_left l f Pass y (Some g) = back_left (k.machine.after l f None) y
-    tag_left l f Damage y o = l
-    tag_left l f Lose y o = l
-    tag_left l f Break y o = k.machine.darkened l
-
-    alone_turn : (own : List ℕ) (f : Signal) (all : (l : L) → IsAside k own l → IsUnmoved k laws own f l) (w : World L) (place : ℕ) (l : L) → IsAlone k own w.listeners place l
-        → stepped_by k.machine l f None ≡ k.machine.after l f None → (x y : Fate) (o : Option Signal)
-        → IsAlone k own (replay (quiet_air k.machine) w (tag_events f x y o)).listeners place (tag_left l f x y o)
-    alone_turn own f all w place l a e Pass y None = let P : L → Type 0 = IsAlone k own (map (λ x. stepped_by k.machine x f None) w.listeners) place in subst P e (alone_steps k laws own f all w.listeners place l a)
-    alone_turn own f all w place l a e Pass Pass (Some g) = let P : L → Type 0 = IsAlone k own (map (λ x. stepped_by k.machine x f None) w.listeners) place in subst P e (alone_steps k laws own f all w.listeners place l a)
-    alone_turn own f all w place l a e Pass Damage (Some g) = let P : L → Type 0 = IsAlone k own (map (λ x. stepped_by k.machine x f None) w.listeners) place in subst P e (alone_steps k laws own f all w.listeners place l a)
-    alone_turn own f all w place l a e Pass Lose (Some g) = let P : L → Type 0 = IsAlone k own (map (λ x. stepped_by k.machine x f None) w.listeners) place in subst P e (alone_steps k laws own f all w.listeners place l a)
-    alone_turn own f all w place l a e Pass Break (Some g) =
-        alone_dark k laws own (map (λ x. stepped_by k.machine x f None) w.listeners) place (k.machine.after l f None) (let P : L → Type 0 = IsAlone k own (map (λ x. stepped_by k.machine x f None) w.listeners) place in subst P e (alone_steps k laws own f all w.listeners place l a))
-    alone_turn own f all w place l a e Damage y o = a
-    alone_turn own f all w place l a e Lose y o = a
-    alone_turn own f all w place l a e Break y o = alone_dark k laws own w.listeners place l a
-
     heard_keeps : (l : L) (f : Signal) (n : ℕ) → (k.machine.tech (heard_times k l f n) ≡ k.machine.tech l) × (k.identifier (heard_times k l f n) ≡ k.identifier l)
     heard_keeps l f zero = (refl, refl)
     heard_keeps l f (suc n) = ((laws.step_keeps (heard_times k l f n) f None).tech' ∙ (heard_keeps l f n).0, (laws.step_keeps (heard_times k l f n) f None).identifier' ∙ (heard_keeps l f n).1)
@@ -124,7 +97,7 @@ module _ {L : Type 0} (k : Ghosts L) where
 
       finish : (x y : Fate) (o : Option Signal) → (tag_step k tag f).answer ≡ o → TurnsTo (quiet_air k.machine) (moment mid) (moment new) f (tag_heard x y o)
           → new.trace ≡ mid.trace ++ tag_events f x y o → world new ≡ replay (quiet_air k.machine) (world mid) (tag_events f x y o)
-          → IsAlone k (k.identifier tag) new.listeners place (tag_left (heard_times k tag f n) f x y o)
+          → IsAlone k (k.identifier tag) new.listeners place (left_by k (heard_times k tag f n) f x y o)
           → Follows held.store (stores_after k place (world mid) (tag_events f x y o)) (passed (k.commands tag) held (newly x f)) → Outcome old new place f tag bad (tag_heard x y o)
       finish Damage y o says turn trace after alone images =
           goes_more Silent (tag_events f Damage y o) n turn trace refl (tag_most f Damage y o) alone (append-nil (times f n)) refl refl [] same_passed images (ap (λ v. v.lit) after ∙ lit) (inr (omega arith))
@@ -165,37 +138,23 @@ module _ {L : Type 0} (k : Ghosts L) where
       hands : hands_over k.machine (heard_times k tag f goes.heard) f ≡ Untouched
       hands = ap (λ v. if v then k.machine.handed (heard_times k tag f goes.heard) f else Untouched) hearing ∙ steady.quiet goes.heard
 
-      answers : answered_by k.machine (heard_times k tag f goes.heard) f None ≡ (tag_step k tag f).answer
-      answers = ap (λ v. if v then k.machine.answer (heard_times k tag f goes.heard) f None else None) hearing ∙ steady.answer goes.heard
-
-      steps : stepped_by k.machine (heard_times k tag f goes.heard) f None ≡ k.machine.after (heard_times k tag f goes.heard) f None
-      steps = ap (λ v. if v then k.machine.after (heard_times k tag f goes.heard) f None else heard_times k tag f goes.heard) hearing
-
       -- none of the listeners asks anything of a far end
       pub each_quiet : EachQuiet k.machine f mid.listeners
       each_quiet = alone_quiet k laws (k.identifier tag) f silent mid.listeners place (heard_times k tag f goes.heard) goes.waits.alone hands
-
-      joins : joint (filter_map (λ l. answered_by k.machine l f None) mid.listeners) ≡ one (tag_step k tag f).answer
-      joins =
-          ap joint (alone_says k laws (k.identifier tag) f silent mid.listeners place (heard_times k tag f goes.heard) goes.waits.alone)
-          ∙ ap (λ o. joint (cons_option o [])) answers ∙ joint_one (tag_step k tag f).answer
 
       pub turned : {F : Type 0} (new : Air L) (h : Option Heard) (far far' : F) → bad < 6 → QuietTurn k.machine mid f far h new far' → Outcome old new place f tag bad h
       turned new h far far' bound t =
           let x : Fate = first_fate mid.fates in
           let y : Fate = first_fate (later_fates mid.fates) in
           let o : Option Signal = (tag_step k tag f).answer in
-          let es : turn_events (quiet_air k.machine) (world mid) f x y ≡ tag_events f x y o = turn_events_as k (world mid) f x y o joins in
-          let told : h ≡ tag_heard x y o = heard_as k (world mid) f x y o h joins t.told in
-          let trace : new.trace ≡ mid.trace ++ tag_events f x y o = t.trace ∙ ap (λ e. mid.trace ++ e) es in
-          let after : world new ≡ replay (quiet_air k.machine) (world mid) (tag_events f x y o) = t.after ∙ ap (replay (quiet_air k.machine) (world mid)) es in
-          let I : List L → Type 0 = λ ls. IsAlone k (k.identifier tag) ls place (tag_left (heard_times k tag f goes.heard) f x y o) in
-          let alone : I new.listeners = subst I (sym (ap (λ v. v.listeners) after)) (alone_turn (k.identifier tag) f silent (world mid) place (heard_times k tag f goes.heard) goes.waits.alone steps x y o) in
-          let J : L → Type 0 = IsAlone k (k.identifier tag) (map (λ z. stepped_by k.machine z f None) mid.listeners) place in
-          let next : J (heard_times k tag f (suc goes.heard)) = subst J steps (alone_steps k laws (k.identifier tag) f silent mid.listeners place (heard_times k tag f goes.heard) goes.waits.alone) in
+          let l : L = heard_times k tag f goes.heard in
+          let c : ComesTo k (k.identifier tag) mid new place l f h x y o =
+          comes_to k laws (k.identifier tag) f silent mid place l goes.waits.alone hearing o (steady.answer goes.heard) far far' new h t in
+          let next : IsAlone k (k.identifier tag) (map (λ z. stepped_by k.machine z f None) mid.listeners) place (heard_times k tag f (suc goes.heard)) =
+          stepped_alone k laws (k.identifier tag) f silent (world mid) place l goes.waits.alone hearing in
           let N : Option Heard → Type 0 = λ g. TurnsTo (quiet_air k.machine) (moment mid) (moment new) f g in
           let O : Option Heard → Type 0 = Outcome old new place f tag bad in
           let turn : N h = quiet_turns_to k.machine mid new f far far' h t in
           let start : old.lit ≡ true = sym goes.lit ∙ t.lit in
-          subst O (sym told) (finish old mid new place f tag bad goes.heard bound t.lit start goes.waits goes.calm same x y o refl (subst N told turn) trace after alone
+          subst O (sym c.told) (finish old mid new place f tag bad goes.heard bound t.lit start goes.waits goes.calm same x y o refl (subst N c.told turn) c.trace c.after c.alone
           (pictures k laws (k.identifier tag) tag f steady goes.heard (world mid) place goes.waits.alone next x y o))

@@ -1,6 +1,6 @@
 -- The wait of ATR_REQ at a target, turn by turn.
 use Rattle.std.proofs.Common.{◌≡◌, ℕ, zero, suc, ◌+◌, ◌<◌, ◌≤◌, inl, inr, List, [], ◌∷◌, ◌++◌, length, Bool, true, false, if◌then◌else◌, Option, Some, None, Result, Ok, Err, refl, sym, ◌∙◌, ap, subst, arith, append_assoc, append-nil, length-append}
-use Rattle.std.specs.List.{AllByRecursion, filter_map, cons_option}
+use Rattle.std.specs.List.{AllByRecursion}
 use Rattle.nfc_base.specs.declared.frame.Tech.TheVariants.{A}
 use Rattle.nfc_base.specs.declared.event.Event.{Event}
 use Rattle.nfc_base.specs.declared.event.Fate.{Fate}
@@ -16,9 +16,9 @@ use Rattle.nfc_base.specs.Far.{FarUse, Untouched, Restarts, Hands}
 use Rattle.nfc_base.specs.LinkTurns.{arrived, bad_receptions}
 use Rattle.nfc_base.specs.Trace.{is_bad_in_wait, breaks, noise}
 use Rattle.air_core.specs.declared.fault.AirFault.TheVariants as air
-use Rattle.air_core.specs.Joint.{joint, same_tech}
-use Rattle.air_core.specs.World.{World, hears, hands_over, answered_by, stepped_by, quiet_air}
-use Rattle.air_core.specs.Conversation.{note, replay, turn_events, first_fate, later_fates}
+use Rattle.air_core.specs.Joint.{same_tech}
+use Rattle.air_core.specs.World.{World, hears, hands_over, quiet_air}
+use Rattle.air_core.specs.Conversation.{note, replay, first_fate, later_fates}
 use Rattle.air_core.specs.Turn.{Air, world, moment, TurnIs, HearSome, Transmits}
 use Rattle.air_core.specs.Turning.{going_start, going_turn}
 use Rattle.air_core.specs.Quiet.{EachQuiet, QuietTurn}
@@ -31,8 +31,9 @@ use Rattle.air_core.specs.declared.listener.Listener.{Ghosts}
 use Rattle.air_core.proofs.FirstAnswers.{ByHeard, by_bad, told_as, on_bads, six_at_most, tells_wait}
 use Rattle.air_core.proofs.LostField.{breaks-append}
 use Rattle.air_core.proofs.Quiet.{quiet_turns_to}
-use Rattle.air_core.proofs.PlainAside.{Laws, IsUnmoved, aside_silent, alone_says}
-use Rattle.air_core.proofs.PlainTurns.{one, joint_one, tag_events, tag_heard, turn_events_as, heard_as, asking_bad, noise_append}
+use Rattle.air_core.proofs.PlainAside.{Laws, IsUnmoved, aside_silent}
+use Rattle.air_core.proofs.PlainTurns.{tag_events, tag_heard, asking_bad, noise_append}
+use Rattle.air_core.proofs.AloneTurns.{left_by, ComesTo, comes_to}
 use Rattle.arrayvec.specs.ArrayVec.{ArrayVec}
 use Rattle.dep_link.specs.Sizes.{initiator_lr}
 use Rattle.dep_link.specs.Frames.{air_frame, spelled}
@@ -40,7 +41,7 @@ use Rattle.dep_link.specs.Target.{TargetState, TargetTurn, target_table, framed,
 use Rattle.dep_link.specs.Initiator.{InitState, waiting}
 use Rattle.dep_link.specs.Exchange.{InStep, IsCut}
 use Rattle.dep_link.specs.Answering.{reply_for, payload_of, answering, answering_air}
-use Rattle.dep_link.specs.Peers.{target_use, answered_with, left_with, heard_with}
+use Rattle.dep_link.specs.Peers.{target_use, answered_with, left_with}
 use Rattle.dep_link.specs.Asking.{HasPeer}
 use Rattle.dep_link.specs.Activating.{atr_req, atr_frame, told_atr, RestartedTimes, sent_times, HasTarget, AtrSent, AtrLost, IsActivated, AtrFails, AtrEnds, Activates}
 use Rattle.dep_link.specs.AnyTarget.{told_initiator, cause_of, told_first, AsksAtr}
@@ -48,7 +49,7 @@ use Rattle.dep_link.proofs.Wire.{written_read, target_heeds}
 use Rattle.dep_link.proofs.Begun.{in_step_first}
 use Rattle.nfc_base.proofs.LinkTurns.{arrived_append, bads_append}
 use Rattle.dep_link.proofs.Answered.{Told, HandsNothing, DidBy, AnsweredTurn, answered_turn, stopped_at}
-use Rattle.dep_link.proofs.PeerTurns.{told, told_laws, alone_told, alone_back, left_by, alone_after}
+use Rattle.dep_link.proofs.PeerTurns.{told, told_laws, alone_told, alone_back}
 
 -- how many frames arrive in a turn whose request has this fate
 abbrev arrivals : Fate → ℕ
@@ -250,7 +251,7 @@ module _ {L F : Type 0} (k : Ghosts L) (laws : Laws k) (target : L → TargetSta
 
       finish : (x y : Fate) → SentOn x (tag_events f x y (Some answer)) (tag_heard x y (Some answer)) → mid.lit ≡ true
           → new.lit ≡ (replay (quiet_air (told k laws []).machine) (world mid) (tag_events f x y (Some answer))).lit
-          → IsAlone k (k.identifier l) new.listeners t.place (left_by k laws [] now f x y (Some answer)) → After new far' bad (tag_heard x y (Some answer))
+          → IsAlone k (k.identifier l) new.listeners t.place (left_by (told k laws []) now f x y (Some answer)) → After new far' bad (tag_heard x y (Some answer))
       finish Pass Pass s m lit alone = let z = s (Asking 0 []) refl in (o.heard, refl, z.0, (let e = z.1 in omega (arith, e)), lit ∙ m, alone)
       finish Pass Damage s m lit alone = on_bad Pass (tag_events f Pass Damage (Some answer)) (Some Damaged) s refl (omega arith) m (suc o.heard) alone (lit ∙ m)
       finish Pass Lose s m lit alone = on_bad Pass (tag_events f Pass Lose (Some answer)) (Some Silent) s refl (omega arith) m (suc o.heard) alone (lit ∙ m)
@@ -269,13 +270,8 @@ module _ {L F : Type 0} (k : Ghosts L) (laws : Laws k) (target : L → TargetSta
           let m : Ghosts L = told k laws [] in
           let ml : Laws m = told_laws k laws [] in
           let lone : IsAlone m (k.identifier l) mid.listeners t.place now = alone_told k laws [] (k.identifier l) mid.listeners t.place now o.alone in
-          let says : answered_by m.machine now f None ≡ Some answer = ap (λ v. if v then m.machine.answer now f None else None) hears_atr ∙ says_own o.heard in
-          let moves : stepped_by m.machine now f None ≡ heard_with k now f [] = ap (λ v. if v then m.machine.after now f None else now) hears_atr in
-          let joins : joint (filter_map (λ z. answered_by m.machine z f None) mid.listeners) ≡ one (Some answer) =
-          ap joint (alone_says m ml (k.identifier l) f (aside_in m ml) mid.listeners t.place now lone) ∙ ap (λ z. joint (cons_option z [])) says ∙ joint_one (Some answer) in
-          let events : turn_events (quiet_air m.machine) (world mid) f x y ≡ tag_events f x y (Some answer) = turn_events_as m (world mid) f x y (Some answer) joins in
-          let after : world new ≡ replay (quiet_air m.machine) (world mid) (tag_events f x y (Some answer)) = (q []).after ∙ ap (replay (quiet_air m.machine) (world mid)) events in
-          let heard : h ≡ tag_heard x y (Some answer) = heard_as m (world mid) f x y (Some answer) h joins (q []).told in
+          let c : ComesTo m (k.identifier l) mid new t.place now f h x y (Some answer) =
+          comes_to m ml (k.identifier l) f (aside_in m ml) mid t.place now lone hears_atr (Some answer) (says_own o.heard) tt tt new h (q []) in
           let sent : SentOn x (tag_events f x y (Some answer)) h = λ s e. (
             record {
               notes = o.sent.notes ++ note h ∷ [];
@@ -284,9 +280,7 @@ module _ {L F : Type 0} (k : Ghosts L) (laws : Laws k) (target : L → TargetSta
                   (quiet_turns_to (answering k.machine r) mid new f tt tt h (q r));
               stands = stand_on 0 (f ∷ []) o.sent.notes bad (f ∷ []) asking [] (note h ∷ []) ∙ e;
               events = o.sent.events ++ tag_events f x y (Some answer);
-              trace =
-                  (q []).trace ∙ ap (λ (es : List Event). mid.trace ++ es) events ∙ ap (λ (es : List Event). es ++ tag_events f x y (Some answer)) o.sent.trace
-                  ∙ append_assoc old.trace o.sent.events (tag_events f x y (Some answer));
+              trace = c.trace ∙ ap (λ (es : List Event). es ++ tag_events f x y (Some answer)) o.sent.trace ∙ append_assoc old.trace o.sent.events (tag_events f x y (Some answer));
               times = o.sent.times + arrivals x;
               arrived =
                   (let a1 = ap length (arrived_append o.sent.events (tag_events f x y (Some answer))) in
@@ -299,11 +293,9 @@ module _ {L F : Type 0} (k : Ghosts L) (laws : Laws k) (target : L → TargetSta
             refl,
             refl,
           ) in
-          let P : World L → Type 0 = λ w. IsAlone m (k.identifier l) w.listeners t.place (left_by k laws [] now f x y (Some answer)) in
-          subst (λ (z : Option Heard). After new far' bad z) (sym heard)
-          (finish x y (subst (λ (z : Option Heard). SentOn x (tag_events f x y (Some answer)) z) heard sent) turn.lit (ap (λ (w : World L). w.lit) after)
-          (alone_back k laws [] (k.identifier l) new.listeners t.place (left_by k laws [] now f x y (Some answer))
-          (subst P (sym after) (alone_after k laws [] (k.identifier l) f (aside_in m ml) (world mid) t.place now lone moves x y (Some answer)))))
+          subst (λ (z : Option Heard). After new far' bad z) (sym c.told)
+          (finish x y (subst (λ (z : Option Heard). SentOn x (tag_events f x y (Some answer)) z) c.told sent) turn.lit (ap (λ (w : World L). w.lit) c.after)
+          (alone_back k laws [] (k.identifier l) new.listeners t.place (left_by m now f x y (Some answer)) c.alone))
 
       module _ (stops : F → List ℕ → F → Type 0) (is_stuck : F → Bool) where
         atr_lost : Transmits k.machine restarts steps stops is_stuck mid f far (Err air.FieldLost) new far' → AtrFails k target restarts old new general far0 far' cause.FieldLost

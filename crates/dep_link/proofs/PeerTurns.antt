@@ -1,7 +1,6 @@
 -- One turn with a peer that is alone in its field is a turn of the two tables, in which the far end does what the target asks of it.
 use Rattle.std.proofs.Common.{◌≡◌, ◌⊎◌, inl, inr, arith, ℕ, List, [], ◌∷◌, ◌++◌, Bool, true, false, if◌then◌else◌, Option, Some, None, refl, sym, ◌∙◌, ap, subst}
-use Rattle.std.specs.Prelude.{map}
-use Rattle.std.specs.List.{AllByRecursion, filter_map, cons_option}
+use Rattle.std.specs.List.{AllByRecursion}
 use Rattle.nfc_base.specs.declared.frame.Tech.TheVariants.{A}
 use Rattle.nfc_base.specs.declared.event.Event.{Event}
 use Rattle.nfc_base.specs.declared.event.Fate.{Fate}
@@ -11,16 +10,18 @@ use Rattle.nfc_base.specs.declared.event.Heard.TheVariants as heards
 use Rattle.nfc_base.specs.Trace.{noise}
 use Rattle.nfc_base.specs.Signal.{Signal, whole_a}
 use Rattle.nfc_base.specs.Far.{FarUse, Untouched, Restarts}
-use Rattle.nfc_base.specs.LinkTurns.{heard_in, MovedBy, settled, step, answered, turned, IsTurn}
-use Rattle.air_core.specs.Joint.{joint, same_tech}
-use Rattle.air_core.specs.World.{World, hears, hands_over, answered_by, stepped_by, quiet_air}
-use Rattle.air_core.specs.Conversation.{replay, turn_events, first_fate, later_fates}
+use Rattle.nfc_base.specs.LinkTurns.{MovedBy, settled, step, turned, IsTurn}
+use Rattle.air_core.specs.Joint.{same_tech}
+use Rattle.air_core.specs.World.{World, hears, hands_over, quiet_air}
+use Rattle.air_core.specs.Conversation.{replay, first_fate, later_fates}
 use Rattle.air_core.specs.Turn.{Air, world, TurnIs}
 use Rattle.air_core.specs.Quiet.{EachQuiet, QuietTurn}
 use Rattle.air_core.specs.PlainTags.{IsAside, IsAlone}
 use Rattle.air_core.specs.declared.listener.Listener.{Ghosts}
-use Rattle.air_core.proofs.PlainAside.{Laws, IsUnmoved, aside_silent, alone_dark, alone_says, alone_steps}
-use Rattle.air_core.proofs.PlainTurns.{one, joint_one, tag_events, tag_heard, calm_events, turn_events_as, heard_as}
+use Rattle.air_core.proofs.PlainAside.{Laws, IsUnmoved, aside_silent}
+use Rattle.air_core.proofs.PlainTurns.{tag_events, tag_heard, calm_events}
+use Rattle.air_core.proofs.AloneTurns.{left_by, ComesTo, comes_to}
+use Rattle.air_core.proofs.TableTurns.{passed_asked, same_events, same_heard, same_view}
 use Rattle.dep_link.specs.declared.target.TargetStep.{TargetStep}
 use Rattle.dep_link.specs.declared.target.TargetStep.TheVariants as steps
 use Rattle.dep_link.specs.Target.{TargetState, target_table, darkened}
@@ -70,27 +71,13 @@ module _ {L : Type 0} (k : Ghosts L) (laws : Laws k) (r : List ℕ) where
   alone_back own ls place l a =
       record { before = a.before; behind = a.behind; split = a.split; stands = a.stands; first = aside_back own a.before a.first; later = aside_back own a.behind a.later }
 
-  -- what the listener is after a turn
-  abbrev pub back_left : L → Fate → L
-  back_left l Pass = l
-  back_left l Damage = l
-  back_left l Lose = l
-  back_left l Break = k.machine.darkened l
-
-  abbrev pub left_by : L → Signal → Fate → Fate → Option Signal → L
-  left_by l f Pass y None = heard_with k l f r
-  left_by l f Pass y (Some g) = back_left (heard_with k l f r) y
-  left_by l f Damage y o = l
-  left_by l f Lose y o = l
-  left_by l f Break y o = k.machine.darkened l
-
   -- which listener is left where something was heard, and whether the field is lit
   abbrev pub IsLeft : L → Signal → Bool → Option Heard → L → Type 0
   IsLeft l f lit (Some h) left = ((left ≡ l) ⊎ (left ≡ heard_with k l f r)) × (lit ≡ true)
   IsLeft l f lit None left = lit ≡ false
 
   pub left_is : (l : L) (f : Signal) (x y : Fate) (q : Option Signal) (w : World L) → w.lit ≡ true
-      → IsLeft l f (replay (quiet_air told.machine) w (tag_events f x y q)).lit (tag_heard x y q) (left_by l f x y q)
+      → IsLeft l f (replay (quiet_air told.machine) w (tag_events f x y q)).lit (tag_heard x y q) (left_by told l f x y q)
   left_is l f Pass y None w e = (inr refl, e)
   left_is l f Pass Pass (Some g) w e = (inr refl, e)
   left_is l f Pass Damage (Some g) w e = (inr refl, e)
@@ -99,48 +86,6 @@ module _ {L : Type 0} (k : Ghosts L) (laws : Laws k) (r : List ℕ) where
   left_is l f Damage y q w e = (inl refl, e)
   left_is l f Lose y q w e = (inl refl, e)
   left_is l f Break y q w e = refl
-
-  module _ (own : List ℕ) (f : Signal) (all : (l : L) → IsAside told own l → IsUnmoved told told_laws own f l) (w : World L) (place : ℕ) (l : L) (a : IsAlone told own w.listeners place l)
-      (e : stepped_by told.machine l f None ≡ heard_with k l f r) where
-    stepped_alone : IsAlone told own (map (λ x. stepped_by told.machine x f None) w.listeners) place (heard_with k l f r)
-    stepped_alone = let P : L → Type 0 = IsAlone told own (map (λ x. stepped_by told.machine x f None) w.listeners) place in subst P e (alone_steps told told_laws own f all w.listeners place l a)
-
-    pub alone_after : (x y : Fate) (o : Option Signal) → IsAlone told own (replay (quiet_air told.machine) w (tag_events f x y o)).listeners place (left_by l f x y o)
-    alone_after Pass y None = stepped_alone
-    alone_after Pass Pass (Some g) = stepped_alone
-    alone_after Pass Damage (Some g) = stepped_alone
-    alone_after Pass Lose (Some g) = stepped_alone
-    alone_after Pass Break (Some g) = alone_dark told told_laws own (map (λ x. stepped_by told.machine x f None) w.listeners) place (heard_with k l f r) stepped_alone
-    alone_after Damage y o = a
-    alone_after Lose y o = a
-    alone_after Break y o = alone_dark told told_laws own w.listeners place l a
-
--- a turn of the two tables has the same events, and the same is heard of it
-answered_events : (first : ℕ) (t : TargetState) (asked : Option (List ℕ)) (f : Signal) (q : Option Signal) (y : Fate) → (answered (nfc_dep first) t asked f q y).events ≡ tag_events f Pass y q
-answered_events first t asked f None y = refl
-answered_events first t asked f (Some a) Pass = refl
-answered_events first t asked f (Some a) Damage = refl
-answered_events first t asked f (Some a) Lose = refl
-answered_events first t asked f (Some a) Break = refl
-
-pub same_events : (first : ℕ) (r : List ℕ) (t : TargetState) (f : Signal) (x y : Fate) → (turned (nfc_dep first) r t f x y).events ≡ tag_events f x y (step (nfc_dep first) r t f).answer
-same_events first r t f Pass y = answered_events first (step (nfc_dep first) r t f).state (step (nfc_dep first) r t f).asked f (step (nfc_dep first) r t f).answer y
-same_events first r t f Damage y = refl
-same_events first r t f Lose y = refl
-same_events first r t f Break y = refl
-
-answered_heard : (first : ℕ) (t : TargetState) (asked : Option (List ℕ)) (f : Signal) (q : Option Signal) (y : Fate) → heard_in (answered (nfc_dep first) t asked f q y).heard ≡ tag_heard Pass y q
-answered_heard first t asked f None y = refl
-answered_heard first t asked f (Some a) Pass = refl
-answered_heard first t asked f (Some a) Damage = refl
-answered_heard first t asked f (Some a) Lose = refl
-answered_heard first t asked f (Some a) Break = refl
-
-pub same_heard : (first : ℕ) (r : List ℕ) (t : TargetState) (f : Signal) (x y : Fate) → heard_in (turned (nfc_dep first) r t f x y).heard ≡ tag_heard x y (step (nfc_dep first) r t f).answer
-same_heard first r t f Pass y = answered_heard first (step (nfc_dep first) r t f).state (step (nfc_dep first) r t f).asked f (step (nfc_dep first) r t f).answer y
-same_heard first r t f Damage y = refl
-same_heard first r t f Lose y = refl
-same_heard first r t f Break y = refl
 
 -- a step of the table is that of the listener
 settled_answer : (first : ℕ) (r : List ℕ) (t : TargetState) (d : TargetStep) → (settled (nfc_dep first) r t (target_does d)).answer ≡ answered_with t r d
@@ -168,40 +113,15 @@ settled_asks first r t (steps.Deliver payload) = refl
 settled_asks first r t (steps.Asleep f) = refl
 settled_asks first r t (steps.Released f) = refl
 
-answered_asked : (first : ℕ) (t : TargetState) (asked : Option (List ℕ)) (f : Signal) (q : Option Signal) (y : Fate) → (answered (nfc_dep first) t asked f q y).asked ≡ asked
-answered_asked first t asked f None y = refl
-answered_asked first t asked f (Some a) Pass = refl
-answered_asked first t asked f (Some a) Damage = refl
-answered_asked first t asked f (Some a) Lose = refl
-answered_asked first t asked f (Some a) Break = refl
-
 pub same_asked : (first : ℕ) (r : List ℕ) (t : TargetState) (f : Signal) (x y : Fate) → (turned (nfc_dep first) r t f x y).asked ≡ handed_by x (target_use (target_table t f).does)
 same_asked first r t f Pass y =
-    answered_asked first (step (nfc_dep first) r t f).state (step (nfc_dep first) r t f).asked f (step (nfc_dep first) r t f).answer y
+    passed_asked (nfc_dep first) (step (nfc_dep first) r t f).state (step (nfc_dep first) r t f).asked f (step (nfc_dep first) r t f).answer y
     ∙ settled_asks first r (target_table t f).state (target_table t f).does
 same_asked first r t f Damage y = refl
 same_asked first r t f Lose y = refl
 same_asked first r t f Break y = refl
 
 module _ {L : Type 0} (k : Ghosts L) (laws : Laws k) (target : L → TargetState) where
-  -- the target's end is what that turn leaves
-  answered_target : (first : ℕ) (r : List ℕ) (l : L) (f : Signal) (t : TargetState) (asked : Option (List ℕ)) (q : Option Signal) (y : Fate)
-      → target (heard_with k l f r) ≡ t → target (k.machine.darkened (heard_with k l f r)) ≡ darkened (target (heard_with k l f r))
-      → target (left_by k laws r l f Pass y q) ≡ (answered (nfc_dep first) t asked f q y).answering
-  answered_target first r l f t asked None y e d = e
-  answered_target first r l f t asked (Some a) Pass e d = e
-  answered_target first r l f t asked (Some a) Damage e d = e
-  answered_target first r l f t asked (Some a) Lose e d = e
-  answered_target first r l f t asked (Some a) Break e d = d ∙ ap darkened e
-
-  same_target : (first : ℕ) (l : L) (f : Signal) (r : List ℕ) (x y : Fate)
-      → target (heard_with k l f r) ≡ (step (nfc_dep first) r (target l) f).state → target (k.machine.darkened (heard_with k l f r)) ≡ darkened (target (heard_with k l f r))
-      → target (k.machine.darkened l) ≡ darkened (target l) → target (left_by k laws r l f x y (step (nfc_dep first) r (target l) f).answer) ≡ (turned (nfc_dep first) r (target l) f x y).answering
-  same_target first l f r Pass y e d c = answered_target first r l f (step (nfc_dep first) r (target l) f).state (step (nfc_dep first) r (target l) f).asked (step (nfc_dep first) r (target l) f).answer y e d
-  same_target first l f r Damage y e d c = refl
-  same_target first l f r Lose y e d c = refl
-  same_target first l f r Break y e d c = c
-
   -- A turn with this listener, which is alone, as a turn of the two tables and of the air of its reply.
   pub record PeerTurn {F : Type 0} (steps : F → List ℕ → List ℕ → F → Type 0) (first : ℕ) (old new : Air L) (place : ℕ) (l : L) (f : Signal) (h : Option Heard) (far far' : F) : Type 0 where
     pub reply : List ℕ
@@ -219,7 +139,7 @@ module _ {L : Type 0} (k : Ghosts L) (laws : Laws k) (target : L → TargetState
 
   calm_is : (first : ℕ) (r : List ℕ) (t : TargetState) (f : Signal) (x y : Fate) (h : Option Heard) → h ≡ tag_heard x y (step (nfc_dep first) r t f).answer
       → noise (turned (nfc_dep first) r t f x y).events ≡ 0 → ((step (nfc_dep first) r t f).answer ≡ None) ⊎ ((g : Signal) × (h ≡ Some (heards.Whole g)))
-  calm_is first r t f x y h e n = go (calm_events f x y (step (nfc_dep first) r t f).answer (sym (ap noise (same_events first r t f x y)) ∙ n))
+  calm_is first r t f x y h e n = go (calm_events f x y (step (nfc_dep first) r t f).answer (sym (ap noise (same_events (nfc_dep first) r t f x y)) ∙ n))
     where
       go : ((step (nfc_dep first) r t f).answer ≡ None) ⊎ ((g : Signal) × (tag_heard x y (step (nfc_dep first) r t f).answer ≡ Some (heards.Whole g)))
           → ((step (nfc_dep first) r t f).answer ≡ None) ⊎ ((g : Signal) × (h ≡ Some (heards.Whole g)))
@@ -258,28 +178,22 @@ module _ {L : Type 0} (k : Ghosts L) (laws : Laws k) (target : L → TargetState
         let m : Ghosts L = told k laws r in
         let ml : Laws m = told_laws k laws r in
         let lone : IsAlone m own old.listeners place l = alone_told k laws r own old.listeners place l alone in
-        let all : (z : L) → IsAside m own z → IsUnmoved m ml own f z = asked_aside m ml own f a in
-        let says : answered_by m.machine l f None ≡ o = ap (λ v. if v then m.machine.answer l f None else None) heard ∙ s.answer ∙ sym (settled_answer first r (target_table (target l) f).state (target_table (target l) f).does) in
-        let moves : stepped_by m.machine l f None ≡ heard_with k l f r = ap (λ v. if v then m.machine.after l f None else l) heard in
-        let joins : joint (filter_map (λ z. answered_by m.machine z f None) old.listeners) ≡ one o =
-        ap joint (alone_says m ml own f all old.listeners place l lone) ∙ ap (λ z. joint (cons_option z [])) says ∙ joint_one o in
-        let events : turn_events (quiet_air m.machine) (world old) f x y ≡ tag_events f x y o = turn_events_as m (world old) f x y o joins in
-        let after : world new ≡ replay (quiet_air m.machine) (world old) (tag_events f x y o) = t.quiet.after ∙ ap (replay (quiet_air m.machine) (world old)) events in
-        let says_so : h ≡ tag_heard x y o = heard_as m (world old) f x y o h joins t.quiet.told in
+        let says : m.machine.answer l f None ≡ o = s.answer ∙ sym (settled_answer first r (target_table (target l) f).state (target_table (target l) f).does) in
+        let comes : ComesTo m own old new place l f h x y o = comes_to m ml own f (asked_aside m ml own f a) old place l lone heard o says tt tt new h t.quiet in
         record {
           reply = r;
-          left = left_by k laws r l f x y o;
-          alone = alone_back k laws r own new.listeners place (left_by k laws r l f x y o)
-              (let P : World L → Type 0 = λ w. IsAlone m own w.listeners place (left_by k laws r l f x y o) in
-              subst P (sym after) (alone_after k laws r own f all (world old) place l lone moves x y o));
+          left = left_by m l f x y o;
+          alone = alone_back k laws r own new.listeners place (left_by m l f x y o) comes.alone;
           turn = record {
             reply = r;
             first = x;
             second = y;
             fits = t.short;
-            answering = same_target first l f r x y (s.target_is ∙ sym (settled_state first r (target_table (target l) f).state (target_table (target l) f).does)) (subst (λ (z : L). target (k.machine.darkened z) ≡ darkened (target z)) refl (c.cleared (record { frame = f; reply = r } ∷ []) (record { asked = a; short = t.short }, tt))) (c.cleared [] tt);
-            heard_is = says_so ∙ sym (same_heard first r (target l) f x y);
-            events = t.quiet.trace ∙ ap (λ (es : List Event). old.trace ++ es) (events ∙ sym (same_events first r (target l) f x y));
+            answering =
+                same_view (nfc_dep first) m target l f r x y (s.target_is ∙ sym (settled_state first r (target_table (target l) f).state (target_table (target l) f).does))
+                (subst (λ (z : L). target (k.machine.darkened z) ≡ darkened (target z)) refl (c.cleared (record { frame = f; reply = r } ∷ []) (record { asked = a; short = t.short }, tt))) (c.cleared [] tt);
+            heard_is = comes.told ∙ sym (same_heard (nfc_dep first) r (target l) f x y);
+            events = comes.trace ∙ ap (λ (es : List Event). old.trace ++ es) (sym (same_events (nfc_dep first) r (target l) f x y));
             moved = subst (λ (p : Option (List ℕ)). MovedBy steps far p r far') (sym (same_asked first r (target l) f x y ∙ ap (handed_by x) (sym uses)))
                 (moved_by restarts steps x (hands_over k.machine l f) far far' r (λ general e. never general (sym uses ∙ e)) t.moved);
           };
@@ -287,8 +201,8 @@ module _ {L : Type 0} (k : Ghosts L) (laws : Laws k) (target : L → TargetState
           any = λ e z. t.any (hands_nothing x (hands_over k.machine l f) (ap (handed_by x) uses ∙ sym (same_asked first r (target l) f x y) ∙ e)) z;
           same = refl;
           is =
-              (let P : Bool → Type 0 = λ b. IsLeft k laws r l f b h (left_by k laws r l f x y o) in
-              let Q : Option Heard → Type 0 = λ z. IsLeft k laws r l f (replay (quiet_air m.machine) (world old) (tag_events f x y o)).lit z (left_by k laws r l f x y o) in
-              subst P (sym (ap (λ (w : World L). w.lit) after)) (subst Q (sym says_so) (left_is k laws r l f x y o (world old) turn.lit)));
-          calm = calm_is first r (target l) f x y h says_so;
+              (let P : Bool → Type 0 = λ b. IsLeft k laws r l f b h (left_by m l f x y o) in
+              let Q : Option Heard → Type 0 = λ z. IsLeft k laws r l f (replay (quiet_air m.machine) (world old) (tag_events f x y o)).lit z (left_by m l f x y o) in
+              subst P (sym (ap (λ (w : World L). w.lit) comes.after)) (subst Q (sym comes.told) (left_is k laws r l f x y o (world old) turn.lit)));
+          calm = calm_is first r (target l) f x y h comes.told;
         }

@@ -1,6 +1,5 @@
 -- The wait of RATS at a Type 4 tag that nothing was asked of, turn by turn.
 use Rattle.std.proofs.Common.{◌≡◌, ℕ, suc, ◌<◌, ◌≤◌, inl, inr, List, [], ◌∷◌, ◌++◌, Bool, true, false, if◌then◌else◌, Option, Some, None, Result, Ok, Err, refl, sym, ◌∙◌, ap, subst, arith}
-use Rattle.std.specs.List.{filter_map, cons_option}
 use Rattle.nfc_base.specs.declared.frame.Tech.TheVariants.{A}
 use Rattle.nfc_base.specs.declared.event.Fate.{Fate}
 use Rattle.nfc_base.specs.declared.event.Fate.TheVariants.{Pass, Damage, Lose, Break}
@@ -14,9 +13,9 @@ use Rattle.nfc_base.specs.Signal.{Signal}
 use Rattle.nfc_base.specs.Far.{Untouched}
 use Rattle.nfc_base.specs.TagLinks.{TagState, plain_state}
 use Rattle.air_core.specs.declared.fault.AirFault.TheVariants as air
-use Rattle.air_core.specs.Joint.{joint, same_tech}
-use Rattle.air_core.specs.World.{World, hears, answered_by, stepped_by, quiet_air}
-use Rattle.air_core.specs.Conversation.{Note, Got, note, replay, turn_events, first_fate, later_fates}
+use Rattle.air_core.specs.Joint.{same_tech}
+use Rattle.air_core.specs.World.{World, hears, quiet_air}
+use Rattle.air_core.specs.Conversation.{Note, Got, note, replay, first_fate, later_fates}
 use Rattle.air_core.specs.Turn.{Air, world, moment, TurnIs, Transmits}
 use Rattle.air_core.specs.Turning.{going_start, going_turn}
 use Rattle.air_core.specs.Quiet.{EachQuiet, QuietTurn}
@@ -28,8 +27,9 @@ use Rattle.air_core.specs.FirstAnswers.{EndsWait, AsksFirst}
 use Rattle.air_core.specs.declared.listener.Listener.{Ghosts}
 use Rattle.air_core.proofs.FirstAnswers.{ByHeard, by_bad, told_as, on_bads, six_at_most}
 use Rattle.air_core.proofs.Quiet.{quiet_turns_to, quiet_turn, quiet_transmits}
-use Rattle.air_core.proofs.PlainAside.{Laws, IsUnmoved, aside_silent, alone_quiet, alone_says}
-use Rattle.air_core.proofs.PlainTurns.{one, joint_one, tag_events, tag_heard, turn_events_as, heard_as, asking_bad}
+use Rattle.air_core.proofs.PlainAside.{Laws, IsUnmoved, aside_silent, alone_quiet}
+use Rattle.air_core.proofs.PlainTurns.{tag_events, tag_heard, asking_bad}
+use Rattle.air_core.proofs.AloneTurns.{left_by, ComesTo, comes_to}
 use Rattle.air_core.proofs.PlainViews.{heard_same}
 use Rattle.isodep_link.specs.Sizes.{piece_size, ats_frame, most_code}
 use Rattle.isodep_link.specs.Card.{CardState, activated}
@@ -39,7 +39,7 @@ use Rattle.isodep_link.specs.Activating.{reader_code, rats, ats_code, told_code,
 use Rattle.isodep_link.specs.Muted.{mute_restarts, mute_steps}
 use Rattle.isodep_link.proofs.AnyTag.{rats_any}
 use Rattle.isodep_link.proofs.Session.{ready_first}
-use Rattle.isodep_link.proofs.CardTurns.{Holds, left_by, alone_after}
+use Rattle.isodep_link.proofs.CardTurns.{Holds}
 
 -- ATS is read as the code that it tells
 ats_read : (code : ℕ) → code ≤ most_code → ats_code (ats_frame code) ≡ Some code
@@ -123,7 +123,7 @@ module _ {L : Type 0} (k : Ghosts L) (laws : Laws k) (card : L → CardState) (t
 
       finish : (x y : Fate) → QuietTurn k.machine mid rats far (tag_heard x y (Some ats)) new far'
           → new.lit ≡ (replay (quiet_air k.machine) (world mid) (tag_events rats x y (Some ats))).lit
-          → IsAlone k (k.identifier l) new.listeners place (left_by k laws card tag holds now rats x y (Some ats)) → After new bad (tag_heard x y (Some ats))
+          → IsAlone k (k.identifier l) new.listeners place (left_by k now rats x y (Some ats)) → After new bad (tag_heard x y (Some ats))
       unfolding sent_on
       finish Pass Pass q lit alone = (o.heard, refl, sent_on (Some (Whole ats)) q (Asking 0 []) refl, lit ∙ q.lit, alone, o.sent.notes, refl)
       finish Pass Damage q lit alone = bad_on (Some Damaged) q refl (suc o.heard) alone (lit ∙ q.lit)
@@ -137,17 +137,10 @@ module _ {L : Type 0} (k : Ghosts L) (laws : Laws k) (card : L → CardState) (t
       rats_turn h q =
           let x : Fate = first_fate mid.fates in
           let y : Fate = first_fate (later_fates mid.fates) in
-          let says : answered_by k.machine now rats None ≡ Some ats = ap (λ v. if v then k.machine.answer now rats None else None) hears_rats ∙ (t.takes.steps o.heard).answer in
-          let steps : stepped_by k.machine now rats None ≡ k.machine.after now rats None = ap (λ v. if v then k.machine.after now rats None else now) hears_rats in
-          let joins : joint (filter_map (λ z. answered_by k.machine z rats None) mid.listeners) ≡ one (Some ats) =
-          ap joint (alone_says k laws (k.identifier l) rats (rats_aside (k.identifier l)) mid.listeners place now o.alone) ∙ ap (λ z. joint (cons_option z [])) says ∙ joint_one (Some ats) in
-          let events : turn_events (quiet_air k.machine) (world mid) rats x y ≡ tag_events rats x y (Some ats) = turn_events_as k (world mid) rats x y (Some ats) joins in
-          let after : world new ≡ replay (quiet_air k.machine) (world mid) (tag_events rats x y (Some ats)) = q.after ∙ ap (replay (quiet_air k.machine) (world mid)) events in
-          let told : h ≡ tag_heard x y (Some ats) = heard_as k (world mid) rats x y (Some ats) h joins q.told in
-          let P : World L → Type 0 = λ w. IsAlone k (k.identifier l) w.listeners place (left_by k laws card tag holds now rats x y (Some ats)) in
-          subst (λ (z : Option Heard). After new bad z) (sym told)
-          (finish x y (subst (λ (z : Option Heard). QuietTurn k.machine mid rats far z new far') told q) (ap (λ (w : World L). w.lit) after)
-          (subst P (sym after) (alone_after k laws card tag holds (k.identifier l) rats (rats_aside (k.identifier l)) (world mid) place now o.alone steps x y (Some ats))))
+          let c : ComesTo k (k.identifier l) mid new place now rats h x y (Some ats) =
+          comes_to k laws (k.identifier l) rats (rats_aside (k.identifier l)) mid place now o.alone hears_rats (Some ats) (t.takes.steps o.heard).answer far far' new h q in
+          subst (λ (z : Option Heard). After new bad z) (sym c.told)
+          (finish x y (subst (λ (z : Option Heard). QuietTurn k.machine mid rats far z new far') c.told q) (ap (λ (w : World L). w.lit) c.after) c.alone)
 
     module _ {F : Type 0} (restarts : F → List ℕ → F → Type 0) (steps : F → List ℕ → List ℕ → F → Type 0) (far far' : F) (new : Air L) where
       after_rats : (h : Heard) → TurnIs k.machine restarts steps mid rats far (Some h) new far' → After new bad (Some h)

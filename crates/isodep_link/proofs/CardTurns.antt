@@ -1,7 +1,7 @@
 -- One turn with a Type 4 tag that is alone in its field is a turn of reader and card.
 use Rattle.std.proofs.Common.{◌≡◌, ℕ, ◌⊎◌, inl, inr, List, [], ◌∷◌, ◌++◌, Bool, true, false, if◌then◌else◌, Option, Some, None, refl, sym, ◌∙◌, ap, subst}
 use Rattle.std.specs.Prelude.{map}
-use Rattle.std.specs.List.{AllByRecursion, filter_map, cons_option}
+use Rattle.std.specs.List.{AllByRecursion}
 use Rattle.nfc_base.specs.declared.frame.Tech.TheVariants.{A}
 use Rattle.nfc_base.specs.declared.event.Event.{Event}
 use Rattle.nfc_base.specs.declared.event.Fate.{Fate}
@@ -12,19 +12,21 @@ use Rattle.nfc_base.specs.Trace.{noise}
 use Rattle.nfc_base.specs.Signal.{Signal, whole_a}
 use Rattle.nfc_base.specs.Far.{Untouched}
 use Rattle.nfc_base.specs.TagLinks.{TagState}
-use Rattle.nfc_base.specs.LinkTurns.{heard_in, MovedBy, Step, step, answered, turned, IsTurn}
-use Rattle.air_core.specs.Joint.{joint, same_tech}
-use Rattle.air_core.specs.World.{World, hears, answered_by, stepped_by, quiet_air}
-use Rattle.air_core.specs.Conversation.{replay, turn_events, first_fate, later_fates}
+use Rattle.nfc_base.specs.LinkTurns.{MovedBy, Step, step, turned, IsTurn}
+use Rattle.air_core.specs.Joint.{same_tech}
+use Rattle.air_core.specs.World.{World, hears, stepped_by, quiet_air}
+use Rattle.air_core.specs.Conversation.{replay, first_fate, later_fates}
 use Rattle.air_core.specs.Turn.{Air, world}
 use Rattle.air_core.specs.Quiet.{EachQuiet, QuietTurn}
 use Rattle.air_core.specs.PlainTags.{IsAside, IsAlone}
 use Rattle.air_core.specs.PlainLinks.{at_place, stores_after}
 use Rattle.air_core.proofs.PlainStores.{place_is}
 use Rattle.air_core.specs.declared.listener.Listener.{Ghosts}
-use Rattle.air_core.proofs.PlainAside.{Laws, IsUnmoved, aside_silent, alone_dark, alone_quiet, alone_says, alone_steps}
-use Rattle.air_core.proofs.PlainTurns.{one, joint_one, tag_events, tag_heard, calm_events, turn_events_as, heard_as}
-use Rattle.isodep_link.specs.Card.{CardState, darkened}
+use Rattle.air_core.proofs.PlainAside.{Laws, IsUnmoved, aside_silent, alone_dark, alone_quiet}
+use Rattle.air_core.proofs.PlainTurns.{tag_events, tag_heard, calm_events}
+use Rattle.air_core.proofs.AloneTurns.{left_by, ComesTo, stepped_alone, comes_to}
+use Rattle.air_core.proofs.TableTurns.{passed_asked, same_events, same_heard, same_view}
+use Rattle.isodep_link.specs.Card.{CardState}
 use Rattle.isodep_link.specs.Exchange.{iso_dep}
 use Rattle.isodep_link.specs.CardTags.{IsAskedFrame, TagDoes, IsShort, StepsByCard, IsCardTag}
 
@@ -38,20 +40,6 @@ Shows z [] = ⊥
 Shows z (x ∷ xs) = (x ≡ z) × AllByRecursion (λ s. s ≡ z) xs
 
 module _ {L : Type 0} (k : Ghosts L) (laws : Laws k) (card : L → CardState) (tag : L → TagState) (holds : Holds k tag) where
-  -- what the listener is after a turn
-  abbrev pub back_left : L → Fate → L
-  back_left l Pass = l
-  back_left l Damage = l
-  back_left l Lose = l
-  back_left l Break = k.machine.darkened l
-
-  abbrev pub left_by : L → Signal → Fate → Fate → Option Signal → L
-  left_by l f Pass y None = k.machine.after l f None
-  left_by l f Pass y (Some g) = back_left (k.machine.after l f None) y
-  left_by l f Damage y o = l
-  left_by l f Lose y o = l
-  left_by l f Break y o = k.machine.darkened l
-
   -- the listener that met the frame, before the dark
   abbrev met_by : L → Signal → Fate → L
   met_by l f Pass = k.machine.after l f None
@@ -67,19 +55,9 @@ module _ {L : Type 0} (k : Ghosts L) (laws : Laws k) (card : L → CardState) (t
   met l f Break = tag l
 
   module _ (own : List ℕ) (f : Signal) (all : (l : L) → IsAside k own l → IsUnmoved k laws own f l) (w : World L) (place : ℕ) (l : L) (a : IsAlone k own w.listeners place l)
-      (e : stepped_by k.machine l f None ≡ k.machine.after l f None) where
-    stepped_alone : IsAlone k own (map (λ x. stepped_by k.machine x f None) w.listeners) place (k.machine.after l f None)
-    stepped_alone = let P : L → Type 0 = IsAlone k own (map (λ x. stepped_by k.machine x f None) w.listeners) place in subst P e (alone_steps k laws own f all w.listeners place l a)
-
-    pub alone_after : (x y : Fate) (o : Option Signal) → IsAlone k own (replay (quiet_air k.machine) w (tag_events f x y o)).listeners place (left_by l f x y o)
-    alone_after Pass y None = stepped_alone
-    alone_after Pass Pass (Some g) = stepped_alone
-    alone_after Pass Damage (Some g) = stepped_alone
-    alone_after Pass Lose (Some g) = stepped_alone
-    alone_after Pass Break (Some g) = alone_dark k laws own (map (λ x. stepped_by k.machine x f None) w.listeners) place (k.machine.after l f None) stepped_alone
-    alone_after Damage y o = a
-    alone_after Lose y o = a
-    alone_after Break y o = alone_dark k laws own w.listeners place l a
+      (heard : hears k.machine l f ≡ true) where
+    steps_alone : IsAlone k own (map (λ x. stepped_by k.machine x f None) w.listeners) place (k.machine.after l f None)
+    steps_alone = stepped_alone k laws own f all w place l a heard
 
     -- after each event of a turn the tag holds the same store
     module _ (z : List ℕ) where
@@ -93,11 +71,12 @@ module _ {L : Type 0} (k : Ghosts L) (laws : Laws k) (card : L → CardState) (t
       stepped_on = map (λ x. stepped_by k.machine x f None) w.listeners
 
       steps : k.store (k.machine.after l f None) ≡ z → at_place k.store [] stepped_on place ≡ z
-      steps q = place_is k k.store [] own stepped_on place (k.machine.after l f None) stepped_alone ∙ q
+      steps q = place_is k k.store [] own stepped_on place (k.machine.after l f None) steps_alone ∙ q
 
       steps_dim : k.store (k.machine.after l f None) ≡ z → at_place k.store [] (map k.machine.darkened stepped_on) place ≡ z
       steps_dim q =
-          place_is k k.store [] own (map k.machine.darkened stepped_on) place (k.machine.darkened (k.machine.after l f None)) (alone_dark k laws own stepped_on place (k.machine.after l f None) stepped_alone)
+          place_is k k.store [] own (map k.machine.darkened stepped_on) place (k.machine.darkened (k.machine.after l f None))
+          (alone_dark k laws own stepped_on place (k.machine.after l f None) steps_alone)
           ∙ (laws.dark_keeps (k.machine.after l f None)).1 ∙ q
 
       shows_store : (x y : Fate) (o : Option Signal) → k.store (met_by l f x) ≡ z → Shows z (stores_after k place w (tag_events f x y o))
@@ -110,63 +89,11 @@ module _ {L : Type 0} (k : Ghosts L) (laws : Laws k) (card : L → CardState) (t
       shows_store Pass Lose (Some g) q = (steps q, (steps q, tt))
       shows_store Pass Break (Some g) q = (steps q, (steps_dim q, tt))
 
-  -- a turn of the two tables has the same events, and the same is heard of it
-  answered_events : (t : CardState) (asked : Option (List ℕ)) (f : Signal) (q : Option Signal) (y : Fate) → (answered iso_dep t asked f q y).events ≡ tag_events f Pass y q
-  answered_events t asked f None y = refl
-  answered_events t asked f (Some a) Pass = refl
-  answered_events t asked f (Some a) Damage = refl
-  answered_events t asked f (Some a) Lose = refl
-  answered_events t asked f (Some a) Break = refl
-
-  same_events : (r : List ℕ) (t : CardState) (f : Signal) (x y : Fate) → (turned iso_dep r t f x y).events ≡ tag_events f x y (step iso_dep r t f).answer
-  same_events r t f Pass y = answered_events (step iso_dep r t f).state (step iso_dep r t f).asked f (step iso_dep r t f).answer y
-  same_events r t f Damage y = refl
-  same_events r t f Lose y = refl
-  same_events r t f Break y = refl
-
-  answered_heard : (t : CardState) (asked : Option (List ℕ)) (f : Signal) (q : Option Signal) (y : Fate) → heard_in (answered iso_dep t asked f q y).heard ≡ tag_heard Pass y q
-  answered_heard t asked f None y = refl
-  answered_heard t asked f (Some a) Pass = refl
-  answered_heard t asked f (Some a) Damage = refl
-  answered_heard t asked f (Some a) Lose = refl
-  answered_heard t asked f (Some a) Break = refl
-
-  same_heard : (r : List ℕ) (t : CardState) (f : Signal) (x y : Fate) → heard_in (turned iso_dep r t f x y).heard ≡ tag_heard x y (step iso_dep r t f).answer
-  same_heard r t f Pass y = answered_heard (step iso_dep r t f).state (step iso_dep r t f).asked f (step iso_dep r t f).answer y
-  same_heard r t f Damage y = refl
-  same_heard r t f Lose y = refl
-  same_heard r t f Break y = refl
-
-  -- the card's end is what that turn leaves
-  answered_card : (l : L) (f : Signal) (t : CardState) (asked : Option (List ℕ)) (q : Option Signal) (y : Fate)
-      → card (k.machine.after l f None) ≡ t → card (k.machine.darkened (k.machine.after l f None)) ≡ darkened (card (k.machine.after l f None))
-      → card (left_by l f Pass y q) ≡ (answered iso_dep t asked f q y).answering
-  answered_card l f t asked None y e d = e
-  answered_card l f t asked (Some a) Pass e d = e
-  answered_card l f t asked (Some a) Damage e d = e
-  answered_card l f t asked (Some a) Lose e d = e
-  answered_card l f t asked (Some a) Break e d = d ∙ ap darkened e
-
-  same_card : (l : L) (f : Signal) (r : List ℕ) (x y : Fate)
-      → card (k.machine.after l f None) ≡ (step iso_dep r (card l) f).state → card (k.machine.darkened (k.machine.after l f None)) ≡ darkened (card (k.machine.after l f None))
-      → card (k.machine.darkened l) ≡ darkened (card l) → card (left_by l f x y (step iso_dep r (card l) f).answer) ≡ (turned iso_dep r (card l) f x y).answering
-  same_card l f r Pass y e d c = answered_card l f (step iso_dep r (card l) f).state (step iso_dep r (card l) f).asked (step iso_dep r (card l) f).answer y e d
-  same_card l f r Damage y e d c = refl
-  same_card l f r Lose y e d c = refl
-  same_card l f r Break y e d c = c
-
-  answered_asked : (t : CardState) (asked : Option (List ℕ)) (f : Signal) (q : Option Signal) (y : Fate) → (answered iso_dep t asked f q y).asked ≡ asked
-  answered_asked t asked f None y = refl
-  answered_asked t asked f (Some a) Pass = refl
-  answered_asked t asked f (Some a) Damage = refl
-  answered_asked t asked f (Some a) Lose = refl
-  answered_asked t asked f (Some a) Break = refl
-
   same_moved : (l : L) (f : Signal) (h : StepsByCard k card tag l f) (x y : Fate)
       → MovedBy (TagDoes (k.commands l)) (tag l) (turned iso_dep h.reply (card l) f x y).asked h.reply (met l f x)
   same_moved l f h Pass y =
       let s : Step iso_dep = step iso_dep h.reply (card l) f in
-      subst (λ (o : Option (List ℕ)). MovedBy (TagDoes (k.commands l)) (tag l) o h.reply (tag (k.machine.after l f None))) (sym (answered_asked s.state s.asked f s.answer y)) h.moved
+      subst (λ (o : Option (List ℕ)). MovedBy (TagDoes (k.commands l)) (tag l) o h.reply (tag (k.machine.after l f None))) (sym (passed_asked iso_dep s.state s.asked f s.answer y)) h.moved
   same_moved l f h Damage y = refl
   same_moved l f h Lose y = refl
   same_moved l f h Break y = refl
@@ -190,7 +117,7 @@ module _ {L : Type 0} (k : Ghosts L) (laws : Laws k) (card : L → CardState) (t
     pub stores : Shows held.store (stores_after k place (world old) added)
 
   left_is : (l : L) (f : Signal) (lit : Bool) (x y : Fate) (q : Option Signal) → lit ≡ true → (w : World L) → w.lit ≡ lit
-      → IsLeft l f (met l f x) (replay (quiet_air k.machine) w (tag_events f x y q)).lit (tag_heard x y q) (left_by l f x y q)
+      → IsLeft l f (met l f x) (replay (quiet_air k.machine) w (tag_events f x y q)).lit (tag_heard x y q) (left_by k l f x y q)
   left_is l f lit Pass y None e w i = (inr refl, refl, i ∙ e)
   left_is l f lit Pass Pass (Some g) e w i = (inr refl, refl, i ∙ e)
   left_is l f lit Pass Damage (Some g) e w i = (inr refl, refl, i ∙ e)
@@ -237,38 +164,31 @@ module _ {L : Type 0} (k : Ghosts L) (laws : Laws k) (card : L → CardState) (t
         let y : Fate = first_fate (later_fates old.fates) in
         let o : Option Signal = (step iso_dep s.reply (card l) f).answer in
         let heard : hears k.machine l f ≡ true = hears_asked l f a c.tech in
-        let says : answered_by k.machine l f None ≡ o = ap (λ v. if v then k.machine.answer l f None else None) heard ∙ s.answer in
-        let steps : stepped_by k.machine l f None ≡ k.machine.after l f None = ap (λ v. if v then k.machine.after l f None else l) heard in
-        let joins : joint (filter_map (λ z. answered_by k.machine z f None) old.listeners) ≡ one o =
-        ap joint (alone_says k laws (k.identifier l) f (asked_aside (k.identifier l) f a) old.listeners place l alone) ∙ ap (λ z. joint (cons_option z [])) says ∙ joint_one o in
-        let events : turn_events (quiet_air k.machine) (world old) f x y ≡ tag_events f x y o = turn_events_as k (world old) f x y o joins in
-        let after : world new ≡ replay (quiet_air k.machine) (world old) (tag_events f x y o) = q.after ∙ ap (replay (quiet_air k.machine) (world old)) events in
-        let told : h ≡ tag_heard x y o = heard_as k (world old) f x y o h joins q.told in
+        let all : (z : L) → IsAside k (k.identifier l) z → IsUnmoved k laws (k.identifier l) f z = asked_aside (k.identifier l) f a in
+        let t : ComesTo k (k.identifier l) old new place l f h x y o = comes_to k laws (k.identifier l) f all old place l alone heard o s.answer far far' new h q in
         record {
-          left = left_by l f x y o;
-          alone =
-              (let P : World L → Type 0 = λ w. IsAlone k (k.identifier l) w.listeners place (left_by l f x y o) in
-              subst P (sym after) (alone_after (k.identifier l) f (asked_aside (k.identifier l) f a) (world old) place l alone steps x y o));
+          left = left_by k l f x y o;
+          alone = t.alone;
           held = met l f x;
           turn = record {
             reply = s.reply;
             first = x;
             second = y;
             fits = s.short;
-            answering = same_card l f s.reply x y s.card_is (c.cleared (f ∷ []) (a, tt)) (c.cleared [] tt);
-            heard_is = told ∙ sym (same_heard s.reply (card l) f x y);
-            events = q.trace ∙ ap (λ (es : List Event). old.trace ++ es) (events ∙ sym (same_events s.reply (card l) f x y));
+            answering = same_view iso_dep k card l f s.reply x y s.card_is (c.cleared (f ∷ []) (a, tt)) (c.cleared [] tt);
+            heard_is = t.told ∙ sym (same_heard iso_dep s.reply (card l) f x y);
+            events = t.trace ∙ ap (λ (es : List Event). old.trace ++ es) (sym (same_events iso_dep s.reply (card l) f x y));
             moved = same_moved l f s x y;
           };
           is =
-              (let P : World L → Type 0 = λ w. IsLeft l f (met l f x) w.lit h (left_by l f x y o) in
-              subst P (sym after)
-              (subst (λ (z : Option Heard). IsLeft l f (met l f x) (replay (quiet_air k.machine) (world old) (tag_events f x y o)).lit z (left_by l f x y o)) (sym told)
+              (let P : World L → Type 0 = λ w. IsLeft l f (met l f x) w.lit h (left_by k l f x y o) in
+              subst P (sym t.after)
+              (subst (λ (z : Option Heard). IsLeft l f (met l f x) (replay (quiet_air k.machine) (world old) (tag_events f x y o)).lit z (left_by k l f x y o)) (sym t.told)
               (left_is l f old.lit x y o q.lit (world old) refl)));
           added = tag_events f x y o;
-          trace = q.trace ∙ ap (λ (es : List Event). old.trace ++ es) events;
-          calm = λ z. calm_is (k.machine.answer l f None) x y o h s.answer told (calm_events f x y o z);
+          trace = t.trace;
+          calm = λ z. calm_is (k.machine.answer l f None) x y o h s.answer t.told (calm_events f x y o z);
           stores =
-              shows_store (k.identifier l) f (asked_aside (k.identifier l) f a) (world old) place l alone steps (met l f x).store x y o
+              shows_store (k.identifier l) f all (world old) place l alone heard (met l f x).store x y o
               (met_holds l f x);
         }
