@@ -1,6 +1,7 @@
 use Rattle.std.proofs.Common.{◌≡◌, length, Err, sym, ◌∙◌, refl, ap, subst, rules}
 use Rattle.air_core.specs.declared.fault.AirFault.{AirFault}
 use Rattle.air_core.specs.Turn.{Transmits}
+use Rattle.air_core.proofs.ListenerLaws.{laws_of}
 use Rattle.air_core.proofs.PlainAside.{Laws}
 use Rattle.nfc_base.specs.declared.event.Heard.{Heard}
 use Rattle.dep_link.specs.declared.initiator.InitStep.{InitStep}
@@ -13,13 +14,7 @@ use Rattle.dep_link.proofs.exchange.ask_peer.Given as given
 use Rattle.dep_link.proofs.exchange.ask_peer.Goals as goal
 
 laws : (g : given.Over) → Laws g.L.Listener
-laws g = record {
-  step_keeps = g.met.L.Listener.step_keeps;
-  dark_keeps = g.met.L.Listener.dark_keeps;
-  dark_rests = g.met.L.Listener.dark_rests;
-  rests = g.met.L.Listener.rests;
-  ignores = g.met.L.Listener.ignores;
-}
+laws g = laws_of g.met.L.Listener
 
 -- the payload that was begun stays
 next_out : (g : given.Over) (i i' : InitState) (h : Heard) (d : InitStep) → (let x : InitTurn = record { state = i'; does = d } in x) ≡ init_table i h → i'.out ≡ i.out

@@ -3,6 +3,7 @@ use Rattle.nfc_base.specs.declared.far.Mute.{Mute}
 use Rattle.nfc_base.specs.Signal.{Signal, whole_a}
 use Rattle.air_core.specs.declared.fault.AirFault.{AirFault}
 use Rattle.air_core.specs.Turn.{Transmits}
+use Rattle.air_core.proofs.ListenerLaws.{laws_of}
 use Rattle.air_core.proofs.PlainAside.{Laws}
 use Rattle.isodep_link.proofs.AskingLaw.{first_here, next_here, ends_answered, ends_six, ends_never, ends_lost, ends_stopped}
 use Rattle.isodep_link.specs.Blocks.{block_frame}
@@ -28,13 +29,7 @@ abbrev is_stuck : Mute → Bool
 is_stuck far = false
 
 laws : (g : given.Over) → Laws g.L.Listener
-laws g = record {
-  step_keeps = g.met.L.Listener.step_keeps;
-  dark_keeps = g.met.L.Listener.dark_keeps;
-  dark_rests = g.met.L.Listener.dark_rests;
-  rests = g.met.L.Listener.rests;
-  ignores = g.met.L.Listener.ignores;
-}
+laws g = laws_of g.met.L.Listener
 
 ok_value : {E : Type 0} (r : Result Signal E) (f g : Signal) → r ≡ Ok f → IfOk r (λ x. x ≡ g) → f ≡ g
 ok_value (Ok x) f g e h = let q : x ≡ f = cc in sym q ∙ h

@@ -1,17 +1,12 @@
 use Rattle.air_core.specs.PlainMoving.{moves_again}
+use Rattle.air_core.proofs.ListenerLaws.{laws_of}
 use Rattle.air_core.proofs.PlainAside.{Laws}
 use Rattle.air_core.proofs.PlainAnswers.{none_here, ok_obeys, ok_rises, ok_answer, ok_ready, ok_moves, err_obeys, err_rises, err_fault, err_calm, err_moves}
 use Rattle.air_core.proofs.plain_link.PlainLinkTagLink.ask.Given as given
 use Rattle.air_core.proofs.plain_link.PlainLinkTagLink.ask.Goals as goal
 
 laws : (g : given.Over) → Laws g.L.Listener
-laws g = record {
-  step_keeps = g.met.L.Listener.step_keeps;
-  dark_keeps = g.met.L.Listener.dark_keeps;
-  dark_rests = g.met.L.Listener.dark_rests;
-  rests = g.met.L.Listener.rests;
-  ignores = g.met.L.Listener.ignores;
-}
+laws g = laws_of g.met.L.Listener
 
 pub returns-in-Some-clause-moves : goal.returns-in-Some-clause-moves
 returns-in-Some-clause-moves g c = moves_again _ _

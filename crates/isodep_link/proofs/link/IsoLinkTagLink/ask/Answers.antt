@@ -1,6 +1,7 @@
 use Rattle.std.proofs.Common.{◌≡◌, Some, None, Result, Err}
 use Rattle.nfc_base.specs.Signal.{Signal, whole_a}
 use Rattle.nfc_base.specs.declared.tag_link.AskFault.{AskFault}
+use Rattle.air_core.proofs.ListenerLaws.{laws_of}
 use Rattle.air_core.proofs.PlainAside.{Laws}
 use Rattle.isodep_link.specs.declared.link.IsoLink.{IsoLink}
 use Rattle.isodep_link.specs.Asking.{Exchanges}
@@ -10,13 +11,7 @@ use Rattle.isodep_link.proofs.link.IsoLinkTagLink.ask.Given as given
 use Rattle.isodep_link.proofs.link.IsoLinkTagLink.ask.Goals as goal
 
 laws : (g : given.Over) → Laws g.L.Listener
-laws g = record {
-  step_keeps = g.met.L.Listener.step_keeps;
-  dark_keeps = g.met.L.Listener.dark_keeps;
-  dark_rests = g.met.L.Listener.dark_rests;
-  rests = g.met.L.Listener.rests;
-  ignores = g.met.L.Listener.ignores;
-}
+laws g = laws_of g.met.L.Listener
 
 -- what an exchange answers, as the link shows it
 answers : (g : given.Over) (a b : IsoLink g.row.L.Denot) (command : Signal) (r : Result Signal AskFault)
