@@ -2,7 +2,8 @@
 -- air, how one exchange begins, and in how many frames its payload and its reply are sent.
 use Rattle.std.specs.Prelude.{◌≡◌, ℕ, ◌+◌, ◌-◌, ◌/◌, ◌<◌, ◌≤◌, false, List, [], ◌∷◌, length, Option, Some, None}
 use Rattle.nfc_base.specs.Signal.{Signal}
-use Rattle.nfc_base.specs.StopAndWait.{Does, Quiet, Reply, Deliver, Finished, SixBad, Protocol, Next, Send, Ends, StopAndWait, Requests, World, Once, IsReplyTo, run}
+use Rattle.nfc_base.specs.StopAndWait.{Does, Quiet, Reply, Deliver, Finished, SixBad, Protocol, Next, Send, Ends, StopAndWait, World, Once, IsReplyTo, run}
+use Rattle.nfc_base.specs.Sessions.{opening}
 use Rattle.nfc_base.specs.LinkTurns.{heard_of}
 use Rattle.dep_pdu.specs.declared.frame.DepFrame.{DepFrame}
 use Rattle.dep_link.specs.declared.target.TargetStep.{TargetStep}
@@ -86,17 +87,11 @@ IsReady first w = InStep w.asking w.answering × IsCut first w.answering w.deliv
 
 -- an exchange of this payload begins, behind those in which the target was handed these and heard these frames
 abbrev pub beginning : InitState → TargetState → List (List ℕ) → List Signal → List ℕ → Exchange
-beginning i t handed arrived out =
-    record {
-      asking = begun i out;
-      answering = t;
-      stage = Requests (air_frame (request (begun i out).core));
-      given = None;
-      delivered = handed;
-      arrived = arrived;
-      sent = 0;
-      bads = 0;
-    }
+beginning i t handed arrived out = opening (begun i out) t handed arrived (air_frame (request (begun i out).core))
+
+-- the exchange of a payload begins, from where the one before it ended
+abbrev pub next_exchange : Exchange → List ℕ → Exchange
+next_exchange w out = beginning w.asking w.answering w.delivered w.arrived out
 
 -- how many frames a target takes for a reply: its time extensions, and then the pieces
 abbrev pub frames_back : TargetState → List ℕ → ℕ

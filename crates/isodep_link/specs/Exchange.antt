@@ -2,7 +2,8 @@
 -- how one exchange begins, and in how many blocks its command and its answer are sent.
 use Rattle.std.specs.Prelude.{◌≡◌, ℕ, ◌+◌, ◌-◌, ◌/◌, ◌<◌, ◌≤◌, false, List, [], ◌∷◌, length, Option, Some, None}
 use Rattle.nfc_base.specs.Signal.{Signal}
-use Rattle.nfc_base.specs.StopAndWait.{Does, Quiet, Reply, Deliver, Finished, SixBad, Protocol, Next, Send, Ends, StopAndWait, Requests, World, Once, IsReplyTo, run}
+use Rattle.nfc_base.specs.StopAndWait.{Does, Quiet, Reply, Deliver, Finished, SixBad, Protocol, Next, Send, Ends, StopAndWait, World, Once, IsReplyTo, run}
+use Rattle.nfc_base.specs.Sessions.{opening}
 use Rattle.nfc_base.specs.LinkTurns.{heard_of}
 use Rattle.isodep_link.specs.declared.block.Block.{Block}
 use Rattle.isodep_link.specs.declared.card.CardStep.{CardStep}
@@ -101,16 +102,11 @@ IsReady w = InStep w.asking w.answering × IsCut w.answering w.delivered w.arriv
 -- an exchange of this command begins, behind those in which the card obeyed these commands and heard these frames
 abbrev pub beginning : ReaderState → CardState → List (List ℕ) → List Signal → List ℕ → Exchange
 beginning i t commands arrived command =
-    record {
-      asking = begun i command;
-      answering = t;
-      stage = Requests (block_frame (request (begun i command).core));
-      given = None;
-      delivered = commands;
-      arrived = arrived;
-      sent = 0;
-      bads = 0;
-    }
+    opening (begun i command) t commands arrived (block_frame (request (begun i command).core))
+
+-- the exchange of a command begins, from where the one before it ended
+abbrev pub next_exchange : Exchange → List ℕ → Exchange
+next_exchange w command = beginning w.asking w.answering w.delivered w.arrived command
 
 -- The law of an exchange between a reader with this state and a card with that one, whose owner answers by the function far:
 -- at any moment the command was obeyed at most once, as Once says, with at most 2 (k1 + k2 - 1) + 2 K + 4 b transmissions.

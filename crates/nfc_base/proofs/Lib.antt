@@ -4,4 +4,5 @@ pub mod BitsOfBytes
 pub mod Leading
 pub mod ExactlyOnce
 pub mod LinkTurns
+pub mod Sessions
 pub mod Locking

@@ -11,3 +11,4 @@ pub mod Links
 pub mod TagLinks
 pub mod StopAndWait
 pub mod LinkTurns
+pub mod Sessions
