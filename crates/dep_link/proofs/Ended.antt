@@ -9,7 +9,9 @@ use Rattle.dep_link.specs.declared.initiator.Phase.{Phase}
 use Rattle.dep_link.specs.declared.initiator.Phase.TheVariants.{Asked, Nacked, Attending, Free, EndedSixBad, EndedProtocol}
 use Rattle.dep_link.specs.declared.initiator.InitStep.TheVariants as steps
 use Rattle.dep_link.specs.Frames.{spelled}
-use Rattle.dep_link.specs.Initiator.{Core, InitState, InitMove, Next, Asks, Gives, GivesUp, Refuses, framed, framed_next, FaultsStay, sends, refuses, most_bads, bad, received, more_follows, may_extend, is_refused, acked, brought, answered, attended, waited, attending, whole, damaged, silent, heard_next, init_table}
+use Rattle.dep_link.specs.Sizes.{limit}
+use Rattle.nfc_base.specs.Pieces.{Core, most_bads, more_follows, may_extend, is_refused}
+use Rattle.dep_link.specs.Initiator.{InitState, InitMove, Next, Asks, Gives, GivesUp, Refuses, framed, framed_next, FaultsStay, sends, refuses, bad, received, acked, brought, answered, attended, waited, attending, whole, damaged, silent, heard_next, init_table}
 
 -- A move that ends by a fault keeps which it was; and the payload that was begun stays.
 pub record Keeps (i : InitState) (m : InitMove) : Type 0 where
@@ -41,7 +43,7 @@ allows_received i true xs = allows_sends i _ _ _
 allows_received i false xs = record { out = refl; never = λ e. cc; refused = λ e. cc }
 
 allows_brought : (i : InitState) (more : Bool) (xs : List ℕ) → Allows i (brought i more xs)
-allows_brought i more xs = allows_if i (is_refused more xs (i.core.got ++ xs)) _ _ (allows_refuses i) (allows_received i more (i.core.got ++ xs))
+allows_brought i more xs = allows_if i (is_refused limit more xs (i.core.got ++ xs)) _ _ (allows_refuses i) (allows_received i more (i.core.got ++ xs))
 
 allows_acked : (i : InitState) (pni : ℕ) → Allows i (acked i pni)
 allows_acked i pni = allows_if i (if more_follows i.core then pni == i.core.number else false) _ _ (allows_sends i _ _ _) (allows_refuses i)

@@ -11,7 +11,8 @@ use Rattle.dep_link.specs.declared.initiator.Phase.TheVariants.{Asked, Nacked, A
 use Rattle.dep_link.specs.declared.initiator.InitStep.TheVariants as steps
 use Rattle.dep_link.specs.Sizes.{limit}
 use Rattle.dep_link.specs.Frames.{spelled}
-use Rattle.dep_link.specs.Initiator.{Core, InitState, InitMove, InitTurn, Next, Asks, Gives, GivesUp, Refuses, refuses, most_bads, bad, received, more_follows, may_extend, extended, most_extensions, longest_extension, is_refused, acked, brought, answered, attended, waited, attending, whole, damaged, silent, heard_next, framed_next, init_table}
+use Rattle.nfc_base.specs.Pieces.{Core, most_bads, more_follows, may_extend, most_extensions, longest_extension, is_refused}
+use Rattle.dep_link.specs.Initiator.{InitState, InitMove, InitTurn, Next, Asks, Gives, GivesUp, Refuses, refuses, bad, received, extended, acked, brought, answered, attended, waited, attending, whole, damaged, silent, heard_next, framed_next, init_table}
 use Rattle.dep_link.specs.Falling.{after_attention, left_to_do}
 use Rattle.dep_link.specs.Moves.{le_from_not}
 
@@ -54,7 +55,7 @@ some_of xs e = go (nat_lt 0 (length xs)) refl e
     go false d e = absurd (cc)
 
 -- a piece that isn't refused
-not_refused : (more : Bool) (xs all : List ℕ) → is_refused more xs all ≡ false → (length all ≤ limit) × (more ≡ true → 0 < length xs)
+not_refused : (more : Bool) (xs all : List ℕ) → is_refused limit more xs all ≡ false → (length all ≤ limit) × (more ≡ true → 0 < length xs)
 not_refused more xs all e = go (nat_lt limit (length all)) refl e
   where
     go : (b : Bool) → nat_lt limit (length all) ≡ b → (if b then true else (if more then not (nat_lt 0 (length xs)) else false)) ≡ false → (length all ≤ limit) × (more ≡ true → 0 < length xs)
@@ -63,7 +64,7 @@ not_refused more xs all e = go (nat_lt limit (length all)) refl e
 
 falls_brought : (i : InitState) (more : Bool) (xs : List ℕ) → Falls i (brought i more xs)
 falls_brought i more xs =
-    falls_if i (is_refused more xs (i.core.got ++ xs)) _ _ (λ b. falls_refuses i) (λ b. go more (not_refused more xs (i.core.got ++ xs) b))
+    falls_if i (is_refused limit more xs (i.core.got ++ xs)) _ _ (λ b. falls_refuses i) (λ b. go more (not_refused more xs (i.core.got ++ xs) b))
   where
     go : (m : Bool) → (length (i.core.got ++ xs) ≤ limit) × (m ≡ true → 0 < length xs) → Falls i (received i m (i.core.got ++ xs))
     go true n = falls_received i xs (n.1 refl) n.0

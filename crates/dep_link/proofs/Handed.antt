@@ -7,7 +7,8 @@ use Rattle.nfc_base.proofs.ExactlyOnce.{Keeps, exactly_once}
 use Rattle.dep_link.specs.Sizes.{limit}
 use Rattle.dep_link.specs.Target.{TargetState}
 use Rattle.dep_link.specs.Initiator.{InitState, begun}
-use Rattle.dep_link.specs.Exchange.{nfc_dep, pieces, frames_back, InStep, IsCut, beginning, HandedOnce}
+use Rattle.nfc_base.specs.Pieces.{pieces}
+use Rattle.dep_link.specs.Exchange.{nfc_dep, frames_back, InStep, IsCut, beginning, HandedOnce}
 use Rattle.dep_link.proofs.Standing.{Asking, asking, Ask, asks, Wait, more, Fits}
 use Rattle.dep_link.proofs.Landing.{lands_at}
 use Rattle.dep_link.proofs.Hearing.{unheard_at, lost_at, damaged_at, answered_at, ask_left}

@@ -12,10 +12,11 @@ use Rattle.dep_pdu.specs.Spelling.{IsDepFrame}
 use Rattle.dep_link.specs.declared.initiator.Phase.{Phase}
 use Rattle.dep_link.specs.declared.initiator.Phase.TheVariants.{Asked, Nacked, Attending, Free, EndedSixBad, EndedProtocol}
 use Rattle.dep_link.specs.Sizes.{limit}
-use Rattle.dep_link.specs.Frames.{air_frame, spelled, piece}
+use Rattle.dep_link.specs.Frames.{air_frame, spelled, piece, after}
 use Rattle.dep_link.specs.Target.{TargetState}
-use Rattle.dep_link.specs.Initiator.{Core, InitState, InitMove, InitTurn, Gives, sent, sends, most_bads, most_extensions, longest_extension, bad, turned, more_follows, is_refused, answered, waited, whole, damaged, silent, framed, framed_next, init_table}
-use Rattle.dep_link.specs.Exchange.{nfc_dep, initiator_does, pieces, InStep}
+use Rattle.nfc_base.specs.Pieces.{Core, most_bads, most_extensions, longest_extension, turned, more_follows, is_refused, pieces}
+use Rattle.dep_link.specs.Initiator.{InitState, InitMove, InitTurn, Gives, sent, sends, bad, answered, waited, whole, damaged, silent, framed, framed_next, init_table}
+use Rattle.dep_link.specs.Exchange.{nfc_dep, initiator_does, InStep}
 use Rattle.dep_link.proofs.Wire.{written_read, is_piece}
 use Rattle.dep_link.specs.Moves.{le_from_not}
 use Rattle.dep_link.proofs.Standing.{same, after_small, not_lt, pieces_drop, chain_fits, Asking, Drawing, Acked, Answered, Extending, Held, of_chain, of_reply, of_time, Stands, asking, drawing, granting, held, granted, Ask, asks, nacks, attends, HasAsked, Wait, has, stays_up}
@@ -155,7 +156,7 @@ module _ (first m k : ℕ) (out : List ℕ) where
 
   -- the next piece of the payload
   abbrev sent_on : Core → Core
-  sent_on c = turned c (drop c.most c.rest) false c.got
+  sent_on c = turned c (after c.number) (drop c.most c.rest) false c.got
 
   ack_heard : (i : InitState) (t : TargetState) (g : Option (List ℕ)) → Acked m k out i.core t g
       → (answered i (Ack true i.core.number) ≡ sends i (sent_on i.core) Asked 0) × Asking m k out (sent_on i.core) t g
@@ -174,13 +175,13 @@ module _ (first m k : ℕ) (out : List ℕ) where
     },
   )
 
-  not_refused : (got xs : List ℕ) (n : ℕ) → 0 < n → length (got ++ xs) ≤ limit → is_refused (nat_lt n (length xs)) (take n xs) (got ++ take n xs) ≡ false
+  not_refused : (got xs : List ℕ) (n : ℕ) → 0 < n → length (got ++ xs) ≤ limit → is_refused limit (nat_lt n (length xs)) (take n xs) (got ++ take n xs) ≡ false
   not_refused got xs n p f = go (nat_lt n (length xs)) refl
     where
       le : length (got ++ take n xs) ≤ limit
       le = chain_fits got xs (got ++ xs) n refl f
 
-      go : (b : Bool) → nat_lt n (length xs) ≡ b → is_refused (nat_lt n (length xs)) (take n xs) (got ++ take n xs) ≡ false
+      go : (b : Bool) → nat_lt n (length xs) ≡ b → is_refused limit (nat_lt n (length xs)) (take n xs) (got ++ take n xs) ≡ false
       go false e = rw (not_lt limit (length (got ++ take n xs)) le, e) refl
       go true e =
           let l : n < length xs = ltb-true n (length xs) e in
@@ -189,7 +190,7 @@ module _ (first m k : ℕ) (out : List ℕ) where
 
   -- a piece of the reply that isn't the last
   abbrev got_on : Core → List ℕ → Core
-  got_on c xs = turned c [] true (c.got ++ xs)
+  got_on c xs = turned c (after c.number) [] true (c.got ++ xs)
 
   piece_heard : (i : InitState) (t : TargetState) (g : Option (List ℕ)) (bytes : List ℕ) → Answered m k out i.core t g bytes → t.most < length bytes
       → (answered i (piece true t.most i.core.number bytes) ≡ sends i (got_on i.core (take t.most bytes)) Asked 0) × Drawing m k out (got_on i.core (take t.most bytes)) t g
@@ -210,7 +211,7 @@ module _ (first m k : ℕ) (out : List ℕ) where
   )
 
   abbrev ended : InitState → InitState
-  ended i = record i { core = turned i.core [] false []; phase = Free; bads = 0 }
+  ended i = record i { core = turned i.core (after i.core.number) [] false []; phase = Free; bads = 0 }
 
   last_heard : (i : InitState) (t : TargetState) (g : Option (List ℕ)) (bytes : List ℕ) → Answered m k out i.core t g bytes → length bytes ≤ t.most
       → answered i (piece true t.most i.core.number bytes) ≡ record { state = ended i; does = Gives (i.core.got ++ bytes) }

@@ -14,9 +14,10 @@ use Rattle.dep_link.specs.declared.initiator.Phase.TheVariants.{Asked}
 use Rattle.dep_link.specs.Sizes.{limit}
 use Rattle.dep_link.specs.Frames.{air_frame, after, before, piece}
 use Rattle.dep_link.specs.Target.{TargetState, TargetMove, TargetTurn, Does, Stays, Answers, Begins, Delivers, Sleeps, Frees, framed, framed_does, target_table, heeded, first_piece, replied, reply_frame}
-use Rattle.dep_link.specs.Initiator.{Core, InitState, asked, request, most_bads}
+use Rattle.nfc_base.specs.Pieces.{Core, most_bads, pieces}
+use Rattle.dep_link.specs.Initiator.{InitState, asked, request}
 use Rattle.dep_link.specs.Payloads.{taken}
-use Rattle.dep_link.specs.Exchange.{nfc_dep, target_does, pieces, IsCut}
+use Rattle.dep_link.specs.Exchange.{nfc_dep, target_does, IsCut}
 use Rattle.dep_link.proofs.Wire.{target_heeds, is_piece, cut_of, cuts_on, cuts_same}
 use Rattle.dep_link.specs.Moves.{le_from_not}
 use Rattle.dep_link.proofs.Standing.{same, not_after, before_after, not_lt, chain_fits, Asking, Drawing, Acked, Answered, Extending, Held, of_chain, of_reply, of_time, Stands, asking, drawing, granting, held, granted, HasAsked, Ask, asks, nacks, attends, Wait, has, stays_up, more, Fits}

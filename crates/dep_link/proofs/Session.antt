@@ -3,7 +3,8 @@
 use Rattle.std.proofs.Common.{ℕ, [], refl, ap}
 use Rattle.nfc_base.proofs.Sessions.{KeepsEach, session_delivers}
 use Rattle.dep_link.specs.Sizes.{limit}
-use Rattle.dep_link.specs.Exchange.{nfc_dep, IsReady, next_exchange, pieces, frames_back}
+use Rattle.nfc_base.specs.Pieces.{pieces}
+use Rattle.dep_link.specs.Exchange.{nfc_dep, IsReady, next_exchange, frames_back}
 use Rattle.dep_link.specs.Sessions.{activated_link, ActivatedReady, ActivatedHands}
 use Rattle.dep_link.proofs.Handed.{handed_once}
 use Rattle.dep_link.proofs.Begun.{in_step_first}

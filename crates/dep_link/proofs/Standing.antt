@@ -10,9 +10,9 @@ use Rattle.dep_pdu.specs.declared.frame.DepFrame.TheVariants.{Ack, Nack, Attenti
 use Rattle.dep_link.specs.declared.initiator.Phase.TheVariants.{Asked, Nacked, Attending}
 use Rattle.dep_link.specs.Sizes.{limit}
 use Rattle.dep_link.specs.Frames.{air_frame, after, before, piece}
-use Rattle.dep_link.specs.Target.{TargetState, most_busy}
-use Rattle.dep_link.specs.Initiator.{Core, InitState, request, more_follows, most_bads, longest_extension}
-use Rattle.dep_link.specs.Exchange.{pieces}
+use Rattle.nfc_base.specs.Pieces.{most_busy, Core, more_follows, most_bads, longest_extension, pieces}
+use Rattle.dep_link.specs.Target.{TargetState}
+use Rattle.dep_link.specs.Initiator.{InitState, request}
 
 pub same : (p : ℕ) → (p == p) ≡ true
 same p = eq-eqb p p refl

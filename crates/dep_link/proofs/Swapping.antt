@@ -33,9 +33,10 @@ use Rattle.dep_link.specs.declared.initiator.Phase.TheVariants as phases
 use Rattle.dep_link.specs.Sizes.{limit}
 use Rattle.dep_link.specs.Frames.{air_frame}
 use Rattle.dep_link.specs.Target.{TargetState, replied}
-use Rattle.dep_link.specs.Initiator.{Core, InitState, init_table, request, begun}
+use Rattle.nfc_base.specs.Pieces.{Core, pieces}
+use Rattle.dep_link.specs.Initiator.{InitState, init_table, request, begun}
 use Rattle.dep_link.specs.Payloads.{payloads}
-use Rattle.dep_link.specs.Exchange.{nfc_dep, initiator_does, frames_of, pieces, frames_back, beginning, InStep, IsCut}
+use Rattle.dep_link.specs.Exchange.{nfc_dep, initiator_does, frames_of, frames_back, beginning, InStep, IsCut}
 use Rattle.dep_link.specs.Answering.{answering, answering_air}
 use Rattle.dep_link.specs.Peers.{IsAskedFrame, IsAsked, IsShort, Hearing, IsHearing, heard_with, reached, StepsByTarget, IsPeer}
 use Rattle.dep_link.specs.Asking.{Standing, Waits, Broken, asks, goes_by, noted, stand, due_at, dep_next, AreFrames, MayReply, HasPeer, ExchangeTurns}

@@ -1,6 +1,6 @@
 -- Both ends of NFC-DEP as a link that stops and waits (NFCIP-1, ISO/IEC 18092; NFC Forum Digital Protocol): their tables on the
 -- air, how one exchange begins, and in how many frames its payload and its reply are sent.
-use Rattle.std.specs.Prelude.{◌≡◌, ℕ, ◌+◌, ◌-◌, ◌/◌, ◌<◌, ◌≤◌, false, List, [], ◌∷◌, length, Option, Some, None}
+use Rattle.std.specs.Prelude.{◌≡◌, ℕ, ◌+◌, ◌<◌, ◌≤◌, false, List, [], ◌∷◌, length, Option, Some, None}
 use Rattle.nfc_base.specs.Signal.{Signal}
 use Rattle.nfc_base.specs.StopAndWait.{Does, Quiet, Reply, Deliver, Finished, SixBad, Protocol, Next, Send, Ends, StopAndWait, World, Once, IsReplyTo, run}
 use Rattle.nfc_base.specs.Sessions.{opening}
@@ -13,8 +13,9 @@ use Rattle.dep_link.specs.declared.initiator.InitStep.TheVariants as initiator
 use Rattle.nfc_base.specs.declared.event.Fate.{Fate}
 use Rattle.dep_link.specs.Sizes.{limit}
 use Rattle.dep_link.specs.Frames.{air_frame, spelled}
-use Rattle.dep_link.specs.Target.{TargetState, target_table, replied, reply_frame, darkened, most_busy}
-use Rattle.dep_link.specs.Initiator.{InitState, init_table, begun, request, longest_extension}
+use Rattle.nfc_base.specs.Pieces.{pieces, most_busy, longest_extension}
+use Rattle.dep_link.specs.Target.{TargetState, target_table, replied, reply_frame, darkened}
+use Rattle.dep_link.specs.Initiator.{InitState, init_table, begun, request}
 use Rattle.dep_link.specs.Payloads.{begins, cut_by, payloads}
 
 -- The steps of both ends, in the words of such a link. No exchange has an ATR_REQ: at one a target answers and delivers nothing.
@@ -57,10 +58,6 @@ nfc_dep first = record {
 -- an exchange on such a link
 abbrev pub Exchange : Type 0
 Exchange = World InitState TargetState Signal
-
--- how many frames some bytes take, by the most content of each
-abbrev pub pieces : ℕ → List ℕ → ℕ
-pieces most xs = 1 + (length xs - 1) / most
 
 -- Between two exchanges both ends are in step: the target expects the initiator's PNI, has no piece of a payload, and no
 -- byte and no piece of a reply that isn't sent, and each cuts what it sends into pieces that a frame holds. How much

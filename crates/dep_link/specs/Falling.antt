@@ -3,7 +3,8 @@ use Rattle.std.specs.Prelude.{ℕ, ◌+◌, ◌-◌, ◌*◌, length}
 use Rattle.dep_link.specs.declared.initiator.Phase.{Phase}
 use Rattle.dep_link.specs.declared.initiator.Phase.TheVariants.{Attending}
 use Rattle.dep_link.specs.Sizes.{limit}
-use Rattle.dep_link.specs.Initiator.{InitState, most_bads, most_extensions}
+use Rattle.nfc_base.specs.Pieces.{most_bads, most_extensions}
+use Rattle.dep_link.specs.Initiator.{InitState}
 
 abbrev pub after_attention : Phase → ℕ
 after_attention Attending = 1

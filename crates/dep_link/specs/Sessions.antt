@@ -3,8 +3,9 @@ use Rattle.std.specs.Prelude.{ℕ, ◌≤◌, List, []}
 use Rattle.std.specs.List.{AllByRecursion}
 use Rattle.nfc_base.specs.Sessions.{Attempt, Fits, DeliversAll, unasked, session, asked_in}
 use Rattle.dep_link.specs.Sizes.{limit}
-use Rattle.dep_link.specs.Target.{TargetState, opened, most_busy}
-use Rattle.dep_link.specs.Initiator.{waiting, longest_extension}
+use Rattle.nfc_base.specs.Pieces.{most_busy, longest_extension}
+use Rattle.dep_link.specs.Target.{TargetState, opened}
+use Rattle.dep_link.specs.Initiator.{waiting}
 use Rattle.dep_link.specs.Exchange.{nfc_dep, Exchange, IsReady, next_exchange}
 
 -- A target has answered ATR_REQ of an initiator with this LR code, and nothing was swapped yet.

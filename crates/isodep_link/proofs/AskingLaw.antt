@@ -43,9 +43,10 @@ use Rattle.isodep_link.specs.Sizes.{limit}
 use Rattle.isodep_link.specs.Card.{CardState}
 use Rattle.isodep_link.specs.declared.reader.ReaderStep.{ReaderStep}
 use Rattle.isodep_link.specs.declared.reader.ReaderStep.TheVariants as step
-use Rattle.isodep_link.specs.Reader.{Core, ReaderState, ReaderTurn, reader_table, request, begun}
+use Rattle.nfc_base.specs.Pieces.{Core, pieces}
+use Rattle.isodep_link.specs.Reader.{ReaderState, ReaderTurn, reader_table, request, begun}
 use Rattle.isodep_link.specs.Commands.{iso_commands}
-use Rattle.isodep_link.specs.Exchange.{iso_dep, blocks_of, pieces, blocks_back, reader_does, beginning, InStep, IsCut}
+use Rattle.isodep_link.specs.Exchange.{iso_dep, blocks_of, blocks_back, reader_does, beginning, InStep, IsCut}
 use Rattle.isodep_link.specs.CardTags.{IsAskedFrame, IsAskedBlock, TagDoes, IsShort, StepsByCard, IsCardTag}
 use Rattle.isodep_link.specs.Asking.{IsoStanding, Waits, Rests, Broken, asks, goes_by, noted, stand, due_at, iso_next, HasCardTag, IsAfter, CommandTurns, EndsBy}
 use Rattle.isodep_link.proofs.Wire.{is_piece}

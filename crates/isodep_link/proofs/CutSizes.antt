@@ -20,7 +20,8 @@ use Rattle.isodep_link.specs.Blocks.{piece, IsBlock, spelled_block}
 use Rattle.isodep_link.specs.Sizes.{limit, rats_code}
 use Rattle.isodep_link.specs.Card as cards
 use Rattle.isodep_link.specs.Card.{CardState, CardMove, card_table, block_table, grown, again, heeded, stays}
-use Rattle.isodep_link.specs.Reader.{may_extend, ReaderState, ReaderMove, Reception, Hears, Odd, Bad, reception, reader_table, most_bads, bad, received, more_follows, is_refused, acked, missed, brought, answered, waited, unasked, in_phase}
+use Rattle.nfc_base.specs.Pieces.{may_extend, most_bads, more_follows, is_refused}
+use Rattle.isodep_link.specs.Reader.{ReaderState, ReaderMove, Reception, Hears, Odd, Bad, reception, reader_table, bad, received, acked, missed, brought, answered, waited, unasked, in_phase}
 use Rattle.isodep_link.specs.Exchange.{iso_dep, backs_of}
 use Rattle.isodep_link.specs.CardTags.{IsAskedBlock, IsAskedFrame, IsCardTag}
 use Rattle.isodep_link.specs.Asking.{IsoStanding, Waits, Rests, Broken, Astray, asks, goes_by, noted, stand}
@@ -45,7 +46,7 @@ keeps_received i true xs = refl
 keeps_received i false xs = refl
 
 keeps_brought : (i : ReaderState) (more : Bool) (xs : List ℕ) → Keeps i (brought i more xs)
-keeps_brought i more xs = keeps_if i (is_refused more xs (i.core.got ++ xs)) _ _ refl (keeps_received i more (i.core.got ++ xs))
+keeps_brought i more xs = keeps_if i (is_refused limit more xs (i.core.got ++ xs)) _ _ refl (keeps_received i more (i.core.got ++ xs))
 
 keeps_acked : (i : ReaderState) → Keeps i (acked i)
 keeps_acked i = keeps_if i (more_follows i.core) _ _ refl refl

@@ -8,7 +8,9 @@ use Rattle.nfc_base.specs.Signal.{Signal}
 use Rattle.nfc_base.specs.declared.event.Heard.TheVariants as heard
 use Rattle.isodep_link.specs.declared.reader.ReaderStep.TheVariants as steps
 use Rattle.isodep_link.specs.Blocks.{spelled_block}
-use Rattle.isodep_link.specs.Reader.{may_extend, framed, framed_next, reception, FaultsStay, ReaderDoes, Asks, Gives, whole_reception, reader_table, Core, ReaderState, ReaderMove, Reception, Hears, Odd, Bad, GivesUp, Refuses, sends, refuses, most_bads, bad, received, more_follows, is_refused, acked, missed, brought, answered, waited, unasked, in_phase, block_next}
+use Rattle.isodep_link.specs.Sizes.{limit}
+use Rattle.nfc_base.specs.Pieces.{may_extend, Core, most_bads, more_follows, is_refused}
+use Rattle.isodep_link.specs.Reader.{framed, framed_next, reception, FaultsStay, ReaderDoes, Asks, Gives, whole_reception, reader_table, ReaderState, ReaderMove, Reception, Hears, Odd, Bad, GivesUp, Refuses, sends, refuses, bad, received, acked, missed, brought, answered, waited, unasked, in_phase, block_next}
 
 -- a move that ends by a fault keeps which it was
 pub record Keeps (m : ReaderMove) : Type 0 where
@@ -33,7 +35,7 @@ keeps_received i true xs = keeps_sends _ _ _
 keeps_received i false xs = record { gave_up = λ e. cc; refused = λ e. cc }
 
 keeps_brought : (i : ReaderState) (more : Bool) (xs : List ℕ) → Keeps (brought i more xs)
-keeps_brought i more xs = keeps_if (is_refused more xs (i.core.got ++ xs)) _ _ (keeps_refuses i) (keeps_received i more (i.core.got ++ xs))
+keeps_brought i more xs = keeps_if (is_refused limit more xs (i.core.got ++ xs)) _ _ (keeps_refuses i) (keeps_received i more (i.core.got ++ xs))
 
 keeps_acked : (i : ReaderState) → Keeps (acked i)
 keeps_acked i = keeps_if (more_follows i.core) _ _ (keeps_sends _ _ _) (keeps_refuses i)
@@ -102,7 +104,7 @@ not_six_missed i EndedProtocol = λ e. absurd cc
 not_six_answered : (i : ReaderState) (b : Block) → IsNotSix (answered i b)
 not_six_answered i (Info more n c) =
     not_six_if (if more_follows i.core then false else n == i.core.number) _ _
-    (not_six_if (is_refused more c.items (i.core.got ++ c.items)) _ _ (λ e. absurd cc) (not_six_received i more (i.core.got ++ c.items))) (λ e. absurd cc)
+    (not_six_if (is_refused limit more c.items (i.core.got ++ c.items)) _ _ (λ e. absurd cc) (not_six_received i more (i.core.got ++ c.items))) (λ e. absurd cc)
 not_six_answered i (Ack n) = not_six_if (n == i.core.number) _ _ (not_six_if (more_follows i.core) _ _ (λ e. absurd cc) (λ e. absurd cc)) (not_six_missed i i.phase)
 not_six_answered i (Nak n) = λ e. absurd cc
 not_six_answered i Deselect = λ e. absurd cc

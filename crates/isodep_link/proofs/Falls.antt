@@ -9,7 +9,8 @@ use Rattle.isodep_link.specs.declared.reader.ReaderStep.TheVariants as steps
 use Rattle.nfc_base.specs.Signal.{Signal}
 use Rattle.nfc_base.specs.declared.event.Heard.{Heard}
 use Rattle.isodep_link.specs.Sizes.{limit}
-use Rattle.isodep_link.specs.Reader.{may_extend, extended, most_extensions, longest_extension, Core, ReaderState, ReaderMove, ReaderTurn, Reception, Hears, Odd, Bad, Asks, Gives, GivesUp, Refuses, ReaderDoes, framed_next, reception, reader_table, refuses, most_bads, bad, after_bad, received, more_follows, is_refused, acked, missed, brought, answered, waited, unasked, in_phase, block_next}
+use Rattle.nfc_base.specs.Pieces.{may_extend, most_extensions, longest_extension, Core, most_bads, more_follows, is_refused}
+use Rattle.isodep_link.specs.Reader.{extended, ReaderState, ReaderMove, ReaderTurn, Reception, Hears, Odd, Bad, Asks, Gives, GivesUp, Refuses, ReaderDoes, framed_next, reception, reader_table, refuses, bad, after_bad, received, acked, missed, brought, answered, waited, unasked, in_phase, block_next}
 use Rattle.isodep_link.specs.Falling.{after_nak, left_to_do}
 use Rattle.isodep_link.proofs.Standing.{le_from_not}
 
@@ -55,7 +56,7 @@ some_of xs e = go (nat_lt 0 (length xs)) refl e
     go false d e = absurd (cc)
 
 -- a piece that isn't refused
-not_refused : (more : Bool) (xs all : List ℕ) → is_refused more xs all ≡ false → (length all ≤ limit) × (more ≡ true → 0 < length xs)
+not_refused : (more : Bool) (xs all : List ℕ) → is_refused limit more xs all ≡ false → (length all ≤ limit) × (more ≡ true → 0 < length xs)
 not_refused more xs all e = go (nat_lt limit (length all)) refl e
   where
     go : (v : Bool) → nat_lt limit (length all) ≡ v → (if v then true else (if more then not (nat_lt 0 (length xs)) else false)) ≡ false → (length all ≤ limit) × (more ≡ true → 0 < length xs)
@@ -64,7 +65,7 @@ not_refused more xs all e = go (nat_lt limit (length all)) refl e
 
 falls_brought : (i : ReaderState) (more : Bool) (xs : List ℕ) → Falls i (brought i more xs)
 falls_brought i more xs =
-    falls_if i (is_refused more xs (i.core.got ++ xs)) _ _ (λ v. falls_refuses i) (λ v. go more (not_refused more xs (i.core.got ++ xs) v))
+    falls_if i (is_refused limit more xs (i.core.got ++ xs)) _ _ (λ v. falls_refuses i) (λ v. go more (not_refused more xs (i.core.got ++ xs) v))
   where
     go : (m : Bool) → (length (i.core.got ++ xs) ≤ limit) × (m ≡ true → 0 < length xs) → Falls i (received i m (i.core.got ++ xs))
     go true n = falls_received i true xs (n.1 refl) n.0

@@ -13,9 +13,10 @@ use Rattle.isodep_link.specs.Blocks.{toggled, IsBlock, block_frame, piece}
 use Rattle.isodep_link.specs.Sizes.{limit}
 use Rattle.isodep_link.specs.Card.{CardState}
 use Rattle.isodep_link.specs.Reader as reader
-use Rattle.isodep_link.specs.Reader.{Core, ReaderState, ReaderMove, ReaderTurn, Asks, Gives, GivesUp, Refuses, request, sent, sends, after_bad, most_bads, most_extensions, longest_extension, bad, turned, more_follows, is_refused, answered, block_next, framed, framed_next, reader_table}
+use Rattle.nfc_base.specs.Pieces.{Core, most_bads, most_extensions, longest_extension, turned, more_follows, is_refused, pieces}
+use Rattle.isodep_link.specs.Reader.{ReaderState, ReaderMove, ReaderTurn, Asks, Gives, GivesUp, Refuses, request, sent, sends, after_bad, bad, answered, block_next, framed, framed_next, reader_table}
 use Rattle.nfc_base.specs.LinkTurns.{heard_of}
-use Rattle.isodep_link.specs.Exchange.{iso_dep, reader_does, pieces, InStep}
+use Rattle.isodep_link.specs.Exchange.{iso_dep, reader_does, InStep}
 use Rattle.isodep_link.proofs.Wire.{reader_heeds, is_piece}
 use Rattle.isodep_link.proofs.Standing.{same, toggled_not, toggled_twice, toggled_small, not_lt, le_from_not, pieces_drop, chain_fits, Asking, Drawing, Acked, Answered, Extending, Held, of_chain, of_answer, of_time, Ask, asks, draws, draws_again, naks, naks_held, grants, IsLive, Wait, has, misses}
 
@@ -150,7 +151,7 @@ module _ (m k : ℕ) (out : List ℕ) where
 
   -- the next piece of the command
   abbrev sent_on : Core → Core
-  sent_on c = turned c (drop c.most c.rest) false c.got
+  sent_on c = turned c (toggled c.number) (drop c.most c.rest) false c.got
 
   ack_heard : (i : ReaderState) (t : CardState) (g : Option (List ℕ)) → Acked m k out i.core t g
       → (answered i (Ack i.core.number) ≡ sends (sent_on i.core) Asked 0) × Asking m k out (sent_on i.core) t g
@@ -169,13 +170,13 @@ module _ (m k : ℕ) (out : List ℕ) where
     },
   )
 
-  not_refused : (got xs : List ℕ) (n : ℕ) → 0 < n → length (got ++ xs) ≤ limit → is_refused (nat_lt n (length xs)) (take n xs) (got ++ take n xs) ≡ false
+  not_refused : (got xs : List ℕ) (n : ℕ) → 0 < n → length (got ++ xs) ≤ limit → is_refused limit (nat_lt n (length xs)) (take n xs) (got ++ take n xs) ≡ false
   not_refused got xs n p f = go (nat_lt n (length xs)) refl
     where
       le : length (got ++ take n xs) ≤ limit
       le = chain_fits got xs (got ++ xs) n refl f
 
-      go : (b : Bool) → nat_lt n (length xs) ≡ b → is_refused (nat_lt n (length xs)) (take n xs) (got ++ take n xs) ≡ false
+      go : (b : Bool) → nat_lt n (length xs) ≡ b → is_refused limit (nat_lt n (length xs)) (take n xs) (got ++ take n xs) ≡ false
       go false e = rw (not_lt limit (length (got ++ take n xs)) le, e) refl
       go true e =
           let l : n < length xs = ltb-true n (length xs) e in
@@ -184,7 +185,7 @@ module _ (m k : ℕ) (out : List ℕ) where
 
   -- a piece of the answer that isn't the last
   abbrev got_on : Core → List ℕ → Core
-  got_on c xs = turned c [] true (c.got ++ xs)
+  got_on c xs = turned c (toggled c.number) [] true (c.got ++ xs)
 
   piece_heard : (i : ReaderState) (t : CardState) (g : Option (List ℕ)) (bytes : List ℕ) → Answered m k out i.core t g bytes → t.most < length bytes
       → (answered i (piece t.most i.core.number bytes) ≡ sends (got_on i.core (take t.most bytes)) Asked 0) × Drawing m k out (got_on i.core (take t.most bytes)) t g
@@ -205,7 +206,7 @@ module _ (m k : ℕ) (out : List ℕ) where
   )
 
   abbrev ended : Core → ReaderState
-  ended c = record { core = turned c [] false []; phase = Free; bads = 0 }
+  ended c = record { core = turned c (toggled c.number) [] false []; phase = Free; bads = 0 }
 
   last_heard : (i : ReaderState) (t : CardState) (g : Option (List ℕ)) (bytes : List ℕ) → Answered m k out i.core t g bytes → length bytes ≤ t.most
       → answered i (piece t.most i.core.number bytes) ≡ record { state = ended i.core; does = Gives (i.core.got ++ bytes) }

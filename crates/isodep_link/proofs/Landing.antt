@@ -12,9 +12,10 @@ use Rattle.isodep_link.specs.declared.reader.Phase.TheVariants.{Asked}
 use Rattle.isodep_link.specs.Blocks.{toggled, IsBlock, block_frame, piece}
 use Rattle.isodep_link.specs.Sizes.{limit}
 use Rattle.isodep_link.specs.Card.{CardState, CardMove, CardTurn, Answers, Delivers, framed, framed_does, card_table, block_table, replied, reply_block}
-use Rattle.isodep_link.specs.Reader.{Core, ReaderState, request, asked, most_bads}
+use Rattle.nfc_base.specs.Pieces.{Core, most_bads, pieces}
+use Rattle.isodep_link.specs.Reader.{ReaderState, request, asked}
 use Rattle.isodep_link.specs.Commands.{taken}
-use Rattle.isodep_link.specs.Exchange.{iso_dep, card_does, pieces, IsCut}
+use Rattle.isodep_link.specs.Exchange.{iso_dep, card_does, IsCut}
 use Rattle.isodep_link.proofs.Wire.{card_heeds, is_piece, cut_of, cuts_on, cuts_same}
 use Rattle.isodep_link.proofs.Standing.{same, not_toggled, toggled_twice, not_lt, le_from_not, chain_fits, Asking, Drawing, Acked, Answered, Extending, Held, of_chain, of_answer, of_time, Ask, asks, draws, draws_again, naks, naks_held, grants, IsLive, Wait, has, misses, more, Fits}
 

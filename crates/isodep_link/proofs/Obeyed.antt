@@ -5,7 +5,8 @@ use Rattle.nfc_base.proofs.ExactlyOnce.{Keeps, exactly_once}
 use Rattle.isodep_link.specs.Sizes.{limit}
 use Rattle.isodep_link.specs.Card.{CardState}
 use Rattle.isodep_link.specs.Reader.{ReaderState, begun}
-use Rattle.isodep_link.specs.Exchange.{iso_dep, pieces, blocks_back, InStep, IsCut, beginning, ObeysOnce}
+use Rattle.nfc_base.specs.Pieces.{pieces}
+use Rattle.isodep_link.specs.Exchange.{iso_dep, blocks_back, InStep, IsCut, beginning, ObeysOnce}
 use Rattle.isodep_link.proofs.Standing.{Asking, Ask, asks, Wait, more, Fits}
 use Rattle.isodep_link.proofs.Landing.{lands_at}
 use Rattle.isodep_link.proofs.Hearing.{unheard_at, lost_at, damaged_at, answered_at, ask_left}

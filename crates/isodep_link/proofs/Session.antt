@@ -3,7 +3,8 @@
 use Rattle.std.proofs.Common.{ℕ, ◌<◌, ◌≤◌, ◌==◌, Bool, true, false, if◌then◌else◌, refl, sym, ap, subst, arith}
 use Rattle.nfc_base.proofs.Sessions.{KeepsEach, session_delivers}
 use Rattle.isodep_link.specs.Sizes.{block_size, piece_size, limit}
-use Rattle.isodep_link.specs.Exchange.{iso_dep, IsReady, next_exchange, pieces, blocks_back}
+use Rattle.nfc_base.specs.Pieces.{pieces}
+use Rattle.isodep_link.specs.Exchange.{iso_dep, IsReady, next_exchange, blocks_back}
 use Rattle.isodep_link.specs.Sessions.{activated_link, ActivatedReady, ActivatedObeys}
 use Rattle.isodep_link.proofs.Obeyed.{obeyed_once}
 

@@ -11,9 +11,9 @@ use Rattle.isodep_link.specs.declared.reader.Phase.{Phase}
 use Rattle.isodep_link.specs.declared.reader.Phase.TheVariants.{Asked, Nacked}
 use Rattle.isodep_link.specs.Blocks.{toggled, block_frame, piece}
 use Rattle.isodep_link.specs.Sizes.{limit}
-use Rattle.isodep_link.specs.Card.{CardState, most_busy}
-use Rattle.isodep_link.specs.Reader.{Core, ReaderState, request, more_follows, most_bads, longest_extension}
-use Rattle.isodep_link.specs.Exchange.{pieces}
+use Rattle.nfc_base.specs.Pieces.{most_busy, Core, more_follows, most_bads, longest_extension, pieces}
+use Rattle.isodep_link.specs.Card.{CardState}
+use Rattle.isodep_link.specs.Reader.{ReaderState, request}
 
 pub same : (p : ℕ) → (p == p) ≡ true
 same p = eq-eqb p p refl

@@ -1,6 +1,6 @@
 -- Both ends of ISO-DEP as a link that stops and waits (ISO/IEC 14443-4; NFC Forum Digital Protocol): their tables on the air,
 -- how one exchange begins, and in how many blocks its command and its answer are sent.
-use Rattle.std.specs.Prelude.{◌≡◌, ℕ, ◌+◌, ◌-◌, ◌/◌, ◌<◌, ◌≤◌, false, List, [], ◌∷◌, length, Option, Some, None}
+use Rattle.std.specs.Prelude.{◌≡◌, ℕ, ◌+◌, ◌<◌, ◌≤◌, false, List, [], ◌∷◌, length, Option, Some, None}
 use Rattle.nfc_base.specs.Signal.{Signal}
 use Rattle.nfc_base.specs.StopAndWait.{Does, Quiet, Reply, Deliver, Finished, SixBad, Protocol, Next, Send, Ends, StopAndWait, World, Once, IsReplyTo, run}
 use Rattle.nfc_base.specs.Sessions.{opening}
@@ -11,8 +11,9 @@ use Rattle.isodep_link.specs.declared.card.CardStep.TheVariants as card
 use Rattle.isodep_link.specs.declared.reader.ReaderStep.{ReaderStep}
 use Rattle.isodep_link.specs.declared.reader.ReaderStep.TheVariants as reader
 use Rattle.isodep_link.specs.Blocks.{toggled, block_frame, spelled_block}
-use Rattle.isodep_link.specs.Card.{CardState, card_table, replied, reply_block, darkened, most_busy}
-use Rattle.isodep_link.specs.Reader.{ReaderState, reader_table, begun, request, longest_extension}
+use Rattle.nfc_base.specs.Pieces.{pieces, most_busy, longest_extension}
+use Rattle.isodep_link.specs.Card.{CardState, card_table, replied, reply_block, darkened}
+use Rattle.isodep_link.specs.Reader.{ReaderState, reader_table, begun, request}
 use Rattle.nfc_base.specs.declared.event.Fate.{Fate}
 use Rattle.isodep_link.specs.Sizes.{limit}
 use Rattle.isodep_link.specs.Commands.{cut_by, iso_commands}
@@ -55,10 +56,6 @@ iso_dep = record {
 -- an exchange on such a link
 abbrev pub Exchange : Type 0
 Exchange = World ReaderState CardState Signal
-
--- how many blocks some bytes take, by the most content of each
-abbrev pub pieces : ℕ → List ℕ → ℕ
-pieces most xs = 1 + (length xs - 1) / most
 
 -- What a card's answers take: the most content of a block that it sends, and how often it asks for more time first.
 pub record Backs : Type 0 where

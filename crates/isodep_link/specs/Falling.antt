@@ -3,7 +3,8 @@ use Rattle.std.specs.Prelude.{ℕ, ◌+◌, ◌-◌, ◌*◌, length}
 use Rattle.isodep_link.specs.declared.reader.Phase.{Phase}
 use Rattle.isodep_link.specs.declared.reader.Phase.TheVariants.{Nacked}
 use Rattle.isodep_link.specs.Sizes.{limit}
-use Rattle.isodep_link.specs.Reader.{ReaderState, most_bads, most_extensions}
+use Rattle.nfc_base.specs.Pieces.{most_bads, most_extensions}
+use Rattle.isodep_link.specs.Reader.{ReaderState}
 
 abbrev pub after_nak : Phase → ℕ
 after_nak Nacked = 1

@@ -6,7 +6,8 @@ use Rattle.dep_pdu.specs.declared.frame.DepFrame.{DepFrame}
 use Rattle.dep_pdu.specs.declared.frame.DepFrame.TheVariants.{AtrReq, AtrRes, Info, Ack, Nack, Attention, Extend, DslReq, DslRes, RlsReq, RlsRes}
 use Rattle.dep_link.specs.Exchange.{before_frames}
 use Rattle.dep_link.specs.Frames.{spelled}
-use Rattle.dep_link.specs.Initiator.{Core, InitState}
+use Rattle.nfc_base.specs.Pieces.{Core}
+use Rattle.dep_link.specs.Initiator.{InitState}
 use Rattle.dep_link.specs.Payloads.{Cut}
 use Rattle.dep_link.specs.Target.{TargetState}
 use Rattle.dep_link.proofs.Standing.{Held, of_chain, of_reply, of_time, Wait, has, stays_up}

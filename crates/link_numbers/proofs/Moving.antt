@@ -7,7 +7,8 @@ use Rattle.dep_pdu.specs.declared.frame.DepFrame.TheVariants.{Ack, Nack, Attenti
 use Rattle.dep_pdu.specs.Spelling.{IsDepFrame}
 use Rattle.dep_link.specs.Sizes.{limit}
 use Rattle.dep_link.specs.Frames.{air_frame, after, piece}
-use Rattle.dep_link.specs.Initiator.{Core, InitState, asked, request}
+use Rattle.nfc_base.specs.Pieces.{Core}
+use Rattle.dep_link.specs.Initiator.{InitState, asked, request}
 use Rattle.dep_link.specs.Moves.{le_from_not}
 use Rattle.dep_link.specs.Payloads.{Cut}
 use Rattle.dep_link.specs.Replies.{taken_up}

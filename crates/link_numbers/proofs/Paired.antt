@@ -12,7 +12,8 @@ use Rattle.dep_link.specs.declared.initiator.InitStep.TheVariants as init_steps
 use Rattle.dep_link.specs.declared.target.TargetStep.{TargetStep}
 use Rattle.dep_link.specs.declared.target.TargetStep.TheVariants as steps
 use Rattle.dep_link.specs.Asking.{Standing, Waits, Rests, Broken, Astray, goes_by, noted}
-use Rattle.dep_link.specs.Exchange.{InStep, IsCut, nfc_dep, target_does, initiator_does, before_frames, pieces}
+use Rattle.nfc_base.specs.Pieces.{pieces}
+use Rattle.dep_link.specs.Exchange.{InStep, IsCut, nfc_dep, target_does, initiator_does, before_frames}
 use Rattle.dep_link.specs.Frames.{air_frame, spelled}
 use Rattle.dep_link.specs.Initiator.{InitState, begun, init_table, request}
 use Rattle.dep_link.specs.Payloads.{Cut}

@@ -12,3 +12,4 @@ pub mod TagLinks
 pub mod StopAndWait
 pub mod LinkTurns
 pub mod Sessions
+pub mod Pieces
