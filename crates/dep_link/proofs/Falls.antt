@@ -1,5 +1,5 @@
 -- Each frame that an initiator sends leaves less to do.
-use Rattle.std.proofs.Common.{◌≡◌, ℕ, ◌<◌, ◌≤◌, ◌==◌, nat_lt, Bool, true, false, not, if◌then◌else◌, List, ◌++◌, length, Option, Some, None, refl, sym, ◌∙◌, ap, subst, arith, length-append, length-drop}
+use Rattle.std.proofs.Common.{◌≡◌, ℕ, ◌<◌, ◌≤◌, ◌==◌, nat_lt, Bool, true, false, if◌then◌else◌, List, ◌++◌, length, Option, Some, None, refl, sym, ap, subst, arith, length-append, length-drop}
 use Rattle.std.proofs.lemmas.Bool.{ltb-true}
 use Rattle.nfc_base.specs.Signal.{Signal}
 use Rattle.nfc_base.specs.declared.event.Heard.{Heard}
@@ -11,10 +11,10 @@ use Rattle.dep_link.specs.declared.initiator.Phase.TheVariants.{Asked, Nacked, A
 use Rattle.dep_link.specs.declared.initiator.InitStep.TheVariants as steps
 use Rattle.dep_link.specs.Sizes.{limit}
 use Rattle.dep_link.specs.Frames.{spelled}
-use Rattle.nfc_base.specs.Pieces.{Core, most_bads, more_follows, may_extend, most_extensions, longest_extension, is_refused}
+use Rattle.nfc_base.specs.Pieces.{most_bads, more_follows, may_extend, is_refused}
 use Rattle.dep_link.specs.Initiator.{InitState, InitMove, InitTurn, Next, Asks, Gives, GivesUp, Refuses, refuses, bad, received, extended, acked, brought, answered, attended, waited, attending, whole, damaged, silent, heard_next, framed_next, init_table}
 use Rattle.dep_link.specs.Falling.{after_attention, left_to_do}
-use Rattle.dep_link.specs.Moves.{le_from_not}
+use Rattle.nfc_base.proofs.Chains.{taken_piece, more_than, few_granted}
 
 -- what is left falls by a move that sends a frame
 abbrev Falls : InitState → InitMove → Type 0
@@ -47,35 +47,13 @@ falls_received i xs p l = λ v e. let a = length-append i.core.got xs in omega (
 falls_last : (i : InitState) (xs : List ℕ) → Falls i (received i false xs)
 falls_last i xs = λ v e. absurd (cc)
 
-some_of : (xs : List ℕ) → not (nat_lt 0 (length xs)) ≡ false → 0 < length xs
-some_of xs e = go (nat_lt 0 (length xs)) refl e
-  where
-    go : (b : Bool) → nat_lt 0 (length xs) ≡ b → not b ≡ false → 0 < length xs
-    go true d e = ltb-true 0 (length xs) d
-    go false d e = absurd (cc)
-
--- a piece that isn't refused
-not_refused : (more : Bool) (xs all : List ℕ) → is_refused limit more xs all ≡ false → (length all ≤ limit) × (more ≡ true → 0 < length xs)
-not_refused more xs all e = go (nat_lt limit (length all)) refl e
-  where
-    go : (b : Bool) → nat_lt limit (length all) ≡ b → (if b then true else (if more then not (nat_lt 0 (length xs)) else false)) ≡ false → (length all ≤ limit) × (more ≡ true → 0 < length xs)
-    go true d e = absurd (cc)
-    go false d e = (le_from_not limit (length all) d, λ m. some_of xs (sym (ap (λ b. if b then not (nat_lt 0 (length xs)) else false) m) ∙ e))
-
 falls_brought : (i : InitState) (more : Bool) (xs : List ℕ) → Falls i (brought i more xs)
 falls_brought i more xs =
-    falls_if i (is_refused limit more xs (i.core.got ++ xs)) _ _ (λ b. falls_refuses i) (λ b. go more (not_refused more xs (i.core.got ++ xs) b))
+    falls_if i (is_refused limit more xs (i.core.got ++ xs)) _ _ (λ b. falls_refuses i) (λ b. go more (taken_piece limit more xs (i.core.got ++ xs) b))
   where
     go : (m : Bool) → (length (i.core.got ++ xs) ≤ limit) × (m ≡ true → 0 < length xs) → Falls i (received i m (i.core.got ++ xs))
     go true n = falls_received i xs (n.1 refl) n.0
     go false n = falls_last i (i.core.got ++ xs)
-
-more_than : (c : Core) → more_follows c ≡ true → c.most < length c.rest
-more_than c e = go c.drawing e
-  where
-    go : (d : Bool) → (if d then false else nat_lt c.most (length c.rest)) ≡ true → c.most < length c.rest
-    go true e = absurd (cc)
-    go false e = ltb-true c.most (length c.rest) e
 
 first_true : (a b : Bool) → (if a then b else false) ≡ true → a ≡ true
 first_true true b e = refl
@@ -86,19 +64,6 @@ falls_acked i pni p =
     falls_if i (if more_follows i.core then pni == i.core.number else false) _ _
     (λ b v e. let l = more_than i.core (first_true (more_follows i.core) (pni == i.core.number) b) in let d = length-drop i.core.most i.core.rest in omega (arith, l, d, p))
     (λ b. falls_refuses i)
-
--- time is granted at most so often
-few_granted : (c : Core) (times : ℕ) → may_extend c times ≡ true → c.granted < most_extensions
-few_granted c times e = go c.drawing (more_follows c) (nat_lt 0 times) (nat_lt longest_extension times) (nat_lt c.granted most_extensions) refl e
-  where
-    go : (a b d f v : Bool) → nat_lt c.granted most_extensions ≡ v → (if a then false else (if b then false else (if d then (if f then false else v) else false))) ≡ true
-        → c.granted < most_extensions
-    go true b d f v w e = absurd (cc)
-    go false true d f v w e = absurd (cc)
-    go false false false f v w e = absurd (cc)
-    go false false true true v w e = absurd (cc)
-    go false false true false true w e = ltb-true c.granted most_extensions w
-    go false false true false false w e = absurd (cc)
 
 falls_extended : (i : InitState) (times : ℕ) → Falls i (extended i times)
 falls_extended i times =

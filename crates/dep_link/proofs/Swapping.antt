@@ -41,7 +41,9 @@ use Rattle.dep_link.specs.Answering.{answering, answering_air}
 use Rattle.dep_link.specs.Peers.{IsAskedFrame, IsAsked, IsShort, Hearing, IsHearing, heard_with, reached, StepsByTarget, IsPeer}
 use Rattle.dep_link.specs.Asking.{Standing, Waits, Broken, asks, goes_by, noted, stand, due_at, dep_next, AreFrames, MayReply, HasPeer, ExchangeTurns}
 use Rattle.dep_link.proofs.Wire.{is_piece}
+use Rattle.nfc_base.proofs.Chains as chain
 use Rattle.dep_link.proofs.Standing as law
+use Rattle.dep_link.proofs.Standing.{dep_ends}
 use Rattle.dep_link.proofs.Landing.{speaks_at, hands_at}
 use Rattle.dep_link.proofs.Handed.{keeps, asking_first, back_more}
 use Rattle.dep_link.proofs.Unbegun.{never_begins}
@@ -91,10 +93,10 @@ time_asked : (c : Core) (times : ℕ) (f : Signal) → f ≡ air_frame (request 
 time_asked c times f e bytes z p q = record { value = request c; asked = rw z (p, q); bytes = bytes; frame = e }
 
 module _ (m k : ℕ) (out : List ℕ) where
-  held_number : (c : Core) (t : TargetState) (g : Option (List ℕ)) (n bads : ℕ) → law.Held m k out c t g n bads → (c.number < 4) × (c.most ≤ 251)
-  held_number c t g n bads (law.of_chain h l) = (h.number, h.bounds.fits)
-  held_number c t g n bads (law.of_reply bytes h l) = (h.number, h.bounds.fits)
-  held_number c t g n bads (law.of_time z h l) = (h.number, h.bounds.fits)
+  held_number : (c : Core) (t : TargetState) (g : Option (List ℕ)) (n bads : ℕ) → chain.Held dep_ends m k out c t g n bads → (c.number < 4) × (c.most ≤ 251)
+  held_number c t g n bads (chain.of_chain h l) = (h.number, h.bounds.fits)
+  held_number c t g n bads (chain.of_reply bytes h l) = (h.number, h.bounds.fits)
+  held_number c t g n bads (chain.of_time z h l) = (h.number, h.bounds.fits)
 
   request_asked : (i : InitState) (t : TargetState) (g : Option (List ℕ)) (f : Signal) → HasBytes f → f ≡ air_frame (request i.core) → (n : ℕ) → law.Stands m k out i.core i.bads t g n → IsAsked f
   request_asked i t g f bytes e n (law.asking z h b) = plain_asked i.core f e bytes h.plain h.number h.bounds.fits

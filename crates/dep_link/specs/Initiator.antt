@@ -82,7 +82,11 @@ bad i phase =
 -- a piece of the reply was taken, with which it is xs
 abbrev pub received : InitState → Bool → List ℕ → InitMove
 received i true xs = sends i (turned i.core (after i.core.number) [] true xs) Asked 0
-received i false xs = record { state = record i { core = turned i.core (after i.core.number) [] false []; phase = Free; bads = 0 }; does = Gives xs }
+received i false xs =
+    record {
+      state = record i { core = turned i.core (after i.core.number) [] false []; phase = Free; bads = 0 };
+      does = Gives xs;
+    }
 
 abbrev pub acked : InitState → ℕ → InitMove
 acked i pni =
@@ -91,7 +95,8 @@ acked i pni =
     else refuses i
 
 abbrev pub brought : InitState → Bool → List ℕ → InitMove
-brought i more xs = if is_refused limit more xs (i.core.got ++ xs) then refuses i else received i more (i.core.got ++ xs)
+brought i more xs =
+    if is_refused limit more xs (i.core.got ++ xs) then refuses i else received i more (i.core.got ++ xs)
 
 abbrev pub extended : InitState → ℕ → InitMove
 extended i times =

@@ -25,4 +25,5 @@ ActivatedReady = (t : TargetState) (code : ℕ) → IsBusy t → IsReady 0 (acti
 abbrev pub ActivatedHands : Type 0
 ActivatedHands =
     (t : TargetState) (code : ℕ) (qs : List Attempt) → IsBusy t → AllByRecursion (Fits limit) qs
-    → DeliversAll [] (asked_in (nfc_dep 0) next_exchange (activated_link t code) qs) (session (nfc_dep 0) next_exchange (activated_link t code) qs)
+    → DeliversAll [] (asked_in (nfc_dep 0) next_exchange (activated_link t code) qs)
+    (session (nfc_dep 0) next_exchange (activated_link t code) qs)

@@ -50,7 +50,9 @@ use Rattle.isodep_link.specs.Exchange.{iso_dep, blocks_of, blocks_back, reader_d
 use Rattle.isodep_link.specs.CardTags.{IsAskedFrame, IsAskedBlock, TagDoes, IsShort, StepsByCard, IsCardTag}
 use Rattle.isodep_link.specs.Asking.{IsoStanding, Waits, Rests, Broken, asks, goes_by, noted, stand, due_at, iso_next, HasCardTag, IsAfter, CommandTurns, EndsBy}
 use Rattle.isodep_link.proofs.Wire.{is_piece}
+use Rattle.nfc_base.proofs.Chains as chain
 use Rattle.isodep_link.proofs.Standing as law
+use Rattle.isodep_link.proofs.Standing.{iso_ends}
 use Rattle.isodep_link.proofs.Obeyed.{keeps, asking_first}
 use Rattle.isodep_link.proofs.Images.{after_it, Stores, images_grow, commands_grow, given_stays}
 use Rattle.isodep_link.proofs.CardTurns.{Holds, Shows, CardTurn, card_turn, quiet_asked}
@@ -72,10 +74,10 @@ request_asked c f z e bytes p q = record { block = request c; asked = go c.drawi
     go true e = rw (z, e) p
     go false e = rw (z, e) (is_piece c.most c.number c.rest p q)
 
-held_number : (m j : ℕ) (out : List ℕ) (c : Core) (t : CardState) (g : Option (List ℕ)) (n bads : ℕ) → law.Held m j out c t g n bads → (c.number < 2) × (c.most ≤ 253)
-held_number m j out c t g n bads (law.of_chain h l) = (h.number, h.bounds.fits)
-held_number m j out c t g n bads (law.of_answer bytes h l) = (h.number, h.bounds.fits)
-held_number m j out c t g n bads (law.of_time z h l) = (h.number, h.bounds.fits)
+held_number : (m j : ℕ) (out : List ℕ) (c : Core) (t : CardState) (g : Option (List ℕ)) (n bads : ℕ) → chain.Held iso_ends m j out c t g n bads → (c.number < 2) × (c.most ≤ 253)
+held_number m j out c t g n bads (chain.of_chain h l) = (h.number, h.bounds.fits)
+held_number m j out c t g n bads (chain.of_reply bytes h l) = (h.number, h.bounds.fits)
+held_number m j out c t g n bads (chain.of_time z h l) = (h.number, h.bounds.fits)
 
 asked_frame : (m j : ℕ) (out : List ℕ) (i : ReaderState) (t : CardState) (g : Option (List ℕ)) (f : Signal) → HasBytes f → (n : ℕ) → law.Ask m j out i t g f n → IsAskedFrame f
 asked_frame m j out i t g f bytes n (law.asks p e z h b) = request_asked i.core f h.plain e bytes h.number h.bounds.fits

@@ -1,5 +1,5 @@
 -- Each block that a reader sends leaves less to do.
-use Rattle.std.proofs.Common.{◌≡◌, ℕ, ◌<◌, ◌≤◌, ◌==◌, nat_lt, Bool, true, false, not, if◌then◌else◌, List, ◌++◌, length, refl, sym, ◌∙◌, ap, subst, arith, length-append, length-drop}
+use Rattle.std.proofs.Common.{◌≡◌, ℕ, ◌<◌, ◌≤◌, ◌==◌, nat_lt, Bool, true, false, if◌then◌else◌, List, ◌++◌, length, refl, sym, ◌∙◌, ap, subst, arith, length-append, length-drop}
 use Rattle.std.proofs.lemmas.Bool.{ltb-true}
 use Rattle.isodep_link.specs.declared.block.Block.{Block}
 use Rattle.isodep_link.specs.declared.block.Block.TheVariants.{Info, Ack, Nak, Deselect, Extend}
@@ -9,10 +9,10 @@ use Rattle.isodep_link.specs.declared.reader.ReaderStep.TheVariants as steps
 use Rattle.nfc_base.specs.Signal.{Signal}
 use Rattle.nfc_base.specs.declared.event.Heard.{Heard}
 use Rattle.isodep_link.specs.Sizes.{limit}
-use Rattle.nfc_base.specs.Pieces.{may_extend, most_extensions, longest_extension, Core, most_bads, more_follows, is_refused}
+use Rattle.nfc_base.specs.Pieces.{may_extend, most_bads, more_follows, is_refused}
 use Rattle.isodep_link.specs.Reader.{extended, ReaderState, ReaderMove, ReaderTurn, Reception, Hears, Odd, Bad, Asks, Gives, GivesUp, Refuses, ReaderDoes, framed_next, reception, reader_table, refuses, bad, after_bad, received, acked, missed, brought, answered, waited, unasked, in_phase, block_next}
 use Rattle.isodep_link.specs.Falling.{after_nak, left_to_do}
-use Rattle.isodep_link.proofs.Standing.{le_from_not}
+use Rattle.nfc_base.proofs.Chains.{taken_piece, more_than, few_granted}
 
 -- what is left falls by a move that sends a block
 abbrev Falls : ReaderState → ReaderMove → Type 0
@@ -48,35 +48,13 @@ falls_received i false xs p l = λ b e. absurd (cc)
 falls_last : (i : ReaderState) (xs : List ℕ) → Falls i (received i false xs)
 falls_last i xs = λ b e. absurd (cc)
 
-some_of : (xs : List ℕ) → not (nat_lt 0 (length xs)) ≡ false → 0 < length xs
-some_of xs e = go (nat_lt 0 (length xs)) refl e
-  where
-    go : (v : Bool) → nat_lt 0 (length xs) ≡ v → not v ≡ false → 0 < length xs
-    go true d e = ltb-true 0 (length xs) d
-    go false d e = absurd (cc)
-
--- a piece that isn't refused
-not_refused : (more : Bool) (xs all : List ℕ) → is_refused limit more xs all ≡ false → (length all ≤ limit) × (more ≡ true → 0 < length xs)
-not_refused more xs all e = go (nat_lt limit (length all)) refl e
-  where
-    go : (v : Bool) → nat_lt limit (length all) ≡ v → (if v then true else (if more then not (nat_lt 0 (length xs)) else false)) ≡ false → (length all ≤ limit) × (more ≡ true → 0 < length xs)
-    go true d e = absurd (cc)
-    go false d e = (le_from_not limit (length all) d, λ m. some_of xs (sym (ap (λ v. if v then not (nat_lt 0 (length xs)) else false) m) ∙ e))
-
 falls_brought : (i : ReaderState) (more : Bool) (xs : List ℕ) → Falls i (brought i more xs)
 falls_brought i more xs =
-    falls_if i (is_refused limit more xs (i.core.got ++ xs)) _ _ (λ v. falls_refuses i) (λ v. go more (not_refused more xs (i.core.got ++ xs) v))
+    falls_if i (is_refused limit more xs (i.core.got ++ xs)) _ _ (λ v. falls_refuses i) (λ v. go more (taken_piece limit more xs (i.core.got ++ xs) v))
   where
     go : (m : Bool) → (length (i.core.got ++ xs) ≤ limit) × (m ≡ true → 0 < length xs) → Falls i (received i m (i.core.got ++ xs))
     go true n = falls_received i true xs (n.1 refl) n.0
     go false n = falls_last i (i.core.got ++ xs)
-
-more_than : (c : Core) → more_follows c ≡ true → c.most < length c.rest
-more_than c e = go c.drawing e
-  where
-    go : (d : Bool) → (if d then false else nat_lt c.most (length c.rest)) ≡ true → c.most < length c.rest
-    go true e = absurd (cc)
-    go false e = ltb-true c.most (length c.rest) e
 
 falls_acked : (i : ReaderState) → 0 < i.core.most → Falls i (acked i)
 falls_acked i p =
@@ -90,19 +68,6 @@ falls_missed i Nacked e = λ b d. (let n : after_nak i.phase ≡ 1 = ap after_na
 falls_missed i Free e = falls_refuses i
 falls_missed i EndedSixBad e = falls_refuses i
 falls_missed i EndedProtocol e = falls_refuses i
-
--- time is granted at most so often
-few_granted : (c : Core) (times : ℕ) → may_extend c times ≡ true → c.granted < most_extensions
-few_granted c times e = go c.drawing (more_follows c) (nat_lt 0 times) (nat_lt longest_extension times) (nat_lt c.granted most_extensions) refl e
-  where
-    go : (a b d f v : Bool) → nat_lt c.granted most_extensions ≡ v → (if a then false else (if b then false else (if d then (if f then false else v) else false))) ≡ true
-        → c.granted < most_extensions
-    go true b d f v w e = absurd (cc)
-    go false true d f v w e = absurd (cc)
-    go false false false f v w e = absurd (cc)
-    go false false true true v w e = absurd (cc)
-    go false false true false true w e = ltb-true c.granted most_extensions w
-    go false false true false false w e = absurd (cc)
 
 falls_extended : (i : ReaderState) (times : ℕ) → Falls i (extended i times)
 falls_extended i times =

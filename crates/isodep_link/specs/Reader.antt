@@ -77,11 +77,18 @@ bad i =
 -- a piece of the answer was taken, with which it is xs
 abbrev pub received : ReaderState → Bool → List ℕ → ReaderMove
 received i true xs = sends (turned i.core (toggled i.core.number) [] true xs) Asked 0
-received i false xs = record { state = record { core = turned i.core (toggled i.core.number) [] false []; phase = Free; bads = 0 }; does = Gives xs }
+received i false xs =
+    record {
+      state = record { core = turned i.core (toggled i.core.number) [] false []; phase = Free; bads = 0 };
+      does = Gives xs;
+    }
 
 -- R(ACK) with the reader's number
 abbrev pub acked : ReaderState → ReaderMove
-acked i = if more_follows i.core then sends (turned i.core (toggled i.core.number) (drop i.core.most i.core.rest) false i.core.got) Asked 0 else refuses i
+acked i =
+    if more_follows i.core
+    then sends (turned i.core (toggled i.core.number) (drop i.core.most i.core.rest) false i.core.got) Asked 0
+    else refuses i
 
 -- R(ACK) with the other number: the card didn't hear the last I-block
 abbrev pub missed : ReaderState → Phase → ReaderMove
@@ -89,7 +96,8 @@ missed i Nacked = sends (record i.core { extension = None }) Asked i.bads
 missed i _ = refuses i
 
 abbrev pub brought : ReaderState → Bool → List ℕ → ReaderMove
-brought i more xs = if is_refused limit more xs (i.core.got ++ xs) then refuses i else received i more (i.core.got ++ xs)
+brought i more xs =
+    if is_refused limit more xs (i.core.got ++ xs) then refuses i else received i more (i.core.got ++ xs)
 
 abbrev pub extended : ReaderState → ℕ → ReaderMove
 extended i times =

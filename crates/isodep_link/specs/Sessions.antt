@@ -19,4 +19,5 @@ ActivatedReady = (t : CardState) (reader_code : ℕ) → IsMade t → IsReady (a
 abbrev pub ActivatedObeys : Type 0
 ActivatedObeys =
     (t : CardState) (reader_code : ℕ) (qs : List Attempt) → IsMade t → AllByRecursion (Fits limit) qs
-    → DeliversAll [] (asked_in iso_dep next_exchange (activated_link t reader_code) qs) (session iso_dep next_exchange (activated_link t reader_code) qs)
+    → DeliversAll [] (asked_in iso_dep next_exchange (activated_link t reader_code) qs)
+    (session iso_dep next_exchange (activated_link t reader_code) qs)

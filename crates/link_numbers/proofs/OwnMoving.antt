@@ -152,10 +152,12 @@ module _ (i : InitState) where
   module _ (more : more_follows i.core ≡ true) where
     acked_so : (pni : ℕ) → stands (acked i pni) ≡ made i (if pni == i.core.number then Onward else Fails Protocol)
     acked_so pni =
-        ap (λ (t : Bool). stands (if (if t then pni == i.core.number else false) then sends i (turned i.core (after i.core.number) (drop i.core.most i.core.rest) false i.core.got) Asked 0 else refuses i)) more
+        ap (λ (t : Bool). stands (if (if t then pni == i.core.number else false)
+        then sends i (turned i.core (after i.core.number) (drop i.core.most i.core.rest) false i.core.got) Asked 0 else refuses i)) more
         ∙ go (pni == i.core.number)
       where
-        go : (t : Bool) → stands (if t then sends i (turned i.core (after i.core.number) (drop i.core.most i.core.rest) false i.core.got) Asked 0 else refuses i) ≡ made i (if t then Onward else Fails Protocol)
+        go : (t : Bool) → stands (if t then sends i (turned i.core (after i.core.number) (drop i.core.most i.core.rest) false i.core.got) Asked 0 else refuses i)
+            ≡ made i (if t then Onward else Fails Protocol)
         go true = refl
         go false = refl
 
@@ -252,7 +254,8 @@ module _ (i : InitState) (none : more_follows i.core ≡ false) (times : InTimes
   acked_goes : (pni : ℕ) → Goes (acked i pni)
   acked_goes pni = go (more_follows i.core) none
     where
-      go : (t : Bool) → t ≡ false → Goes (if (if t then pni == i.core.number else false) then sends i (turned i.core (after i.core.number) (drop i.core.most i.core.rest) false i.core.got) Asked 0 else refuses i)
+      go : (t : Bool) → t ≡ false
+          → Goes (if (if t then pni == i.core.number else false) then sends i (turned i.core (after i.core.number) (drop i.core.most i.core.rest) false i.core.got) Asked 0 else refuses i)
       go true e = absurd (cc)
       go false e = refuses_goes
 

@@ -5,4 +5,5 @@ pub mod Leading
 pub mod ExactlyOnce
 pub mod LinkTurns
 pub mod Sessions
+pub mod Chains
 pub mod Locking

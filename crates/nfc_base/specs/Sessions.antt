@@ -1,5 +1,5 @@
--- Exchanges one after another on one link that stops and waits, each over an air of its own (this project's own air), and
--- the law of them.
+-- Exchanges one after another on one link that stops and waits, each over an air of its own (this project's own air),
+-- and the law of them.
 use Rattle.std.specs.Prelude.{◌≡◌, ◌⊎◌, ℕ, ◌≤◌, Bool, false, if◌then◌else◌, List, [], ◌∷◌, ◌++◌, length, Option, Some, None}
 use Rattle.std.specs.List.{AllByRecursion}
 use Rattle.std.specs.Option.{is_some, option_to_list}
@@ -9,12 +9,30 @@ use Rattle.nfc_base.specs.declared.event.Fate.{Fate}
 -- an exchange begins with this frame, behind those in which these payloads were delivered and these frames arrived
 abbrev pub opening : {I T F : Type 0} → I → T → List (List ℕ) → List F → F → World I T F
 opening i t delivered arrived f =
-    record { asking = i; answering = t; stage = Requests f; given = None; delivered = delivered; arrived = arrived; sent = 0; bads = 0 }
+    record {
+      asking = i;
+      answering = t;
+      stage = Requests f;
+      given = None;
+      delivered = delivered;
+      arrived = arrived;
+      sent = 0;
+      bads = 0;
+    }
 
 -- a link on which nothing was asked yet
 abbrev pub unasked : {I T F : Type 0} → I → T → World I T F
 unasked i t =
-    record { asking = i; answering = t; stage = Over (Finished []); given = None; delivered = []; arrived = []; sent = 0; bads = 0 }
+    record {
+      asking = i;
+      answering = t;
+      stage = Over (Finished []);
+      given = None;
+      delivered = [];
+      arrived = [];
+      sent = 0;
+      bads = 0;
+    }
 
 -- a payload, how the owner of the answering end replies then, and what becomes of the transmissions
 pub record Attempt : Type 0 where
@@ -39,10 +57,11 @@ ended_with Dark = None
 abbrev pub is_replied : {F : Type 0} → Stage F → Bool
 is_replied s = is_some (ended_with s)
 
--- All that was asked was delivered, each payload once and in order; or all but the last, and that one wasn't replied to.
+-- All that was asked was delivered, each payload once and in order; or all but the last, which wasn't replied to.
 abbrev pub DeliversAll : {I T F : Type 0} → List (List ℕ) → List (List ℕ) → World I T F → Type 0
 DeliversAll before asked w =
-    (w.delivered ≡ before ++ asked) ⊎ ((last : List ℕ) × (w.delivered ++ last ∷ [] ≡ before ++ asked) × (is_replied w.stage ≡ false))
+    (w.delivered ≡ before ++ asked)
+    ⊎ ((last : List ℕ) × (w.delivered ++ last ∷ [] ≡ before ++ asked) × (is_replied w.stage ≡ false))
 
 -- The exchange of a payload begins, from where the one before it ended, by the function begins.
 module _ {I T F : Type 0} (L : StopAndWait I T F) (begins : World I T F → List ℕ → World I T F) where
@@ -63,11 +82,13 @@ module _ {I T F : Type 0} (L : StopAndWait I T F) (begins : World I T F → List
   abbrev pub replies_in : World I T F → List Attempt → List (List ℕ)
   replies_in w [] = []
   replies_in w (q ∷ qs) =
-      option_to_list (ended_with (exchanged w q).stage) ++ (if is_replied (exchanged w q).stage then replies_in (exchanged w q) qs else [])
+      option_to_list (ended_with (exchanged w q).stage)
+      ++ (if is_replied (exchanged w q).stage then replies_in (exchanged w q) qs else [])
 
   abbrev pub replies_due : World I T F → List Attempt → List (List ℕ)
   replies_due w [] = []
-  replies_due w (q ∷ qs) = if is_replied (exchanged w q).stage then q.far q.payload ∷ replies_due (exchanged w q) qs else []
+  replies_due w (q ∷ qs) =
+      if is_replied (exchanged w q).stage then q.far q.payload ∷ replies_due (exchanged w q) qs else []
 
   -- what holds of each session of payloads and replies of at most so many bytes, from where an exchange may begin
   abbrev pub EachSession : (Ready : World I T F → Type 0) (limit : ℕ) (P : World I T F → List Attempt → Type 0) → Type 0
@@ -79,7 +100,8 @@ module _ {I T F : Type 0} (L : StopAndWait I T F) (begins : World I T F → List
 
   -- And that is what the frames that arrived bring.
   abbrev pub SessionBrings : (Ready : World I T F → Type 0) (limit : ℕ) → Type 0
-  SessionBrings Ready limit = EachSession Ready limit (λ w qs. L.payloads (session w qs).arrived ≡ (session w qs).delivered)
+  SessionBrings Ready limit =
+      EachSession Ready limit (λ w qs. L.payloads (session w qs).arrived ≡ (session w qs).delivered)
 
   -- The replies are those of the owner to these payloads, in order.
   abbrev pub SessionReplies : (Ready : World I T F → Type 0) (limit : ℕ) → Type 0
