@@ -18,7 +18,7 @@ use Rattle.air_core.proofs.PlainTurns.{noise_append}
 use Rattle.air_core.proofs.LostField.{breaks-append}
 use Rattle.isodep_link.specs.declared.reader.Phase.TheVariants as phases
 use Rattle.isodep_link.proofs.Landing.{speaks_at, is_extension}
-use Rattle.isodep_link.proofs.Ended.{whole_not_six}
+use Rattle.isodep_link.proofs.Moves.{whole_not_six}
 use Rattle.nfc_base.specs.declared.tag_link.AskFault.TheVariants.{FieldLost}
 use Rattle.nfc_base.specs.declared.tag_link.AskFault.TheVariants as ask
 use Rattle.air_core.specs.declared.fault.AirFault.TheVariants as air

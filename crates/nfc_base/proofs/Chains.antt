@@ -57,7 +57,7 @@ taken_piece limit more xs all e = go (nat_lt limit (length all)) refl e
     go true d e = absurd (cc)
     go false d e = (le_from_not limit (length all) d, λ m. some_of xs (sym (ap (λ v. if v then not (nat_lt 0 (length xs)) else false) m) ∙ e))
 
-pub more_than : (c : Core) → more_follows c ≡ true → c.most < length c.rest
+more_than : (c : Core) → more_follows c ≡ true → c.most < length c.rest
 more_than c e = go c.drawing e
   where
     go : (d : Bool) → (if d then false else nat_lt c.most (length c.rest)) ≡ true → c.most < length c.rest
@@ -65,7 +65,7 @@ more_than c e = go c.drawing e
     go false e = ltb-true c.most (length c.rest) e
 
 -- time is granted at most so often
-pub few_granted : (c : Core) (times : ℕ) → may_extend c times ≡ true → c.granted < most_extensions
+few_granted : (c : Core) (times : ℕ) → may_extend c times ≡ true → c.granted < most_extensions
 few_granted c times e = go c.drawing (more_follows c) (nat_lt 0 times) (nat_lt longest_extension times) (nat_lt c.granted most_extensions) refl e
   where
     go : (a b d f v : Bool) → nat_lt c.granted most_extensions ≡ v → (if a then false else (if b then false else (if d then (if f then false else v) else false))) ≡ true
@@ -76,6 +76,27 @@ few_granted c times e = go c.drawing (more_follows c) (nat_lt 0 times) (nat_lt l
     go false false true true v w e = absurd (cc)
     go false false true false true w e = ltb-true c.granted most_extensions w
     go false false true false false w e = absurd (cc)
+
+-- How much is left to do: a wait that ends takes a byte off what is to be sent or is missing of the reply, a time extension and a bad
+-- reception count in their wait, and what asks for an answer again is followed by its request once.
+abbrev pub left_in : (limit : ℕ) → Core → (bads again : ℕ) → ℕ
+left_in limit c bads again = 28 * (length c.rest + (limit - length c.got)) + (most_extensions - c.granted) + 2 * (most_bads - bads) + again
+
+-- it falls by a piece of the reply, by one of the payload that is acknowledged, by time that is granted, and by a bad reception
+pub falls_received : (limit : ℕ) (c : Core) (n bads again : ℕ) (xs : List ℕ) → 0 < length xs → length (c.got ++ xs) ≤ limit
+    → left_in limit (turned c n [] true (c.got ++ xs)) 0 0 < left_in limit c bads again
+falls_received limit c n bads again xs p l = (let a = length-append c.got xs in omega (arith, a, p, l))
+
+pub falls_acked : (limit : ℕ) (c : Core) (n bads again : ℕ) → more_follows c ≡ true → 0 < c.most
+    → left_in limit (turned c n (drop c.most c.rest) false c.got) 0 0 < left_in limit c bads again
+falls_acked limit c n bads again v p = (let l = more_than c v in let d = length-drop c.most c.rest in omega (arith, l, d, p))
+
+pub falls_extended : (limit : ℕ) (c : Core) (times bads again : ℕ) → may_extend c times ≡ true
+    → left_in limit (record c { extension = Some times; granted = c.granted + 1 }) bads 0 < left_in limit c bads again
+falls_extended limit c times bads again v = (let l = few_granted c times v in omega (arith, l))
+
+pub falls_bad : (limit : ℕ) (c : Core) (bads again after : ℕ) → nat_lt bads most_bads ≡ true → after ≤ 1 → left_in limit c (bads + 1) after < left_in limit c bads again
+falls_bad limit c bads again after v o = (let l = ltb-true bads most_bads v in omega (arith, l, o))
 
 -- What is seen of an answering end, whose frames are of the type B: whether it is mute, the most content that it sends, how often it asks
 -- for more time and by which value, how often that is still due, the chain so far, what is left of its reply, and its last answer.
