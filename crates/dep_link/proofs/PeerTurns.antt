@@ -1,6 +1,5 @@
 -- One turn with a peer that is alone in its field is a turn of the two tables, in which the far end does what the target asks of it.
 use Rattle.std.proofs.Common.{◌≡◌, ◌⊎◌, inl, inr, arith, ℕ, List, [], ◌∷◌, ◌++◌, Bool, true, false, if◌then◌else◌, Option, Some, None, refl, sym, ◌∙◌, ap, subst}
-use Rattle.std.specs.Prelude.{map}
 use Rattle.std.specs.List.{AllByRecursion, filter_map, cons_option}
 use Rattle.nfc_base.specs.declared.frame.Tech.TheVariants.{A}
 use Rattle.nfc_base.specs.declared.event.Event.{Event}
@@ -11,7 +10,7 @@ use Rattle.nfc_base.specs.declared.event.Heard.TheVariants as heards
 use Rattle.nfc_base.specs.Trace.{noise}
 use Rattle.nfc_base.specs.Signal.{Signal, whole_a}
 use Rattle.nfc_base.specs.Far.{FarUse, Untouched, Restarts}
-use Rattle.nfc_base.specs.LinkTurns.{heard_in, MovedBy, settled, step, answered, turned, IsTurn}
+use Rattle.nfc_base.specs.LinkTurns.{MovedBy, settled, step, turned, IsTurn}
 use Rattle.air_core.specs.Joint.{joint, same_tech}
 use Rattle.air_core.specs.World.{World, hears, hands_over, answered_by, stepped_by, quiet_air}
 use Rattle.air_core.specs.Conversation.{replay, turn_events, first_fate, later_fates}
@@ -19,11 +18,12 @@ use Rattle.air_core.specs.Turn.{Air, world, TurnIs}
 use Rattle.air_core.specs.Quiet.{EachQuiet, QuietTurn}
 use Rattle.air_core.specs.PlainTags.{IsAside, IsAlone}
 use Rattle.air_core.specs.declared.listener.Listener.{Ghosts}
-use Rattle.air_core.proofs.PlainAside.{Laws, IsUnmoved, aside_silent, alone_dark, alone_says, alone_steps}
+use Rattle.air_core.proofs.PlainAside.{Laws, IsUnmoved, aside_silent, alone_says}
 use Rattle.air_core.proofs.PlainTurns.{one, joint_one, tag_events, tag_heard, calm_events, turn_events_as, heard_as}
+use Rattle.air_core.proofs.TurnSteps.{left_of, alone_left, same_events, same_heard, answered_asked, same_end}
 use Rattle.dep_link.specs.declared.target.TargetStep.{TargetStep}
 use Rattle.dep_link.specs.declared.target.TargetStep.TheVariants as steps
-use Rattle.dep_link.specs.Target.{TargetState, target_table, darkened}
+use Rattle.dep_link.specs.Target.{TargetState, target_table}
 use Rattle.dep_link.specs.Exchange.{nfc_dep, target_does}
 use Rattle.dep_link.specs.Answering.{reply_for, payload_of, answering}
 use Rattle.dep_link.specs.Peers.{target_use, answered_with, left_with, IsAsked, IsShort, heard_with, StepsByTarget, IsPeer}
@@ -71,18 +71,8 @@ module _ {L : Type 0} (k : Ghosts L) (laws : Laws k) (r : List ℕ) where
       record { before = a.before; behind = a.behind; split = a.split; stands = a.stands; first = aside_back own a.before a.first; later = aside_back own a.behind a.later }
 
   -- what the listener is after a turn
-  abbrev pub back_left : L → Fate → L
-  back_left l Pass = l
-  back_left l Damage = l
-  back_left l Lose = l
-  back_left l Break = k.machine.darkened l
-
   abbrev pub left_by : L → Signal → Fate → Fate → Option Signal → L
-  left_by l f Pass y None = heard_with k l f r
-  left_by l f Pass y (Some g) = back_left (heard_with k l f r) y
-  left_by l f Damage y o = l
-  left_by l f Lose y o = l
-  left_by l f Break y o = k.machine.darkened l
+  left_by l f x y o = left_of k l (heard_with k l f r) x y o
 
   -- which listener is left where something was heard, and whether the field is lit
   abbrev pub IsLeft : L → Signal → Bool → Option Heard → L → Type 0
@@ -102,45 +92,8 @@ module _ {L : Type 0} (k : Ghosts L) (laws : Laws k) (r : List ℕ) where
 
   module _ (own : List ℕ) (f : Signal) (all : (l : L) → IsAside told own l → IsUnmoved told told_laws own f l) (w : World L) (place : ℕ) (l : L) (a : IsAlone told own w.listeners place l)
       (e : stepped_by told.machine l f None ≡ heard_with k l f r) where
-    stepped_alone : IsAlone told own (map (λ x. stepped_by told.machine x f None) w.listeners) place (heard_with k l f r)
-    stepped_alone = let P : L → Type 0 = IsAlone told own (map (λ x. stepped_by told.machine x f None) w.listeners) place in subst P e (alone_steps told told_laws own f all w.listeners place l a)
-
     pub alone_after : (x y : Fate) (o : Option Signal) → IsAlone told own (replay (quiet_air told.machine) w (tag_events f x y o)).listeners place (left_by l f x y o)
-    alone_after Pass y None = stepped_alone
-    alone_after Pass Pass (Some g) = stepped_alone
-    alone_after Pass Damage (Some g) = stepped_alone
-    alone_after Pass Lose (Some g) = stepped_alone
-    alone_after Pass Break (Some g) = alone_dark told told_laws own (map (λ x. stepped_by told.machine x f None) w.listeners) place (heard_with k l f r) stepped_alone
-    alone_after Damage y o = a
-    alone_after Lose y o = a
-    alone_after Break y o = alone_dark told told_laws own w.listeners place l a
-
--- a turn of the two tables has the same events, and the same is heard of it
-answered_events : (first : ℕ) (t : TargetState) (asked : Option (List ℕ)) (f : Signal) (q : Option Signal) (y : Fate) → (answered (nfc_dep first) t asked f q y).events ≡ tag_events f Pass y q
-answered_events first t asked f None y = refl
-answered_events first t asked f (Some a) Pass = refl
-answered_events first t asked f (Some a) Damage = refl
-answered_events first t asked f (Some a) Lose = refl
-answered_events first t asked f (Some a) Break = refl
-
-pub same_events : (first : ℕ) (r : List ℕ) (t : TargetState) (f : Signal) (x y : Fate) → (turned (nfc_dep first) r t f x y).events ≡ tag_events f x y (step (nfc_dep first) r t f).answer
-same_events first r t f Pass y = answered_events first (step (nfc_dep first) r t f).state (step (nfc_dep first) r t f).asked f (step (nfc_dep first) r t f).answer y
-same_events first r t f Damage y = refl
-same_events first r t f Lose y = refl
-same_events first r t f Break y = refl
-
-answered_heard : (first : ℕ) (t : TargetState) (asked : Option (List ℕ)) (f : Signal) (q : Option Signal) (y : Fate) → heard_in (answered (nfc_dep first) t asked f q y).heard ≡ tag_heard Pass y q
-answered_heard first t asked f None y = refl
-answered_heard first t asked f (Some a) Pass = refl
-answered_heard first t asked f (Some a) Damage = refl
-answered_heard first t asked f (Some a) Lose = refl
-answered_heard first t asked f (Some a) Break = refl
-
-pub same_heard : (first : ℕ) (r : List ℕ) (t : TargetState) (f : Signal) (x y : Fate) → heard_in (turned (nfc_dep first) r t f x y).heard ≡ tag_heard x y (step (nfc_dep first) r t f).answer
-same_heard first r t f Pass y = answered_heard first (step (nfc_dep first) r t f).state (step (nfc_dep first) r t f).asked f (step (nfc_dep first) r t f).answer y
-same_heard first r t f Damage y = refl
-same_heard first r t f Lose y = refl
-same_heard first r t f Break y = refl
+    alone_after x y o = alone_left told told_laws own f all w place l (heard_with k l f r) a e x y o
 
 -- a step of the table is that of the listener
 settled_answer : (first : ℕ) (r : List ℕ) (t : TargetState) (d : TargetStep) → (settled (nfc_dep first) r t (target_does d)).answer ≡ answered_with t r d
@@ -168,40 +121,15 @@ settled_asks first r t (steps.Deliver payload) = refl
 settled_asks first r t (steps.Asleep f) = refl
 settled_asks first r t (steps.Released f) = refl
 
-answered_asked : (first : ℕ) (t : TargetState) (asked : Option (List ℕ)) (f : Signal) (q : Option Signal) (y : Fate) → (answered (nfc_dep first) t asked f q y).asked ≡ asked
-answered_asked first t asked f None y = refl
-answered_asked first t asked f (Some a) Pass = refl
-answered_asked first t asked f (Some a) Damage = refl
-answered_asked first t asked f (Some a) Lose = refl
-answered_asked first t asked f (Some a) Break = refl
-
 pub same_asked : (first : ℕ) (r : List ℕ) (t : TargetState) (f : Signal) (x y : Fate) → (turned (nfc_dep first) r t f x y).asked ≡ handed_by x (target_use (target_table t f).does)
 same_asked first r t f Pass y =
-    answered_asked first (step (nfc_dep first) r t f).state (step (nfc_dep first) r t f).asked f (step (nfc_dep first) r t f).answer y
+    answered_asked (nfc_dep first) (step (nfc_dep first) r t f).state (step (nfc_dep first) r t f).asked f (step (nfc_dep first) r t f).answer y
     ∙ settled_asks first r (target_table t f).state (target_table t f).does
 same_asked first r t f Damage y = refl
 same_asked first r t f Lose y = refl
 same_asked first r t f Break y = refl
 
 module _ {L : Type 0} (k : Ghosts L) (laws : Laws k) (target : L → TargetState) where
-  -- the target's end is what that turn leaves
-  answered_target : (first : ℕ) (r : List ℕ) (l : L) (f : Signal) (t : TargetState) (asked : Option (List ℕ)) (q : Option Signal) (y : Fate)
-      → target (heard_with k l f r) ≡ t → target (k.machine.darkened (heard_with k l f r)) ≡ darkened (target (heard_with k l f r))
-      → target (left_by k laws r l f Pass y q) ≡ (answered (nfc_dep first) t asked f q y).answering
-  answered_target first r l f t asked None y e d = e
-  answered_target first r l f t asked (Some a) Pass e d = e
-  answered_target first r l f t asked (Some a) Damage e d = e
-  answered_target first r l f t asked (Some a) Lose e d = e
-  answered_target first r l f t asked (Some a) Break e d = d ∙ ap darkened e
-
-  same_target : (first : ℕ) (l : L) (f : Signal) (r : List ℕ) (x y : Fate)
-      → target (heard_with k l f r) ≡ (step (nfc_dep first) r (target l) f).state → target (k.machine.darkened (heard_with k l f r)) ≡ darkened (target (heard_with k l f r))
-      → target (k.machine.darkened l) ≡ darkened (target l) → target (left_by k laws r l f x y (step (nfc_dep first) r (target l) f).answer) ≡ (turned (nfc_dep first) r (target l) f x y).answering
-  same_target first l f r Pass y e d c = answered_target first r l f (step (nfc_dep first) r (target l) f).state (step (nfc_dep first) r (target l) f).asked (step (nfc_dep first) r (target l) f).answer y e d
-  same_target first l f r Damage y e d c = refl
-  same_target first l f r Lose y e d c = refl
-  same_target first l f r Break y e d c = c
-
   -- A turn with this listener, which is alone, as a turn of the two tables and of the air of its reply.
   pub record PeerTurn {F : Type 0} (steps : F → List ℕ → List ℕ → F → Type 0) (first : ℕ) (old new : Air L) (place : ℕ) (l : L) (f : Signal) (h : Option Heard) (far far' : F) : Type 0 where
     pub reply : List ℕ
@@ -219,7 +147,7 @@ module _ {L : Type 0} (k : Ghosts L) (laws : Laws k) (target : L → TargetState
 
   calm_is : (first : ℕ) (r : List ℕ) (t : TargetState) (f : Signal) (x y : Fate) (h : Option Heard) → h ≡ tag_heard x y (step (nfc_dep first) r t f).answer
       → noise (turned (nfc_dep first) r t f x y).events ≡ 0 → ((step (nfc_dep first) r t f).answer ≡ None) ⊎ ((g : Signal) × (h ≡ Some (heards.Whole g)))
-  calm_is first r t f x y h e n = go (calm_events f x y (step (nfc_dep first) r t f).answer (sym (ap noise (same_events first r t f x y)) ∙ n))
+  calm_is first r t f x y h e n = go (calm_events f x y (step (nfc_dep first) r t f).answer (sym (ap noise (same_events (nfc_dep first) r t f x y)) ∙ n))
     where
       go : ((step (nfc_dep first) r t f).answer ≡ None) ⊎ ((g : Signal) × (tag_heard x y (step (nfc_dep first) r t f).answer ≡ Some (heards.Whole g)))
           → ((step (nfc_dep first) r t f).answer ≡ None) ⊎ ((g : Signal) × (h ≡ Some (heards.Whole g)))
@@ -277,9 +205,10 @@ module _ {L : Type 0} (k : Ghosts L) (laws : Laws k) (target : L → TargetState
             first = x;
             second = y;
             fits = t.short;
-            answering = same_target first l f r x y (s.target_is ∙ sym (settled_state first r (target_table (target l) f).state (target_table (target l) f).does)) (subst (λ (z : L). target (k.machine.darkened z) ≡ darkened (target z)) refl (c.cleared (record { frame = f; reply = r } ∷ []) (record { asked = a; short = t.short }, tt))) (c.cleared [] tt);
-            heard_is = says_so ∙ sym (same_heard first r (target l) f x y);
-            events = t.quiet.trace ∙ ap (λ (es : List Event). old.trace ++ es) (events ∙ sym (same_events first r (target l) f x y));
+            answering = same_end (nfc_dep first) k target l (heard_with k l f r) (c.cleared (record { frame = f; reply = r } ∷ []) (record { asked = a; short = t.short }, tt)) r f x y
+                (s.target_is ∙ sym (settled_state first r (target_table (target l) f).state (target_table (target l) f).does)) (c.cleared [] tt);
+            heard_is = says_so ∙ sym (same_heard (nfc_dep first) r (target l) f x y);
+            events = t.quiet.trace ∙ ap (λ (es : List Event). old.trace ++ es) (events ∙ sym (same_events (nfc_dep first) r (target l) f x y));
             moved = subst (λ (p : Option (List ℕ)). MovedBy steps far p r far') (sym (same_asked first r (target l) f x y ∙ ap (handed_by x) (sym uses)))
                 (moved_by restarts steps x (hands_over k.machine l f) far far' r (λ general e. never general (sym uses ∙ e)) t.moved);
           };

@@ -12,7 +12,7 @@ use Rattle.nfc_base.specs.Trace.{noise}
 use Rattle.nfc_base.specs.Signal.{Signal, whole_a}
 use Rattle.nfc_base.specs.Far.{Untouched}
 use Rattle.nfc_base.specs.TagLinks.{TagState}
-use Rattle.nfc_base.specs.LinkTurns.{heard_in, MovedBy, Step, step, answered, turned, IsTurn}
+use Rattle.nfc_base.specs.LinkTurns.{MovedBy, Step, step, turned, IsTurn}
 use Rattle.air_core.specs.Joint.{joint, same_tech}
 use Rattle.air_core.specs.World.{World, hears, answered_by, stepped_by, quiet_air}
 use Rattle.air_core.specs.Conversation.{replay, turn_events, first_fate, later_fates}
@@ -22,9 +22,10 @@ use Rattle.air_core.specs.PlainTags.{IsAside, IsAlone}
 use Rattle.air_core.specs.PlainLinks.{at_place, stores_after}
 use Rattle.air_core.proofs.PlainStores.{place_is}
 use Rattle.air_core.specs.declared.listener.Listener.{Ghosts}
-use Rattle.air_core.proofs.PlainAside.{Laws, IsUnmoved, aside_silent, alone_dark, alone_quiet, alone_says, alone_steps}
+use Rattle.air_core.proofs.PlainAside.{Laws, IsUnmoved, aside_silent, alone_dark, alone_quiet, alone_says}
 use Rattle.air_core.proofs.PlainTurns.{one, joint_one, tag_events, tag_heard, calm_events, turn_events_as, heard_as}
-use Rattle.isodep_link.specs.Card.{CardState, darkened}
+use Rattle.air_core.proofs.TurnSteps.{left_of, stepped_alone, alone_left, same_events, same_heard, answered_asked, same_end}
+use Rattle.isodep_link.specs.Card.{CardState}
 use Rattle.isodep_link.specs.Exchange.{iso_dep}
 use Rattle.isodep_link.specs.CardTags.{IsAskedFrame, TagDoes, IsShort, StepsByCard, IsCardTag}
 
@@ -39,18 +40,8 @@ Shows z (x ∷ xs) = (x ≡ z) × AllByRecursion (λ s. s ≡ z) xs
 
 module _ {L : Type 0} (k : Ghosts L) (laws : Laws k) (card : L → CardState) (tag : L → TagState) (holds : Holds k tag) where
   -- what the listener is after a turn
-  abbrev pub back_left : L → Fate → L
-  back_left l Pass = l
-  back_left l Damage = l
-  back_left l Lose = l
-  back_left l Break = k.machine.darkened l
-
   abbrev pub left_by : L → Signal → Fate → Fate → Option Signal → L
-  left_by l f Pass y None = k.machine.after l f None
-  left_by l f Pass y (Some g) = back_left (k.machine.after l f None) y
-  left_by l f Damage y o = l
-  left_by l f Lose y o = l
-  left_by l f Break y o = k.machine.darkened l
+  left_by l f x y o = left_of k l (k.machine.after l f None) x y o
 
   -- the listener that met the frame, before the dark
   abbrev met_by : L → Signal → Fate → L
@@ -68,18 +59,11 @@ module _ {L : Type 0} (k : Ghosts L) (laws : Laws k) (card : L → CardState) (t
 
   module _ (own : List ℕ) (f : Signal) (all : (l : L) → IsAside k own l → IsUnmoved k laws own f l) (w : World L) (place : ℕ) (l : L) (a : IsAlone k own w.listeners place l)
       (e : stepped_by k.machine l f None ≡ k.machine.after l f None) where
-    stepped_alone : IsAlone k own (map (λ x. stepped_by k.machine x f None) w.listeners) place (k.machine.after l f None)
-    stepped_alone = let P : L → Type 0 = IsAlone k own (map (λ x. stepped_by k.machine x f None) w.listeners) place in subst P e (alone_steps k laws own f all w.listeners place l a)
+    stepped : IsAlone k own (map (λ x. stepped_by k.machine x f None) w.listeners) place (k.machine.after l f None)
+    stepped = stepped_alone k laws own f all w place l (k.machine.after l f None) a e
 
     pub alone_after : (x y : Fate) (o : Option Signal) → IsAlone k own (replay (quiet_air k.machine) w (tag_events f x y o)).listeners place (left_by l f x y o)
-    alone_after Pass y None = stepped_alone
-    alone_after Pass Pass (Some g) = stepped_alone
-    alone_after Pass Damage (Some g) = stepped_alone
-    alone_after Pass Lose (Some g) = stepped_alone
-    alone_after Pass Break (Some g) = alone_dark k laws own (map (λ x. stepped_by k.machine x f None) w.listeners) place (k.machine.after l f None) stepped_alone
-    alone_after Damage y o = a
-    alone_after Lose y o = a
-    alone_after Break y o = alone_dark k laws own w.listeners place l a
+    alone_after x y o = alone_left k laws own f all w place l (k.machine.after l f None) a e x y o
 
     -- after each event of a turn the tag holds the same store
     module _ (z : List ℕ) where
@@ -93,11 +77,11 @@ module _ {L : Type 0} (k : Ghosts L) (laws : Laws k) (card : L → CardState) (t
       stepped_on = map (λ x. stepped_by k.machine x f None) w.listeners
 
       steps : k.store (k.machine.after l f None) ≡ z → at_place k.store [] stepped_on place ≡ z
-      steps q = place_is k k.store [] own stepped_on place (k.machine.after l f None) stepped_alone ∙ q
+      steps q = place_is k k.store [] own stepped_on place (k.machine.after l f None) stepped ∙ q
 
       steps_dim : k.store (k.machine.after l f None) ≡ z → at_place k.store [] (map k.machine.darkened stepped_on) place ≡ z
       steps_dim q =
-          place_is k k.store [] own (map k.machine.darkened stepped_on) place (k.machine.darkened (k.machine.after l f None)) (alone_dark k laws own stepped_on place (k.machine.after l f None) stepped_alone)
+          place_is k k.store [] own (map k.machine.darkened stepped_on) place (k.machine.darkened (k.machine.after l f None)) (alone_dark k laws own stepped_on place (k.machine.after l f None) stepped)
           ∙ (laws.dark_keeps (k.machine.after l f None)).1 ∙ q
 
       shows_store : (x y : Fate) (o : Option Signal) → k.store (met_by l f x) ≡ z → Shows z (stores_after k place w (tag_events f x y o))
@@ -110,63 +94,11 @@ module _ {L : Type 0} (k : Ghosts L) (laws : Laws k) (card : L → CardState) (t
       shows_store Pass Lose (Some g) q = (steps q, (steps q, tt))
       shows_store Pass Break (Some g) q = (steps q, (steps_dim q, tt))
 
-  -- a turn of the two tables has the same events, and the same is heard of it
-  answered_events : (t : CardState) (asked : Option (List ℕ)) (f : Signal) (q : Option Signal) (y : Fate) → (answered iso_dep t asked f q y).events ≡ tag_events f Pass y q
-  answered_events t asked f None y = refl
-  answered_events t asked f (Some a) Pass = refl
-  answered_events t asked f (Some a) Damage = refl
-  answered_events t asked f (Some a) Lose = refl
-  answered_events t asked f (Some a) Break = refl
-
-  same_events : (r : List ℕ) (t : CardState) (f : Signal) (x y : Fate) → (turned iso_dep r t f x y).events ≡ tag_events f x y (step iso_dep r t f).answer
-  same_events r t f Pass y = answered_events (step iso_dep r t f).state (step iso_dep r t f).asked f (step iso_dep r t f).answer y
-  same_events r t f Damage y = refl
-  same_events r t f Lose y = refl
-  same_events r t f Break y = refl
-
-  answered_heard : (t : CardState) (asked : Option (List ℕ)) (f : Signal) (q : Option Signal) (y : Fate) → heard_in (answered iso_dep t asked f q y).heard ≡ tag_heard Pass y q
-  answered_heard t asked f None y = refl
-  answered_heard t asked f (Some a) Pass = refl
-  answered_heard t asked f (Some a) Damage = refl
-  answered_heard t asked f (Some a) Lose = refl
-  answered_heard t asked f (Some a) Break = refl
-
-  same_heard : (r : List ℕ) (t : CardState) (f : Signal) (x y : Fate) → heard_in (turned iso_dep r t f x y).heard ≡ tag_heard x y (step iso_dep r t f).answer
-  same_heard r t f Pass y = answered_heard (step iso_dep r t f).state (step iso_dep r t f).asked f (step iso_dep r t f).answer y
-  same_heard r t f Damage y = refl
-  same_heard r t f Lose y = refl
-  same_heard r t f Break y = refl
-
-  -- the card's end is what that turn leaves
-  answered_card : (l : L) (f : Signal) (t : CardState) (asked : Option (List ℕ)) (q : Option Signal) (y : Fate)
-      → card (k.machine.after l f None) ≡ t → card (k.machine.darkened (k.machine.after l f None)) ≡ darkened (card (k.machine.after l f None))
-      → card (left_by l f Pass y q) ≡ (answered iso_dep t asked f q y).answering
-  answered_card l f t asked None y e d = e
-  answered_card l f t asked (Some a) Pass e d = e
-  answered_card l f t asked (Some a) Damage e d = e
-  answered_card l f t asked (Some a) Lose e d = e
-  answered_card l f t asked (Some a) Break e d = d ∙ ap darkened e
-
-  same_card : (l : L) (f : Signal) (r : List ℕ) (x y : Fate)
-      → card (k.machine.after l f None) ≡ (step iso_dep r (card l) f).state → card (k.machine.darkened (k.machine.after l f None)) ≡ darkened (card (k.machine.after l f None))
-      → card (k.machine.darkened l) ≡ darkened (card l) → card (left_by l f x y (step iso_dep r (card l) f).answer) ≡ (turned iso_dep r (card l) f x y).answering
-  same_card l f r Pass y e d c = answered_card l f (step iso_dep r (card l) f).state (step iso_dep r (card l) f).asked (step iso_dep r (card l) f).answer y e d
-  same_card l f r Damage y e d c = refl
-  same_card l f r Lose y e d c = refl
-  same_card l f r Break y e d c = c
-
-  answered_asked : (t : CardState) (asked : Option (List ℕ)) (f : Signal) (q : Option Signal) (y : Fate) → (answered iso_dep t asked f q y).asked ≡ asked
-  answered_asked t asked f None y = refl
-  answered_asked t asked f (Some a) Pass = refl
-  answered_asked t asked f (Some a) Damage = refl
-  answered_asked t asked f (Some a) Lose = refl
-  answered_asked t asked f (Some a) Break = refl
-
   same_moved : (l : L) (f : Signal) (h : StepsByCard k card tag l f) (x y : Fate)
       → MovedBy (TagDoes (k.commands l)) (tag l) (turned iso_dep h.reply (card l) f x y).asked h.reply (met l f x)
   same_moved l f h Pass y =
       let s : Step iso_dep = step iso_dep h.reply (card l) f in
-      subst (λ (o : Option (List ℕ)). MovedBy (TagDoes (k.commands l)) (tag l) o h.reply (tag (k.machine.after l f None))) (sym (answered_asked s.state s.asked f s.answer y)) h.moved
+      subst (λ (o : Option (List ℕ)). MovedBy (TagDoes (k.commands l)) (tag l) o h.reply (tag (k.machine.after l f None))) (sym (answered_asked iso_dep s.state s.asked f s.answer y)) h.moved
   same_moved l f h Damage y = refl
   same_moved l f h Lose y = refl
   same_moved l f h Break y = refl
@@ -255,9 +187,9 @@ module _ {L : Type 0} (k : Ghosts L) (laws : Laws k) (card : L → CardState) (t
             first = x;
             second = y;
             fits = s.short;
-            answering = same_card l f s.reply x y s.card_is (c.cleared (f ∷ []) (a, tt)) (c.cleared [] tt);
-            heard_is = told ∙ sym (same_heard s.reply (card l) f x y);
-            events = q.trace ∙ ap (λ (es : List Event). old.trace ++ es) (events ∙ sym (same_events s.reply (card l) f x y));
+            answering = same_end iso_dep k card l (k.machine.after l f None) (c.cleared (f ∷ []) (a, tt)) s.reply f x y s.card_is (c.cleared [] tt);
+            heard_is = told ∙ sym (same_heard iso_dep s.reply (card l) f x y);
+            events = q.trace ∙ ap (λ (es : List Event). old.trace ++ es) (events ∙ sym (same_events iso_dep s.reply (card l) f x y));
             moved = same_moved l f s x y;
           };
           is =
