@@ -5,7 +5,8 @@ use Rattle.isodep_link.specs.declared.block.Block.{Block}
 use Rattle.isodep_link.specs.declared.block.Block.TheVariants.{Ack, Nak, Extend}
 use Rattle.isodep_link.specs.Blocks.{piece, block_frame, block_bytes, pcb, info_sort, chained_sort}
 use Rattle.isodep_link.specs.Card.{CardState}
-use Rattle.isodep_link.specs.Reader.{Core, ReaderState, asked, request}
+use Rattle.nfc_base.specs.Pieces.{Core}
+use Rattle.isodep_link.specs.Reader.{ReaderState, asked, request}
 use Rattle.isodep_link.proofs.Heeding.{AreBytes, no_bytes}
 use Rattle.isodep_link.proofs.Standing as law
 

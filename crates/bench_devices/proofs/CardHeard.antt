@@ -23,7 +23,8 @@ use Rattle.isodep_link.specs.Activating.{rats, ats_code, HasFreshTag, IsActivate
 use Rattle.isodep_link.specs.Asking as exchange
 use Rattle.isodep_link.specs.Asking.{HasCardTag}
 use Rattle.isodep_link.specs.Blocks.{block_frame}
-use Rattle.isodep_link.specs.Exchange.{iso_dep, pieces, reader_does}
+use Rattle.nfc_base.specs.Pieces.{pieces}
+use Rattle.isodep_link.specs.Exchange.{iso_dep, reader_does}
 use Rattle.isodep_link.specs.Reader.{ReaderState, reader_table, request, begun, waiting}
 use Rattle.isodep_link.proofs.ActivateLaw.{After, first_rats, rats_turn, rats_done, rats_never}
 use Rattle.isodep_link.proofs.AskingLaw.{OnTag, begins_on, turn_on, noisy, answered_asked}

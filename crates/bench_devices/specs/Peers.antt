@@ -13,7 +13,8 @@ use Rattle.llcp_pdu.specs.General.{general_bytes, IsMiu}
 use Rattle.dep_link.specs.declared.target.TargetStep.{TargetStep}
 use Rattle.dep_link.specs.declared.target.TargetStep.TheVariants as target
 use Rattle.dep_link.specs.Frames.{air_frame, is_atr_req}
-use Rattle.dep_link.specs.Target.{TargetState, TargetTurn, target_table, replied, reply_frame, fresh, darkened, made_busy, most_busy}
+use Rattle.nfc_base.specs.Pieces.{most_busy}
+use Rattle.dep_link.specs.Target.{TargetState, TargetTurn, target_table, replied, reply_frame, fresh, darkened, made_busy}
 use Rattle.dep_link.specs.Peers.{target_use}
 
 -- the target's end, and whether ATR_REQ opened a link to it

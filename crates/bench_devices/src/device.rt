@@ -3,8 +3,7 @@
 ghost use Rattle.std.specs.Prelude.{◌≡◌, ◌<◌, ◌≤◌, true, false};
 ghost use Rattle.t2t_tag.specs.Store as t2;
 ghost use Rattle.isodep_link.specs.Card as ends;
-ghost use Rattle.isodep_link.specs.Card.{most_busy};
-ghost use Rattle.isodep_link.specs.Reader.{longest_extension};
+ghost use Rattle.nfc_base.specs.Pieces.{most_busy, longest_extension};
 ghost use Rattle.nfca_poll.specs.Upper.{step_at};
 ghost use Rattle.bench_devices.specs.Cards.{card_now};
 ghost use Rattle.bench_devices.specs.Device.{said, on_link, how_of, blocks_of, device_locked, may_be_busy, device_busy, is_tag, may_be_read, memory_in};

@@ -14,8 +14,7 @@ use Rattle.bench_world.specs.declared.entry.Answer.TheVariants.{Done, Store}
 use Rattle.bench_devices.specs.Choosing.{StandsAt}
 use Rattle.std.specs.List.{AllByRecursion}
 use Rattle.bench_devices.specs.Device.{device_id, most_devices, blocks_of, device_locked, may_be_busy, device_busy, is_tag, memory_in}
-use Rattle.isodep_link.specs.Card.{most_busy}
-use Rattle.isodep_link.specs.Reader.{longest_extension}
+use Rattle.nfc_base.specs.Pieces.{most_busy, longest_extension}
 use Rattle.air_core.specs.Conversation.{Over}
 use Rattle.bench_world.specs.Legal.{State, MayBeBusy, Accepts, with_device_changed, IsAskedBy, AnswerLaw, changed, due}
 use Rattle.bench_devices.specs.Placed.{device_with, with_changed, OfPlaced}

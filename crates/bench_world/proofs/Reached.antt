@@ -6,8 +6,7 @@ use Rattle.std.specs.Cmp.Lexicographic.{pointwise}
 use Rattle.std.proofs.lemmas.List.{length-map}
 use Rattle.hex.proofs.HexLemmas.{decode_of-ok}
 use Rattle.air_core.specs.Conversation.{replay}
-use Rattle.isodep_link.specs.Card.{most_busy}
-use Rattle.isodep_link.specs.Reader.{longest_extension}
+use Rattle.nfc_base.specs.Pieces.{most_busy, longest_extension}
 use Rattle.isodep_link.proofs.Heeding.{AreBytes, no_bytes}
 use Rattle.t4t_tag.specs.Store.{file_size}
 use Rattle.bench_script.specs.declared.command.Command.{Command}

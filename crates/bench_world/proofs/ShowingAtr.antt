@@ -17,10 +17,11 @@ use Rattle.nfca_poll.specs.Fronted.{Fronted, active_after, handed_by}
 use Rattle.dep_link.specs.Activating.{atr_frame, atr_req}
 use Rattle.dep_link.specs.Exchange.{InStep}
 use Rattle.dep_link.specs.Frames.{is_atr_req}
-use Rattle.dep_link.specs.Initiator.{longest_extension, waiting}
+use Rattle.nfc_base.specs.Pieces.{longest_extension, most_busy}
+use Rattle.dep_link.specs.Initiator.{waiting}
 use Rattle.dep_link.specs.Peers.{target_use}
 use Rattle.dep_link.specs.Sizes.{initiator_lr, piece_size}
-use Rattle.dep_link.specs.Target.{TargetState, TargetTurn, framed, heeded, most_busy, restarted, target_table}
+use Rattle.dep_link.specs.Target.{TargetState, TargetTurn, framed, heeded, restarted, target_table}
 use Rattle.dep_link.proofs.Wire.{target_heeds}
 use Rattle.far_air.specs.FarEnds.{by_link, moved, numbers_left, reply_to}
 use Rattle.far_air.specs.FarWorld.{AllMet, far_stepped, met_first}

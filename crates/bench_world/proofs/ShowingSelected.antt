@@ -21,9 +21,9 @@ use Rattle.nfca_poll.proofs.FoundCrowd.{selects_alone}
 use Rattle.dep_pdu.specs.declared.frame.DepFrame.{DepFrame}
 use Rattle.dep_pdu.specs.declared.frame.DepFrame.TheVariants.{AtrReq, AtrRes, Info, Ack, Nack, Attention, Extend, DslReq, DslRes, RlsReq, RlsRes}
 use Rattle.dep_link.specs.Frames.{is_atr_req, names_atr, spelled}
-use Rattle.dep_link.specs.Initiator.{longest_extension}
+use Rattle.nfc_base.specs.Pieces.{longest_extension, most_busy}
 use Rattle.dep_link.specs.Peers.{target_use}
-use Rattle.dep_link.specs.Target.{TargetState, fresh, most_busy, obeyed}
+use Rattle.dep_link.specs.Target.{TargetState, fresh, obeyed}
 use Rattle.far_air.specs.FarEnds.{by_link, later_fars, rests}
 use Rattle.far_air.specs.FarLaws.{shown}
 use Rattle.far_air.specs.Quietly.{AreCalm, IsCalm, NoneHands}

@@ -21,8 +21,7 @@ use Rattle.bench_world.specs.declared.entry.Answer.TheVariants as answers
 use Rattle.bench_world.specs.declared.entry.Entry.{Entry}
 use Rattle.bench_devices.specs.AnyFrame.{peers_in}
 use Rattle.bench_devices.specs.Device.{most_devices, new_t2, new_t3, new_t4, new_t5, new_peer, blocks_of, device_locked, may_be_busy, device_busy, is_tag, memory_in}
-use Rattle.isodep_link.specs.Card.{most_busy}
-use Rattle.isodep_link.specs.Reader.{longest_extension}
+use Rattle.nfc_base.specs.Pieces.{most_busy, longest_extension}
 use Rattle.bench_devices.specs.TagAsking.{tag_due}
 use Rattle.bench_devices.specs.ThreeAsking.{three_due}
 use Rattle.bench_script.specs.DeviceIds.{bytes_of, tech_for}

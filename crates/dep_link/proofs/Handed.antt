@@ -7,8 +7,10 @@ use Rattle.nfc_base.proofs.ExactlyOnce.{Keeps, exactly_once}
 use Rattle.dep_link.specs.Sizes.{limit}
 use Rattle.dep_link.specs.Target.{TargetState}
 use Rattle.dep_link.specs.Initiator.{InitState, begun}
-use Rattle.dep_link.specs.Exchange.{nfc_dep, pieces, frames_back, InStep, IsCut, beginning, HandedOnce}
-use Rattle.dep_link.proofs.Standing.{Asking, asking, Ask, asks, Wait, more, Fits}
+use Rattle.nfc_base.specs.Pieces.{pieces}
+use Rattle.dep_link.specs.Exchange.{nfc_dep, frames_back, InStep, IsCut, beginning, HandedOnce}
+use Rattle.nfc_base.proofs.Chains.{Asking, more, Fits}
+use Rattle.dep_link.proofs.Standing.{dep_ends, asking, Ask, asks, Wait}
 use Rattle.dep_link.proofs.Landing.{lands_at}
 use Rattle.dep_link.proofs.Hearing.{unheard_at, lost_at, damaged_at, answered_at, ask_left}
 
@@ -18,8 +20,8 @@ keeps first m k out = record {
   Ask = Ask m k out;
   Wait = Wait m k out;
   Done = InStep;
-  more = more m k out;
-  Fits = Fits m k out;
+  more = more dep_ends m k out;
+  Fits = Fits dep_ends m k out;
   Stood = IsCut first;
   stood = λ t handed arrived s. ap (λ c. c.payloads) s;
   some_left = ask_left first m k out;
@@ -31,7 +33,7 @@ keeps first m k out = record {
 }
 
 -- an exchange begins so
-pub asking_first : (i : InitState) (t : TargetState) (out : List ℕ) → length out ≤ limit → InStep i t → Asking t.most t.busy out (begun i out).core t None
+pub asking_first : (i : InitState) (t : TargetState) (out : List ℕ) → length out ≤ limit → InStep i t → Asking dep_ends t.most t.busy out (begun i out).core t None
 asking_first i t out short s =
     record {
       bounds = record {
@@ -58,7 +60,7 @@ asking_first i t out short s =
     }
 
 -- a reply comes in its first frame and these more
-pub back_more : (t : TargetState) (r : List ℕ) → frames_back t r ≡ 1 + more t.most t.busy [] r
+pub back_more : (t : TargetState) (r : List ℕ) → frames_back t r ≡ 1 + more dep_ends t.most t.busy [] r
 back_more t r = omega arith
 
 -- For every list of fates, and whatever the far end replies: between ends in step, a payload of at most 2,178 bytes is handed over at

@@ -1,7 +1,7 @@
 -- The initiator at the target's answers, and at bad receptions, while an exchange is under way.
-use Rattle.std.proofs.Common.{◌≡◌, ◌⊎◌, ℕ, ◌+◌, ◌-◌, ◌*◌, ◌<◌, ◌≤◌, nat_lt, Bool, true, false, List, [], ◌++◌, length, take, drop, Option, Some, None, inl, inr, refl, sym, ◌∙◌, ap, subst, arith, append_assoc, take_all}
+use Rattle.std.proofs.Common.{◌≡◌, ◌⊎◌, ℕ, ◌+◌, ◌-◌, ◌*◌, ◌<◌, ◌≤◌, nat_lt, Bool, true, false, List, [], ◌++◌, length, take, drop, Option, Some, None, inl, inr, refl, sym, ◌∙◌, ap, subst, arith, take_all}
 use Rattle.std.proofs.lemmas.Bool.{lt-ltb, ltb-true}
-use Rattle.std.proofs.lemmas.List.{take-append-drop, length-take-le, drop_all}
+use Rattle.std.proofs.lemmas.List.{drop_all}
 use Rattle.nfc_base.specs.Signal.{Signal}
 use Rattle.nfc_base.specs.StopAndWait.{Whole, Damaged, Silent}
 use Rattle.nfc_base.specs.LinkTurns.{heard_of}
@@ -12,13 +12,14 @@ use Rattle.dep_pdu.specs.Spelling.{IsDepFrame}
 use Rattle.dep_link.specs.declared.initiator.Phase.{Phase}
 use Rattle.dep_link.specs.declared.initiator.Phase.TheVariants.{Asked, Nacked, Attending, Free, EndedSixBad, EndedProtocol}
 use Rattle.dep_link.specs.Sizes.{limit}
-use Rattle.dep_link.specs.Frames.{air_frame, spelled, piece}
+use Rattle.dep_link.specs.Frames.{air_frame, spelled, piece, after}
 use Rattle.dep_link.specs.Target.{TargetState}
-use Rattle.dep_link.specs.Initiator.{Core, InitState, InitMove, InitTurn, Gives, sent, sends, most_bads, most_extensions, longest_extension, bad, turned, more_follows, is_refused, answered, waited, whole, damaged, silent, framed, framed_next, init_table}
-use Rattle.dep_link.specs.Exchange.{nfc_dep, initiator_does, pieces, InStep}
+use Rattle.nfc_base.specs.Pieces.{Core, most_bads, most_extensions, longest_extension, turned, more_follows, pieces}
+use Rattle.dep_link.specs.Initiator.{InitState, InitMove, InitTurn, Gives, sent, sends, bad, answered, waited, whole, damaged, silent, framed, framed_next, init_table}
+use Rattle.dep_link.specs.Exchange.{nfc_dep, initiator_does, InStep}
 use Rattle.dep_link.proofs.Wire.{written_read, is_piece}
-use Rattle.dep_link.specs.Moves.{le_from_not}
-use Rattle.dep_link.proofs.Standing.{same, after_small, not_lt, pieces_drop, chain_fits, Asking, Drawing, Acked, Answered, Extending, Held, of_chain, of_reply, of_time, Stands, asking, drawing, granting, held, granted, Ask, asks, nacks, attends, HasAsked, Wait, has, stays_up}
+use Rattle.nfc_base.proofs.Chains.{same, not_lt, le_from_not, pieces_drop, not_refused, Acked, Answered, Held, of_chain, of_reply, of_time, held_left, worse, held_worse, held_more, longer, time_granted, sent_on, ack_heard, got_on, piece_heard}
+use Rattle.dep_link.proofs.Standing.{after_small, dep_ends, Stands, asking, drawing, granting, held, granted, Ask, asks, nacks, attends, HasAsked, Wait, has, stays_up}
 
 module _ (first m k : ℕ) (out : List ℕ) where
   -- a bad reception: the initiator sends something, of which two transmissions more are left, or gives up
@@ -33,39 +34,15 @@ module _ (first m k : ℕ) (out : List ℕ) where
       go true v = let a = h (ltb-true i.bads most_bads v) in rw v (n + 2, a, omega arith)
       go false v = rw v tt
 
-  -- one bad reception more
-  worse : (c : Core) (t : TargetState) (g : Option (List ℕ)) (bads : ℕ) → Extending m k out c t g bads → Extending m k out c t g (bads + 1)
-  worse c t g bads h =
-      record {
-        bounds = h.bounds;
-        number = h.number;
-        asked_by = h.asked_by;
-        sending = h.sending;
-        empty = h.empty;
-        no_more = h.no_more;
-        expects = h.expects;
-        no_chain = h.no_chain;
-        last = h.last;
-        due = h.due;
-        reply = h.reply;
-        short_back = h.short_back;
-        count = (let c = h.count in omega arith);
-      }
-
-  worse_held : (c : Core) (t : TargetState) (g : Option (List ℕ)) (n bads : ℕ) → bads < most_bads → Held m k out c t g n bads → Held m k out c t g n (bads + 1)
-  worse_held c t g n bads l (of_chain h q) = of_chain h q
-  worse_held c t g n bads l (of_reply bytes h q) = of_reply bytes h q
-  worse_held c t g n bads l (of_time z h q) = of_time (omega arith) (worse c t g bads h) q
-
   worse_stands : (c : Core) (bads : ℕ) (t : TargetState) (g : Option (List ℕ)) (n : ℕ) → bads < most_bads → Stands m k out c bads t g n → Stands m k out c (bads + 1) t g n
   worse_stands c bads t g n l (asking z h q) = asking (omega arith) h q
   worse_stands c bads t g n l (drawing h q) = drawing h q
-  worse_stands c bads t g n l (granting z w h q) = granting (omega arith) w (worse c t g (bads + 1) h) q
-  worse_stands c bads t g n l (held w h) = held w (worse_held c t g n bads l h)
+  worse_stands c bads t g n l (granting z w h q) = granting (omega arith) w (worse dep_ends m k out c t g (bads + 1) h) q
+  worse_stands c bads t g n l (held w h) = held w (held_worse dep_ends m k out c t g n bads l h)
   worse_stands c bads t g n l (granted bytes w x h q) = granted bytes w x h q
 
   -- where a NACK was sent, the request would be sent again
-  stands_held : (c : Core) (bads : ℕ) (t : TargetState) (g : Option (List ℕ)) (n : ℕ) → Held m k out c t g n bads → Stands m k out c bads t g n
+  stands_held : (c : Core) (bads : ℕ) (t : TargetState) (g : Option (List ℕ)) (n : ℕ) → Held dep_ends m k out c t g n bads → Stands m k out c bads t g n
   stands_held c bads t g n (of_chain h q) = held h.plain (of_chain h q)
   stands_held c bads t g n (of_reply bytes h q) = go h.asked_by
     where
@@ -76,7 +53,7 @@ module _ (first m k : ℕ) (out : List ℕ) where
     where
       go : ((c.extension ≡ None) ⊎ (c.extension ≡ Some t.times)) → Stands m k out c bads t g n
       go (inl w) = held w (of_time z h q)
-      go (inr w) = granting z w (worse c t g bads h) (omega arith)
+      go (inr w) = granting z w (worse dep_ends m k out c t g bads h) (omega arith)
 
   abbrev IsLive : Phase → Type 0
   IsLive Asked = Unit {0}
@@ -118,15 +95,11 @@ module _ (first m k : ℕ) (out : List ℕ) where
   damaged_asked i (inl e) = rw e refl
   damaged_asked i (inr e) = rw e refl
 
-  held_more : (c : Core) (t : TargetState) (g : Option (List ℕ)) (n bads : ℕ) → Held m k out c t g n bads → Held m k out c t g (n + 2) bads
-  held_more c t g n bads (of_chain h l) = of_chain h (omega arith)
-  held_more c t g n bads (of_reply bytes h l) = of_reply bytes h (omega arith)
-  held_more c t g n bads (of_time z h l) = of_time z h (omega arith)
-
   pub damaged_at : (i : InitState) (t : TargetState) (g : Option (List ℕ)) (a : Signal) (n : ℕ) → Wait m k out i t g a n
       → Goes (λ z. (q : ℕ) × Ask m k out ((nfc_dep first).next i Damaged) t g z q × (q ≤ n + 2)) (λ _. ⊥) (Unit {0}) ((nfc_dep first).acts i Damaged)
   damaged_at i t g a n (has p v e l h) =
-      subst (λ (x : InitMove). Survives i t g n x) (sym (damaged_asked i p)) (bad_goes i t g n Nacked (λ few. nacks refl refl (worse_held i.core t g (n + 2) i.bads few (held_more i.core t g n i.bads h))))
+      subst (λ (x : InitMove). Survives i t g n x) (sym (damaged_asked i p)) (bad_goes i t g n Nacked (λ few. nacks refl refl
+      (held_worse dep_ends m k out i.core t g (n + 2) i.bads few (held_more dep_ends m k out i.core t g n i.bads h))))
   damaged_at i t g a n (stays_up p e q s l) =
       let e : damaged i i.phase ≡ bad i Attending = rw p refl in
       subst (λ (x : InitMove). Survives i t g n x) (sym e) (bad_goes i t g n Attending (λ few. attends refl refl q (worse_stands i.core i.bads t g q few s) (omega arith)))
@@ -153,73 +126,27 @@ module _ (first m k : ℕ) (out : List ℕ) where
   accepted_by i t g a v n x l e r q h =
       accepts_by i t g a n x (whole_asked i a l ∙ ap (waited i) (ap spelled e ∙ written_read v r) ∙ q) h
 
-  -- the next piece of the payload
-  abbrev sent_on : Core → Core
-  sent_on c = turned c (drop c.most c.rest) false c.got
-
-  ack_heard : (i : InitState) (t : TargetState) (g : Option (List ℕ)) → Acked m k out i.core t g
-      → (answered i (Ack true i.core.number) ≡ sends i (sent_on i.core) Asked 0) × Asking m k out (sent_on i.core) t g
-  ack_heard i t g h = (
-    rw (h.sending, lt-ltb i.core.most (length i.core.rest) h.more, same i.core.number) refl,
-    record {
-      bounds = h.bounds;
-      number = after_small i.core.number;
-      plain = refl;
-      none_yet = refl;
-      sending = refl;
-      empty = h.empty;
-      expects = h.expects;
-      joins = h.joins;
-      none = h.none;
-    },
-  )
-
-  not_refused : (got xs : List ℕ) (n : ℕ) → 0 < n → length (got ++ xs) ≤ limit → is_refused (nat_lt n (length xs)) (take n xs) (got ++ take n xs) ≡ false
-  not_refused got xs n p f = go (nat_lt n (length xs)) refl
-    where
-      le : length (got ++ take n xs) ≤ limit
-      le = chain_fits got xs (got ++ xs) n refl f
-
-      go : (b : Bool) → nat_lt n (length xs) ≡ b → is_refused (nat_lt n (length xs)) (take n xs) (got ++ take n xs) ≡ false
-      go false e = rw (not_lt limit (length (got ++ take n xs)) le, e) refl
-      go true e =
-          let l : n < length xs = ltb-true n (length xs) e in
-          let w : length (take n xs) ≡ n = length-take-le n xs (omega arith) in
-          rw (not_lt limit (length (got ++ take n xs)) le, e, w, lt-ltb 0 n p) refl
+  acked_next : (i : InitState) (t : TargetState) (g : Option (List ℕ)) → Acked dep_ends m k out i.core t g
+      → answered i (Ack true i.core.number) ≡ sends i (sent_on dep_ends m k out i.core) Asked 0
+  acked_next i t g h = rw (h.sending, lt-ltb i.core.most (length i.core.rest) h.more, same i.core.number) refl
 
   -- a piece of the reply that isn't the last
-  abbrev got_on : Core → List ℕ → Core
-  got_on c xs = turned c [] true (c.got ++ xs)
-
-  piece_heard : (i : InitState) (t : TargetState) (g : Option (List ℕ)) (bytes : List ℕ) → Answered m k out i.core t g bytes → t.most < length bytes
-      → (answered i (piece true t.most i.core.number bytes) ≡ sends i (got_on i.core (take t.most bytes)) Asked 0) × Drawing m k out (got_on i.core (take t.most bytes)) t g
-  piece_heard i t g bytes h l = (
-    rw (h.no_more, same i.core.number, not_refused i.core.got bytes t.most h.bounds.some_back h.short_back, lt-ltb t.most (length bytes) l) refl,
-    record {
-      bounds = h.bounds;
-      number = after_small i.core.number;
-      plain = refl;
-      none_due = h.none_due;
-      receiving = refl;
-      expects = h.expects;
-      no_chain = h.no_chain;
-      unsent = h.unsent ∙ lt-ltb t.most (length bytes) l;
-      reply = rw (h.left, append_assoc, take-append-drop) h.reply;
-      short_back = rw (h.left, append_assoc, take-append-drop) h.short_back;
-    },
-  )
+  piece_next : (i : InitState) (t : TargetState) (g : Option (List ℕ)) (bytes : List ℕ) → Answered dep_ends m k out i.core t g bytes → t.most < length bytes
+      → answered i (piece true t.most i.core.number bytes) ≡ sends i (got_on dep_ends m k out i.core (take t.most bytes)) Asked 0
+  piece_next i t g bytes h l =
+      rw (h.no_more, same i.core.number, not_refused limit i.core.got bytes t.most h.bounds.some_back h.short_back, lt-ltb t.most (length bytes) l) refl
 
   abbrev ended : InitState → InitState
-  ended i = record i { core = turned i.core [] false []; phase = Free; bads = 0 }
+  ended i = record i { core = turned i.core (after i.core.number) [] false []; phase = Free; bads = 0 }
 
-  last_heard : (i : InitState) (t : TargetState) (g : Option (List ℕ)) (bytes : List ℕ) → Answered m k out i.core t g bytes → length bytes ≤ t.most
+  last_heard : (i : InitState) (t : TargetState) (g : Option (List ℕ)) (bytes : List ℕ) → Answered dep_ends m k out i.core t g bytes → length bytes ≤ t.most
       → answered i (piece true t.most i.core.number bytes) ≡ record { state = ended i; does = Gives (i.core.got ++ bytes) }
   last_heard i t g bytes h l =
       let e : take t.most bytes ≡ bytes = take_all t.most bytes l in
-      rw (h.no_more, same i.core.number, not_refused i.core.got bytes t.most h.bounds.some_back h.short_back, not_lt t.most (length bytes) l, e) refl
+      rw (h.no_more, same i.core.number, not_refused limit i.core.got bytes t.most h.bounds.some_back h.short_back, not_lt t.most (length bytes) l, e) refl
 
   reply_heard : (i : InitState) (t : TargetState) (g : Option (List ℕ)) (a : Signal) (n : ℕ) (bytes : List ℕ) → HasAsked m k out i
-      → a ≡ air_frame (piece true t.most i.core.number bytes) → Answered m k out i.core t g bytes → 2 * pieces t.most bytes ≤ n → AcceptedAt i t g a n
+      → a ≡ air_frame (piece true t.most i.core.number bytes) → Answered dep_ends m k out i.core t g bytes → 2 * pieces t.most bytes ≤ n → AcceptedAt i t g a n
   reply_heard i t g a n bytes p e h b = go (nat_lt t.most (length bytes)) refl
     where
       r : IsDepFrame (piece true t.most i.core.number bytes)
@@ -228,10 +155,9 @@ module _ (first m k : ℕ) (out : List ℕ) where
       go : (d : Bool) → nat_lt t.most (length bytes) ≡ d → AcceptedAt i t g a n
       go true d =
           let l = ltb-true t.most (length bytes) d in
-          let q = piece_heard i t g bytes h l in
           let z = pieces_drop t.most bytes h.bounds.some_back l in
-          accepted_by i t g a (piece true t.most i.core.number bytes) n _ p e r q.0
-          (2 * pieces t.most (drop t.most bytes), asks refl refl (drawing q.1 (rw h.left (omega arith))), omega arith)
+          accepted_by i t g a (piece true t.most i.core.number bytes) n _ p e r (piece_next i t g bytes h l)
+          (2 * pieces t.most (drop t.most bytes), asks refl refl (drawing (piece_heard dep_ends m k out i.core t g bytes h l) (rw h.left (omega arith))), omega arith)
       go false d =
           let l = le_from_not t.most (length bytes) d in
           accepted_by i t g a (piece true t.most i.core.number bytes) n _ p e r (last_heard i t g bytes h l) (
@@ -251,31 +177,10 @@ module _ (first m k : ℕ) (out : List ℕ) where
           )
 
   -- the target asks for more time
-  abbrev longer : Core → ℕ → Core
-  longer c times = record c { extension = Some times; granted = c.granted + 1 }
-
   time_heard : (i : InitState) (times : ℕ) → i.core.drawing ≡ false → more_follows i.core ≡ false → 1 ≤ times → times ≤ longest_extension → i.core.granted < most_extensions
-      → answered i (Extend true times) ≡ sends i (longer i.core times) Asked i.bads
+      → answered i (Extend true times) ≡ sends i (longer dep_ends m k out i.core times) Asked i.bads
   time_heard i times d f l1 l2 l3 =
       rw (f, d, lt-ltb 0 times (omega arith), not_lt longest_extension times l2, lt-ltb i.core.granted most_extensions l3) refl
-
-  time_granted : (i : InitState) (t : TargetState) (g : Option (List ℕ)) → Extending m k out i.core t g i.bads → Extending m k out (longer i.core t.times) t g (i.bads + 1)
-  time_granted i t g h =
-      record {
-        bounds = h.bounds;
-        number = h.number;
-        asked_by = inr refl;
-        sending = h.sending;
-        empty = h.empty;
-        no_more = h.no_more;
-        expects = h.expects;
-        no_chain = h.no_chain;
-        last = h.last;
-        due = h.due;
-        reply = h.reply;
-        short_back = h.short_back;
-        count = (let c = h.count in omega arith);
-      }
 
   pub answered_at : (i : InitState) (t : TargetState) (g : Option (List ℕ)) (a : Signal) (n : ℕ) → Wait m k out i t g a n → (2 ≤ n) × AcceptedAt i t g a n
   answered_at i t g a n (stays_up p e q s l) = (
@@ -284,11 +189,11 @@ module _ (first m k : ℕ) (out : List ℕ) where
   )
   answered_at i t g a n (has p x e l (of_chain h b)) =
       let q : x ≡ Ack true i.core.number = (let y = h.last in cc) in
-      let s = ack_heard i t g h in
+      let s = ack_heard dep_ends m k out i.core t g h in
       let z = pieces_drop i.core.most i.core.rest h.bounds.some h.more in (
         omega arith,
-        accepted_by i t g a (Ack true i.core.number) n _ p (e ∙ ap air_frame q) h.number s.0
-            (2 * pieces i.core.most (drop i.core.most i.core.rest), asks refl refl (asking (omega arith) s.1 (omega arith)), omega arith),
+        accepted_by i t g a (Ack true i.core.number) n _ p (e ∙ ap air_frame q) h.number (acked_next i t g h)
+            (2 * pieces i.core.most (drop i.core.most i.core.rest), asks refl refl (asking (omega arith) s (omega arith)), omega arith),
       )
   answered_at i t g a n (has p x e l (of_time z h b)) =
       let q : x ≡ Extend true t.times = (let y = h.last in cc) in
@@ -298,22 +203,17 @@ module _ (first m k : ℕ) (out : List ℕ) where
         omega arith,
         accepted_by i t g a (Extend true t.times) n _ p (e ∙ ap air_frame q) (h.bounds.long, h.bounds.longest)
             (time_heard i t.times h.sending h.no_more h.bounds.long h.bounds.longest (omega arith))
-            (2 * (t.due + pieces t.most t.left) - 2, asks refl refl (granting z refl (time_granted i t g h) (omega arith)), omega arith),
+            (2 * (t.due + pieces t.most t.left) - 2, asks refl refl (granting z refl (time_granted dep_ends m k out i.core t g i.bads t.times h (inr refl)) (omega arith)), omega arith),
       )
   answered_at i t g a n (has p x e l (of_reply bytes h b)) =
       let q : x ≡ piece true t.most i.core.number bytes = (let y = h.last in cc) in
       (omega arith, reply_heard i t g a n bytes p (e ∙ ap air_frame q) h b)
 
-  held_left : (c : Core) (t : TargetState) (g : Option (List ℕ)) (n bads : ℕ) → Held m k out c t g n bads → 1 ≤ n
-  held_left c t g n bads (of_chain h l) = omega arith
-  held_left c t g n bads (of_reply bytes h l) = omega arith
-  held_left c t g n bads (of_time z h l) = omega arith
-
   pub ask_left : (i : InitState) (t : TargetState) (g : Option (List ℕ)) (f : Signal) (n : ℕ) → Ask m k out i t g f n → 1 ≤ n
   ask_left i t g f n (asks p e (asking z h b)) = omega arith
   ask_left i t g f n (asks p e (drawing h b)) = omega arith
   ask_left i t g f n (asks p e (granting z w h b)) = (let d = h.due in omega arith)
-  ask_left i t g f n (asks p e (held w h)) = held_left i.core t g n i.bads h
+  ask_left i t g f n (asks p e (held w h)) = held_left dep_ends m k out i.core t g n i.bads h
   ask_left i t g f n (asks p e (granted bytes w x h b)) = omega arith
-  ask_left i t g f n (nacks p e h) = held_left i.core t g n i.bads h
+  ask_left i t g f n (nacks p e h) = held_left dep_ends m k out i.core t g n i.bads h
   ask_left i t g f n (attends p e q s l) = omega arith

@@ -4,9 +4,8 @@ pub mod Landing
 pub mod Hearing
 pub mod Handed
 pub mod Begun
-pub mod Falls
 pub mod Session
-pub mod Ended
+pub mod Moves
 mod Anew
 pub mod Answered
 pub mod PeerTurns

@@ -9,7 +9,9 @@ use Rattle.dep_pdu.specs.declared.frame.DepFrame.TheVariants.{AtrReq, AtrRes, In
 use Rattle.dep_link.specs.declared.initiator.Phase.{Phase}
 use Rattle.dep_link.specs.declared.initiator.Phase.TheVariants.{Asked, Nacked, Attending, Free, EndedSixBad, EndedProtocol}
 use Rattle.dep_link.specs.Frames.{spelled, after}
-use Rattle.dep_link.specs.Initiator.{InitState, InitMove, refuses, most_bads, bad, received, more_follows, may_extend, is_refused, acked, answered, attended, waited, attending, whole, damaged, silent, heard_next, framed_next, begun}
+use Rattle.dep_link.specs.Sizes.{limit}
+use Rattle.nfc_base.specs.Pieces.{most_bads, more_follows, may_extend, is_refused}
+use Rattle.dep_link.specs.Initiator.{InitState, InitMove, refuses, bad, received, acked, answered, attended, waited, attending, whole, damaged, silent, heard_next, framed_next, begun}
 use Rattle.dep_link.specs.Payloads.{Cut, begins}
 use Rattle.dep_link.specs.Exchange.{frames_of, before_frames}
 use Rattle.dep_link.specs.Replies.{taken_up, cut_up, is_under_way, Talk, whole_in, reply_in, goes_on, hears, hears_all, Talked, talks, talks_all, IsTalk, quiet_talk, HeardReplies}
@@ -58,7 +60,7 @@ info_takes : (i : InitState) (more : Bool) (pni : ℕ) (x : ArrayVec ℕ) → Ta
 info_takes i more pni x =
     takes_if i (Info true more pni x ∷ []) (if more_follows i.core then false else pni == i.core.number) _ _
     (λ b.
-    takes_if i (Info true more pni x ∷ []) (is_refused more x.items (i.core.got ++ x.items)) _ _ (λ c. refuses_takes i (Info true more pni x ∷ []))
+    takes_if i (Info true more pni x ∷ []) (is_refused limit more x.items (i.core.got ++ x.items)) _ _ (λ c. refuses_takes i (Info true more pni x ∷ []))
     (λ c. received_takes i pni more x (not_first (more_follows i.core) (pni == i.core.number) b)))
     (λ b. refuses_takes i (Info true more pni x ∷ []))
 

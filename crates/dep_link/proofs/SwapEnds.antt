@@ -27,7 +27,7 @@ use Rattle.dep_link.specs.Payloads.{payloads}
 use Rattle.dep_link.specs.Exchange.{nfc_dep, initiator_does, target_does, frames_of}
 use Rattle.dep_link.specs.Peers.{target_use, reached, IsPeer, StepsByTarget}
 use Rattle.dep_link.specs.Asking.{Standing, Waits, Rests, Broken, goes_by, HasPeer, EndsBy}
-use Rattle.dep_link.proofs.Ended.{whole_not_six}
+use Rattle.dep_link.proofs.Moves.{whole_not_six}
 use Rattle.dep_link.specs.Stopping.{HeardUpTo}
 use Rattle.dep_link.proofs.Answered.{stopped_at, heard_up_to}
 use Rattle.dep_link.proofs.PeerTurns.{each_quiet, hears_asked}

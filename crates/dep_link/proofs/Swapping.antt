@@ -1,5 +1,5 @@
 -- An initiator that carries a payload to a peer keeps the law of the exchange, turn by turn.
-use Rattle.std.proofs.Common.{◌≡◌, ℕ, zero, suc, ◌+◌, ◌-◌, ◌*◌, ◌<◌, ◌≤◌, ◌⊎◌, inl, inr, List, [], ◌∷◌, ◌++◌, length, slice_index, Bool, true, false, Option, Some, None, refl, sym, ◌∙◌, ap, subst, arith, append_assoc, append-nil}
+use Rattle.std.proofs.Common.{◌≡◌, ℕ, suc, ◌+◌, ◌-◌, ◌*◌, ◌<◌, ◌≤◌, ◌⊎◌, inl, inr, List, [], ◌∷◌, ◌++◌, length, slice_index, Bool, true, false, Option, Some, None, refl, sym, ◌∙◌, ap, subst, arith, append_assoc, append-nil}
 use Rattle.std.specs.List.{AllByRecursion}
 use Rattle.std.proofs.lemmas.List.{append_cancel_left}
 use Rattle.nfc_base.specs.Signal.{Signal}
@@ -16,7 +16,7 @@ use Rattle.nfc_base.specs.declared.event.Heard.{Heard}
 use Rattle.nfc_base.specs.declared.event.Heard.TheVariants as heards
 use Rattle.nfc_base.specs.declared.carrier.EndCause.TheVariants as cause
 use Rattle.nfc_base.proofs.ExactlyOnce.{Keeps, IsReady, more_of, kept_once}
-use Rattle.nfc_base.proofs.LinkTurns.{J, bads_append, given_after, Along, Onward, goes_along, next_asking, next_stage}
+use Rattle.nfc_base.proofs.LinkTurns.{J, bads_append, given_after, Along, Onward, goes_along, next_asking, next_stage, counted_later, positive, says_some, turned_lost, starts_along}
 use Rattle.nfc_base.proofs.Leading.{all_append}
 use Rattle.air_core.specs.Turn.{Air, moment, TurnIs}
 use Rattle.air_core.specs.Turning.{going_start, going_turn}
@@ -26,6 +26,7 @@ use Rattle.air_core.specs.PlainTags.{IsAlone}
 use Rattle.air_core.specs.declared.listener.Listener.{Ghosts}
 use Rattle.air_core.proofs.PlainAside.{Laws}
 use Rattle.air_core.proofs.PlainTurns.{noise_append}
+use Rattle.air_core.proofs.TableTurns.{passed_asked}
 use Rattle.air_core.proofs.LostField.{breaks-append}
 use Rattle.air_core.proofs.Quiet.{quiet_turns_to}
 use Rattle.dep_pdu.specs.declared.frame.DepFrame.TheVariants.{Nack, Attention}
@@ -33,14 +34,17 @@ use Rattle.dep_link.specs.declared.initiator.Phase.TheVariants as phases
 use Rattle.dep_link.specs.Sizes.{limit}
 use Rattle.dep_link.specs.Frames.{air_frame}
 use Rattle.dep_link.specs.Target.{TargetState, replied}
-use Rattle.dep_link.specs.Initiator.{Core, InitState, init_table, request, begun}
+use Rattle.nfc_base.specs.Pieces.{Core, pieces}
+use Rattle.dep_link.specs.Initiator.{InitState, init_table, request, begun}
 use Rattle.dep_link.specs.Payloads.{payloads}
-use Rattle.dep_link.specs.Exchange.{nfc_dep, initiator_does, frames_of, pieces, frames_back, beginning, InStep, IsCut}
+use Rattle.dep_link.specs.Exchange.{nfc_dep, initiator_does, frames_of, frames_back, beginning, InStep, IsCut}
 use Rattle.dep_link.specs.Answering.{answering, answering_air}
 use Rattle.dep_link.specs.Peers.{IsAskedFrame, IsAsked, IsShort, Hearing, IsHearing, heard_with, reached, StepsByTarget, IsPeer}
 use Rattle.dep_link.specs.Asking.{Standing, Waits, Broken, asks, goes_by, noted, stand, due_at, dep_next, AreFrames, MayReply, HasPeer, ExchangeTurns}
 use Rattle.dep_link.proofs.Wire.{is_piece}
+use Rattle.nfc_base.proofs.Chains as chain
 use Rattle.dep_link.proofs.Standing as law
+use Rattle.dep_link.proofs.Standing.{dep_ends}
 use Rattle.dep_link.proofs.Landing.{speaks_at, hands_at}
 use Rattle.dep_link.proofs.Handed.{keeps, asking_first, back_more}
 use Rattle.dep_link.proofs.Unbegun.{never_begins}
@@ -90,10 +94,10 @@ time_asked : (c : Core) (times : ℕ) (f : Signal) → f ≡ air_frame (request 
 time_asked c times f e bytes z p q = record { value = request c; asked = rw z (p, q); bytes = bytes; frame = e }
 
 module _ (m k : ℕ) (out : List ℕ) where
-  held_number : (c : Core) (t : TargetState) (g : Option (List ℕ)) (n bads : ℕ) → law.Held m k out c t g n bads → (c.number < 4) × (c.most ≤ 251)
-  held_number c t g n bads (law.of_chain h l) = (h.number, h.bounds.fits)
-  held_number c t g n bads (law.of_reply bytes h l) = (h.number, h.bounds.fits)
-  held_number c t g n bads (law.of_time z h l) = (h.number, h.bounds.fits)
+  held_number : (c : Core) (t : TargetState) (g : Option (List ℕ)) (n bads : ℕ) → chain.Held dep_ends m k out c t g n bads → (c.number < 4) × (c.most ≤ 251)
+  held_number c t g n bads (chain.of_chain h l) = (h.number, h.bounds.fits)
+  held_number c t g n bads (chain.of_reply bytes h l) = (h.number, h.bounds.fits)
+  held_number c t g n bads (chain.of_time z h l) = (h.number, h.bounds.fits)
 
   request_asked : (i : InitState) (t : TargetState) (g : Option (List ℕ)) (f : Signal) → HasBytes f → f ≡ air_frame (request i.core) → (n : ℕ) → law.Stands m k out i.core i.bads t g n → IsAsked f
   request_asked i t g f bytes e n (law.asking z h b) = plain_asked i.core f e bytes h.plain h.number h.bounds.fits
@@ -113,36 +117,19 @@ module _ (m k : ℕ) (out : List ℕ) where
   live_of i t g f n (law.nacks p e h) d = absurd (cc)
   live_of i t g f n (law.attends p e q s l) d = absurd (cc)
 
--- an answering end that isn't quiet says something
-says_some : (first : ℕ) (r : List ℕ) (t : TargetState) (d : Does Signal) → (settled (nfc_dep first) r t d).answer ≡ None → d ≡ Quiet
-says_some first r t Quiet e = refl
-says_some first r t (Reply a) e = absurd (cc)
-says_some first r t (Deliver p) e = absurd (cc)
-
 -- where a payload was handed over, the target delivered it
 delivers_some : (first : ℕ) (r : List ℕ) (t : TargetState) (d : Does Signal) (p : List ℕ) → (settled (nfc_dep first) r t d).asked ≡ Some p → d ≡ Deliver p
 delivers_some first r t Quiet p e = absurd (cc)
 delivers_some first r t (Reply a) p e = absurd (cc)
 delivers_some first r t (Deliver q) p e = (let z : q ≡ p = cc in ap Deliver z)
 
-answered_asked : (first : ℕ) (t : TargetState) (asked : Option (List ℕ)) (f : Signal) (q : Option Signal) (y : Fate) → (turns.answered (nfc_dep first) t asked f q y).asked ≡ asked
-answered_asked first t asked f None y = refl
-answered_asked first t asked f (Some a) Pass = refl
-answered_asked first t asked f (Some a) Damage = refl
-answered_asked first t asked f (Some a) Lose = refl
-answered_asked first t asked f (Some a) Break = refl
-
 turned_delivers : (first : ℕ) (r : List ℕ) (t : TargetState) (f : Signal) (x y : Fate) (p : List ℕ) → (turned (nfc_dep first) r t f x y).asked ≡ Some p → (nfc_dep first).does t f ≡ Deliver p
 turned_delivers first r t f Pass y p e =
     delivers_some first r ((nfc_dep first).heard t f) ((nfc_dep first).does t f) p
-    (sym (answered_asked first (step (nfc_dep first) r t f).state (step (nfc_dep first) r t f).asked f (step (nfc_dep first) r t f).answer y) ∙ e)
+    (sym (passed_asked (nfc_dep first) (step (nfc_dep first) r t f).state (step (nfc_dep first) r t f).asked f (step (nfc_dep first) r t f).answer y) ∙ e)
 turned_delivers first r t f Damage y p e = absurd (cc)
 turned_delivers first r t f Lose y p e = absurd (cc)
 turned_delivers first r t f Break y p e = absurd (cc)
-
-positive : (n : ℕ) → (n ≡ 0 → ⊥) → 0 < n
-positive zero p = absurd (p refl)
-positive (suc n) p = omega arith
 
 -- frames of bytes, one stretch after another
 frames_append : (a b : List Event) → AreFrames a → AreFrames b → AreFrames (a ++ b)
@@ -175,39 +162,6 @@ framed_more : (base mid new xs ys : List Event) → mid ≡ base ++ xs → new �
 framed_more base mid new xs ys e1 e2 before more es e =
     let same : es ≡ xs ++ ys = append_cancel_left base es (xs ++ ys) (sym e ∙ e2 ∙ ap (λ (zs : List Event). zs ++ ys) e1 ∙ append_assoc base xs ys) in
     subst AreFrames (sym same) (frames_append xs ys (before xs e1) more)
-
--- what didn't pass in a turn didn't pass in all of them
-noise_later : (base xs ys zs : List Event) (mid new : List Event) → mid ≡ base ++ xs → new ≡ mid ++ ys → new ≡ base ++ zs → 0 < noise ys → 0 < noise zs
-noise_later base xs ys zs mid new e1 e2 e3 h =
-    let q : base ++ zs ≡ base ++ (xs ++ ys) = sym e3 ∙ e2 ∙ ap (λ (es : List Event). es ++ ys) e1 ∙ append_assoc base xs ys in
-    let same : zs ≡ xs ++ ys = append_cancel_left base zs (xs ++ ys) q in
-    let sum : noise (xs ++ ys) ≡ noise xs + noise ys = noise_append xs ys in
-    let all : noise zs ≡ noise (xs ++ ys) = ap noise same in
-    omega (arith, sum, all, h)
-
--- what lost the field in a turn lost it in all of them
-breaks_later : (base xs ys zs : List Event) (mid new : List Event) → mid ≡ base ++ xs → new ≡ mid ++ ys → new ≡ base ++ zs → 0 < breaks ys → 0 < breaks zs
-breaks_later base xs ys zs mid new e1 e2 e3 h =
-    let q : base ++ zs ≡ base ++ (xs ++ ys) = sym e3 ∙ e2 ∙ ap (λ (es : List Event). es ++ ys) e1 ∙ append_assoc base xs ys in
-    let same : zs ≡ xs ++ ys = append_cancel_left base zs (xs ++ ys) q in
-    let sum : breaks (xs ++ ys) ≡ breaks xs + breaks ys = breaks-append xs ys in
-    let all : breaks zs ≡ breaks (xs ++ ys) = ap breaks same in
-    omega (arith, sum, all, h)
-
--- a turn of which nothing was heard, since it lost the field
-answered_lost : (first : ℕ) (t : TargetState) (asked : Option (List ℕ)) (f : Signal) (q : Option Signal) (y : Fate) → None ≡ heard_in (turns.answered (nfc_dep first) t asked f q y).heard
-    → 0 < breaks (turns.answered (nfc_dep first) t asked f q y).events
-answered_lost first t asked f None y e = absurd cc
-answered_lost first t asked f (Some a) Pass e = absurd cc
-answered_lost first t asked f (Some a) Damage e = absurd cc
-answered_lost first t asked f (Some a) Lose e = absurd cc
-answered_lost first t asked f (Some a) Break e = omega arith
-
-turned_lost : (first : ℕ) (r : List ℕ) (t : TargetState) (f : Signal) (x y : Fate) → None ≡ heard_in (turned (nfc_dep first) r t f x y).heard → 0 < breaks (turned (nfc_dep first) r t f x y).events
-turned_lost first r t f Pass y e = answered_lost first (step (nfc_dep first) r t f).state (step (nfc_dep first) r t f).asked f (step (nfc_dep first) r t f).answer y e
-turned_lost first r t f Damage y e = absurd cc
-turned_lost first r t f Lose y e = absurd cc
-turned_lost first r t f Break y e = omega arith
 
 -- where all of what was added to a trace passed, no reception in it was bad
 abbrev pub Calm : List Event → List Event → Type 0
@@ -328,23 +282,11 @@ module _ {L : Type 0} (k : Ghosts L) (laws : Laws k) where
             selected = selected;
             lit = lit;
             said = None;
-            along = record {
-              world = beginning i0 (target begin) handed arrived out;
-              asking = refl;
-              answering = refl;
-              stage_is = refl;
-              inv = (
-                2 * pieces i0.core.most out,
-                law.asks refl refl (law.asking (omega arith) (asking_first i0 (target begin) out short s) (omega arith)),
-                record { once = sym (append-nil handed); reply = tt; stood = cut; bound = omega arith },
-              );
-              added = [];
-              events = sym (append-nil old.trace);
-              arrives = append-nil arrived;
-              sent = refl;
-              bads = refl;
-              given = refl;
-            };
+            along = starts_along (nfc_dep first) handed out The (2 * pieces i0.core.most out) (Replying F) (says steps) arrived old.trace (saying far0 None) (beginning i0 (target begin) handed arrived out) (
+              2 * pieces i0.core.most out,
+              law.asks refl refl (law.asking (omega arith) (asking_first i0 (target begin) out short s) (omega arith)),
+              record { once = sym (append-nil handed); reply = tt; stood = cut; bound = omega arith },
+            ) refl refl refl refl;
             frames = framed_first old.trace;
             calm = calm_first old.trace;
             notes = [];
@@ -453,14 +395,14 @@ module _ {L : Type 0} (k : Ghosts L) (laws : Laws k) where
           -- the target says something
           speaks : (step (nfc_dep first) t.turn.reply (target last) f).answer ≡ None → ⊥
           speaks e =
-              let d : (nfc_dep first).does (target last) f ≡ Quiet = says_some first t.turn.reply ((nfc_dep first).heard (target last) f) ((nfc_dep first).does (target last) f) e in
+              let d : (nfc_dep first).does (target last) f ≡ Quiet = says_some (nfc_dep first) t.turn.reply ((nfc_dep first).heard (target last) f) ((nfc_dep first).does (target last) f) e in
               speaks_at first (target begin).most (target begin).busy out o.along.world.asking o.along.world.answering o.along.world.given f now.0 now.1
               (subst (λ (x : TargetState). (nfc_dep first).does x f ≡ Quiet) (sym o.along.answering) d)
 
           -- where no whole frame is heard something didn't pass
           pub noisy : ((g : Signal) → h ≡ Some (heards.Whole g) → ⊥) → (zs : List Event) → new.trace ≡ old.trace ++ zs → 0 < noise zs
           noisy never zs e =
-              noise_later old.trace o.along.added turn_is.events zs mid.trace new.trace o.along.events t.turn.events e (positive (noise turn_is.events) (λ z. go (t.calm z)))
+              counted_later noise noise_append old.trace o.along.added turn_is.events zs mid.trace new.trace o.along.events t.turn.events e (positive (noise turn_is.events) (λ z. go (t.calm z)))
             where
               go : ((step (nfc_dep first) t.turn.reply (target last) f).answer ≡ None) ⊎ ((g : Signal) × (h ≡ Some (heards.Whole g))) → ⊥
               go (inl q) = speaks q
@@ -469,8 +411,8 @@ module _ {L : Type 0} (k : Ghosts L) (laws : Laws k) where
           -- where the field was lost a transmission lost it
           pub broken : None ≡ h → (zs : List Event) → new.trace ≡ old.trace ++ zs → 0 < breaks zs
           broken none zs e =
-              breaks_later old.trace o.along.added turn_is.events zs mid.trace new.trace o.along.events t.turn.events e
-              (turned_lost first t.turn.reply (target last) f t.turn.first t.turn.second (none ∙ t.turn.heard_is))
+              counted_later breaks breaks-append old.trace o.along.added turn_is.events zs mid.trace new.trace o.along.events t.turn.events e
+              (turned_lost (nfc_dep first) t.turn.reply (target last) f t.turn.first t.turn.second (none ∙ t.turn.heard_is))
 
           -- where all passed until then, no reception was bad
           whole_calm : (g : Signal) → Some (heards.Whole g) ≡ heard_in turn_is.heard → Calm old.trace new.trace

@@ -24,7 +24,8 @@ use Rattle.dep_link.specs.Frames.{air_frame}
 use Rattle.dep_link.specs.Target.{TargetState}
 use Rattle.dep_link.specs.Initiator.{InitState, init_table, request, begun}
 use Rattle.dep_link.specs.Payloads.{payloads}
-use Rattle.dep_link.specs.Exchange.{InStep, IsCut, frames_of, pieces, frames_back}
+use Rattle.nfc_base.specs.Pieces.{pieces}
+use Rattle.dep_link.specs.Exchange.{InStep, IsCut, frames_of, frames_back}
 use Rattle.dep_link.specs.Answering.{answering_air}
 use Rattle.dep_link.specs.Peers.{IsPeer}
 use Rattle.dep_link.specs.Stopping.{HeardUpTo}

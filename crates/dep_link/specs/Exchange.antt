@@ -1,8 +1,9 @@
 -- Both ends of NFC-DEP as a link that stops and waits (NFCIP-1, ISO/IEC 18092; NFC Forum Digital Protocol): their tables on the
 -- air, how one exchange begins, and in how many frames its payload and its reply are sent.
-use Rattle.std.specs.Prelude.{◌≡◌, ℕ, ◌+◌, ◌-◌, ◌/◌, ◌<◌, ◌≤◌, false, List, [], ◌∷◌, length, Option, Some, None}
+use Rattle.std.specs.Prelude.{◌≡◌, ℕ, ◌+◌, ◌<◌, ◌≤◌, false, List, [], ◌∷◌, length, Option, Some, None}
 use Rattle.nfc_base.specs.Signal.{Signal}
-use Rattle.nfc_base.specs.StopAndWait.{Does, Quiet, Reply, Deliver, Finished, SixBad, Protocol, Next, Send, Ends, StopAndWait, Requests, World, Once, IsReplyTo, run}
+use Rattle.nfc_base.specs.StopAndWait.{Does, Quiet, Reply, Deliver, Finished, SixBad, Protocol, Next, Send, Ends, StopAndWait, World, Once, IsReplyTo, run}
+use Rattle.nfc_base.specs.Sessions.{opening}
 use Rattle.nfc_base.specs.LinkTurns.{heard_of}
 use Rattle.dep_pdu.specs.declared.frame.DepFrame.{DepFrame}
 use Rattle.dep_link.specs.declared.target.TargetStep.{TargetStep}
@@ -12,8 +13,9 @@ use Rattle.dep_link.specs.declared.initiator.InitStep.TheVariants as initiator
 use Rattle.nfc_base.specs.declared.event.Fate.{Fate}
 use Rattle.dep_link.specs.Sizes.{limit}
 use Rattle.dep_link.specs.Frames.{air_frame, spelled}
-use Rattle.dep_link.specs.Target.{TargetState, target_table, replied, reply_frame, darkened, most_busy}
-use Rattle.dep_link.specs.Initiator.{InitState, init_table, begun, request, longest_extension}
+use Rattle.nfc_base.specs.Pieces.{pieces, most_busy, longest_extension}
+use Rattle.dep_link.specs.Target.{TargetState, target_table, replied, reply_frame, darkened}
+use Rattle.dep_link.specs.Initiator.{InitState, init_table, begun, request}
 use Rattle.dep_link.specs.Payloads.{begins, cut_by, payloads}
 
 -- The steps of both ends, in the words of such a link. No exchange has an ATR_REQ: at one a target answers and delivers nothing.
@@ -57,10 +59,6 @@ nfc_dep first = record {
 abbrev pub Exchange : Type 0
 Exchange = World InitState TargetState Signal
 
--- how many frames some bytes take, by the most content of each
-abbrev pub pieces : ℕ → List ℕ → ℕ
-pieces most xs = 1 + (length xs - 1) / most
-
 -- Between two exchanges both ends are in step: the target expects the initiator's PNI, has no piece of a payload, and no
 -- byte and no piece of a reply that isn't sent, and each cuts what it sends into pieces that a frame holds. How much
 -- more time the target asks for is in its range.
@@ -86,17 +84,11 @@ IsReady first w = InStep w.asking w.answering × IsCut first w.answering w.deliv
 
 -- an exchange of this payload begins, behind those in which the target was handed these and heard these frames
 abbrev pub beginning : InitState → TargetState → List (List ℕ) → List Signal → List ℕ → Exchange
-beginning i t handed arrived out =
-    record {
-      asking = begun i out;
-      answering = t;
-      stage = Requests (air_frame (request (begun i out).core));
-      given = None;
-      delivered = handed;
-      arrived = arrived;
-      sent = 0;
-      bads = 0;
-    }
+beginning i t handed arrived out = opening (begun i out) t handed arrived (air_frame (request (begun i out).core))
+
+-- the exchange of a payload begins, from where the one before it ended
+abbrev pub next_exchange : Exchange → List ℕ → Exchange
+next_exchange w out = beginning w.asking w.answering w.delivered w.arrived out
 
 -- how many frames a target takes for a reply: its time extensions, and then the pieces
 abbrev pub frames_back : TargetState → List ℕ → ℕ

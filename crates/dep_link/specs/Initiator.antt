@@ -1,7 +1,7 @@
 -- The initiator's end of NFC-DEP (NFCIP-1, ISO/IEC 18092; NFC Forum Digital Protocol): what it sends next, or how the
 -- exchange ends, by what it sent last and what it heard. The six receptions, the 16 time extensions, the 2,178 bytes, and
 -- attention after a damaged answer to an attention are this project's own.
-use Rattle.std.specs.Prelude.{◌≡◌, ℕ, ◌+◌, ◌<◌, ◌≤◌, ◌==◌, nat_lt, Bool, true, false, not, List, [], ◌++◌, length, drop, Option, Some, None, if◌then◌else◌, IfSome}
+use Rattle.std.specs.Prelude.{◌≡◌, ℕ, ◌+◌, ◌<◌, ◌≤◌, ◌==◌, nat_lt, Bool, true, false, List, [], ◌++◌, length, drop, Option, Some, None, if◌then◌else◌, IfSome}
 use Rattle.nfc_base.specs.Signal.{Signal}
 use Rattle.nfc_base.specs.declared.event.Heard.{Heard}
 use Rattle.nfc_base.specs.declared.event.Heard.TheVariants.{Whole, Collided, Damaged, Silent}
@@ -13,20 +13,9 @@ use Rattle.dep_link.specs.declared.initiator.InitKind.{InitKind}
 use Rattle.dep_link.specs.declared.initiator.InitKind.TheVariants as kinds
 use Rattle.dep_link.specs.declared.initiator.InitStep.{InitStep}
 use Rattle.dep_link.specs.declared.initiator.InitStep.TheVariants as steps
+use Rattle.nfc_base.specs.Pieces.{Core, most_bads, most_extensions, longest_extension, quiet_core, begun_core, turned, more_follows, is_refused, may_extend}
 use Rattle.dep_link.specs.Sizes.{piece_size, limit}
 use Rattle.dep_link.specs.Frames.{air_frame, spelled, IsSpelled, after, piece}
-
--- Where an exchange stands: the PNI, the most content of a frame that the target takes, the bytes of the payload that
--- aren't acknowledged, whether the reply is coming in a chain, the reply so far, the time extension that is being granted,
--- and how many were granted in this wait.
-pub record Core : Type 0 where
-  pub number : ℕ
-  pub most : ℕ
-  pub rest : List ℕ
-  pub drawing : Bool
-  pub got : List ℕ
-  pub extension : Option ℕ
-  pub granted : ℕ
 
 -- An initiator: that, what it sent last or how its exchange ended, the bad receptions of this wait, and the payload with
 -- which it began last.
@@ -35,13 +24,6 @@ pub record InitState : Type 0 where
   pub phase : Phase
   pub bads : ℕ
   pub out : Option (List ℕ)
-
--- the most time extensions that are granted in a wait, and the longest
-abbrev pub most_extensions : ℕ
-most_extensions = 16
-
-abbrev pub longest_extension : ℕ
-longest_extension = 59
 
 -- What an initiator keeps: its parts are in the ranges of the frames that it sends.
 pub record IsInitiator (number most at : ℕ) (payload : List ℕ) (extension : Option ℕ) (granted bads : ℕ) : Type 0 where
@@ -90,10 +72,6 @@ sends i c phase bads = record { state = record i { core = c; phase = phase; bads
 abbrev pub refuses : InitState → InitMove
 refuses i = record { state = record i { phase = EndedProtocol }; does = Refuses }
 
--- the most bad receptions of a wait that goes on
-abbrev pub most_bads : ℕ
-most_bads = 5
-
 -- a bad reception, after which this is sent
 abbrev pub bad : InitState → Phase → InitMove
 bad i phase =
@@ -101,39 +79,24 @@ bad i phase =
     then sends i i.core phase (i.bads + 1)
     else record { state = record i { phase = EndedSixBad }; does = GivesUp }
 
--- a core whose wait ended: the next PNI, and no time was granted yet
-abbrev pub turned : Core → List ℕ → Bool → List ℕ → Core
-turned c rest drawing got =
-    record c { number = after c.number; rest = rest; drawing = drawing; got = got; extension = None; granted = 0 }
-
 -- a piece of the reply was taken, with which it is xs
 abbrev pub received : InitState → Bool → List ℕ → InitMove
-received i true xs = sends i (turned i.core [] true xs) Asked 0
-received i false xs = record { state = record i { core = turned i.core [] false []; phase = Free; bads = 0 }; does = Gives xs }
-
--- whether pieces of the payload follow the one that is under way
-abbrev pub more_follows : Core → Bool
-more_follows c = if c.drawing then false else nat_lt c.most (length c.rest)
-
--- A piece is refused that makes the reply too long, or has no content and more pieces behind it.
-abbrev pub is_refused : Bool → List ℕ → List ℕ → Bool
-is_refused more xs all = if nat_lt limit (length all) then true else (if more then not (nat_lt 0 (length xs)) else false)
+received i true xs = sends i (turned i.core (after i.core.number) [] true xs) Asked 0
+received i false xs =
+    record {
+      state = record i { core = turned i.core (after i.core.number) [] false []; phase = Free; bads = 0 };
+      does = Gives xs;
+    }
 
 abbrev pub acked : InitState → ℕ → InitMove
 acked i pni =
     if (if more_follows i.core then pni == i.core.number else false)
-    then sends i (turned i.core (drop i.core.most i.core.rest) false i.core.got) Asked 0
+    then sends i (turned i.core (after i.core.number) (drop i.core.most i.core.rest) false i.core.got) Asked 0
     else refuses i
 
 abbrev pub brought : InitState → Bool → List ℕ → InitMove
-brought i more xs = if is_refused more xs (i.core.got ++ xs) then refuses i else received i more (i.core.got ++ xs)
-
--- Time may be asked for by this value: no piece of the payload follows, no piece of the reply came, and not too often.
-abbrev pub may_extend : Core → ℕ → Bool
-may_extend c times =
-    if c.drawing then false
-    else (if more_follows c then false
-    else (if nat_lt 0 times then (if nat_lt longest_extension times then false else nat_lt c.granted most_extensions) else false))
+brought i more xs =
+    if is_refused limit more xs (i.core.got ++ xs) then refuses i else received i more (i.core.got ++ xs)
 
 abbrev pub extended : InitState → ℕ → InitMove
 extended i times =
@@ -212,23 +175,11 @@ init_table i h = framed (heard_next i h)
 
 -- an initiator that begins with a payload
 abbrev pub begun : InitState → List ℕ → InitState
-begun i out =
-    record {
-      core = record i.core { rest = out; drawing = false; got = []; extension = None; granted = 0 };
-      phase = Asked;
-      bads = 0;
-      out = Some out;
-    }
+begun i out = record { core = begun_core i.core out; phase = Asked; bads = 0; out = Some out }
 
 -- an initiator that knows a target's LR code, and sent nothing
 abbrev pub waiting : ℕ → InitState
-waiting code =
-    record {
-      core = record { number = 0; most = piece_size code; rest = []; drawing = false; got = []; extension = None; granted = 0 };
-      phase = Free;
-      bads = 0;
-      out = None;
-    }
+waiting code = record { core = quiet_core (piece_size code); phase = Free; bads = 0; out = None }
 
 -- a step whose frame stands in the place that it was given
 abbrev pub init_step_at : InitKind → Signal → InitStep

@@ -4,7 +4,6 @@ pub mod Target
 pub mod Initiator
 pub mod Payloads
 pub mod Exchange
-pub mod Falling
 pub mod Sessions
 pub mod Answering
 pub mod Peers

@@ -225,10 +225,6 @@ darkened t = restarted t initiator_lr
 abbrev pub made_busy : TargetState → ℕ → ℕ → TargetState
 made_busy t count times = record t { busy = count; times = times }
 
--- the most often that a target asks for more time before a reply
-abbrev pub most_busy : ℕ
-most_busy = 5
-
 -- a step whose answer stands in the place that it was given
 abbrev pub target_step_at : TargetKind → Signal → TargetStep
 target_step_at kinds.Quiet f = steps.Quiet

@@ -4,7 +4,8 @@ ghost use Rattle.std.specs.Prelude.{◌≡◌, ◌<◌, ◌≤◌, length, None}
 ghost use Rattle.dep_pdu.specs.Spelling.{IsDepFrame};
 ghost use Rattle.dep_link.specs.Frames.{air_frame, spelled, IsSpelled};
 ghost use Rattle.dep_link.specs.DepLinks.{over_at};
-ghost use Rattle.dep_link.specs.Initiator.{InitTurn, init_table, framed, sends, refuses, bad, acked, brought, answered, attended, waited, attending, request, more_follows, may_extend, extended, begun, waiting, IsSent, init_step_at};
+ghost use Rattle.nfc_base.specs.Pieces.{more_follows, may_extend};
+ghost use Rattle.dep_link.specs.Initiator.{InitTurn, init_table, framed, sends, refuses, bad, acked, brought, answered, attended, waited, attending, request, extended, begun, waiting, IsSent, init_step_at};
 
 use crate::frames::{after, air_frame, piece, piece_size, put_frame, spelled};
 use arrayvec::ArrayVec;

@@ -1,18 +1,21 @@
 //! What the tables of both ends keep together, over any air. The calls do nothing: they stand for these laws.
 
+ghost use Rattle.std.specs.Prelude.{ℕ};
+ghost use Rattle.nfc_base.specs.Sessions.{SessionDelivers, SessionBrings, SessionReplies};
+ghost use Rattle.dep_link.specs.Sizes.{limit};
 ghost use Rattle.dep_link.specs.Target.{DeliversAnew};
 ghost use Rattle.dep_link.specs.Initiator.{FaultsStay};
-ghost use Rattle.dep_link.specs.Exchange.{HandsOnce};
+ghost use Rattle.dep_link.specs.Exchange.{nfc_dep, IsReady, next_exchange, HandsOnce};
 ghost use Rattle.dep_link.specs.Replies.{HeardReplies};
-ghost use Rattle.dep_link.specs.Sessions.{SessionHands, SessionBrings, SessionReplies, ActivatedReady, ActivatedHands};
+ghost use Rattle.dep_link.specs.Sessions.{ActivatedReady, ActivatedHands};
 
 /// A payload is handed over at most once, and exactly once where the initiator has its reply: in one exchange, and in
 /// exchanges one after another.
 pub fn handed_once()
     ensures exchange { HandsOnce }
-    ensures session { SessionHands }
-    ensures brings { SessionBrings }
-    ensures replies { SessionReplies }
+    ensures session { (first : ℕ) → SessionDelivers (nfc_dep first) next_exchange (IsReady first) limit }
+    ensures brings { (first : ℕ) → SessionBrings (nfc_dep first) next_exchange (IsReady first) limit }
+    ensures replies { (first : ℕ) → SessionReplies (nfc_dep first) next_exchange (IsReady first) limit }
     ensures ready { ActivatedReady }
     ensures activated { ActivatedHands }
 {}

@@ -1,16 +1,14 @@
 -- A reader that asks a command of a Type 4 tag keeps the law of the exchange, turn by turn.
-use Rattle.std.proofs.Common.{◌≡◌, ℕ, zero, suc, ◌+◌, ◌-◌, ◌*◌, ◌<◌, ◌≤◌, ◌⊎◌, inl, inr, List, [], ◌∷◌, ◌++◌, length, slice_index, map, Bool, true, false, Option, Some, None, Ok, Err, refl, sym, ◌∙◌, ap, subst, arith, append_assoc, append-nil}
+use Rattle.std.proofs.Common.{◌≡◌, ℕ, ◌+◌, ◌-◌, ◌*◌, ◌<◌, ◌≤◌, ◌⊎◌, inl, inr, List, [], ◌∷◌, ◌++◌, length, slice_index, map, Bool, true, false, Option, Some, None, Ok, Err, refl, sym, ◌∙◌, ap, subst, arith, append_assoc, append-nil}
 use Rattle.std.specs.List.{AllByRecursion}
 use Rattle.nfc_base.specs.Signal.{Signal, whole_a}
 use Rattle.nfc_base.specs.TagLinks.{TagState, TagStep, passed}
 use Rattle.nfc_base.specs.Trace.{noise, breaks}
-use Rattle.nfc_base.specs.StopAndWait.{Does, Quiet, Reply, Deliver, Hears, Finished, SixBad, Protocol, Stage, Requests, Over, Dark, stage_of, World, Once, IsEnding, delivered_of, pieces_back}
+use Rattle.nfc_base.specs.StopAndWait.{Quiet, Hears, Finished, SixBad, Protocol, Stage, Requests, Over, Dark, stage_of, World, Once, IsEnding, delivered_of, pieces_back}
 use Rattle.nfc_base.specs.LinkTurns.{heard_of, heard_in, settled, IsTurn, GivenBy}
 use Rattle.nfc_base.specs.LinkTurns as turns
 use Rattle.nfc_base.proofs.ExactlyOnce.{IsReady, kept_once}
 use Rattle.nfc_base.specs.declared.event.Event.{Event}
-use Rattle.nfc_base.specs.declared.event.Fate.{Fate}
-use Rattle.nfc_base.specs.declared.event.Fate.TheVariants.{Pass, Damage, Lose, Break}
 use Rattle.nfc_base.specs.declared.event.Heard.{Heard}
 use Rattle.nfc_base.specs.declared.event.Heard.TheVariants as heards
 use Rattle.std.proofs.lemmas.List.{append_cancel_left}
@@ -18,12 +16,12 @@ use Rattle.air_core.proofs.PlainTurns.{noise_append}
 use Rattle.air_core.proofs.LostField.{breaks-append}
 use Rattle.isodep_link.specs.declared.reader.Phase.TheVariants as phases
 use Rattle.isodep_link.proofs.Landing.{speaks_at, is_extension}
-use Rattle.isodep_link.proofs.Ended.{whole_not_six}
+use Rattle.isodep_link.proofs.Moves.{whole_not_six}
 use Rattle.nfc_base.specs.declared.tag_link.AskFault.TheVariants.{FieldLost}
 use Rattle.nfc_base.specs.declared.tag_link.AskFault.TheVariants as ask
 use Rattle.air_core.specs.declared.fault.AirFault.TheVariants as air
 use Rattle.nfc_base.proofs.Leading.{all_append}
-use Rattle.nfc_base.proofs.LinkTurns.{arrived_append, J, Along, Onward, goes_along, next_asking, next_stage}
+use Rattle.nfc_base.proofs.LinkTurns.{arrived_append, counted_later, positive, says_some, turned_lost, J, Along, Onward, goes_along, starts_along, next_asking, next_stage}
 use Rattle.air_core.specs.World.{quiet_air}
 use Rattle.air_core.specs.World as worlds
 use Rattle.air_core.specs.PlainLinks.{Follows, stores_after}
@@ -43,13 +41,16 @@ use Rattle.isodep_link.specs.Sizes.{limit}
 use Rattle.isodep_link.specs.Card.{CardState}
 use Rattle.isodep_link.specs.declared.reader.ReaderStep.{ReaderStep}
 use Rattle.isodep_link.specs.declared.reader.ReaderStep.TheVariants as step
-use Rattle.isodep_link.specs.Reader.{Core, ReaderState, ReaderTurn, reader_table, request, begun}
+use Rattle.nfc_base.specs.Pieces.{Core, pieces}
+use Rattle.isodep_link.specs.Reader.{ReaderState, ReaderTurn, reader_table, request, begun}
 use Rattle.isodep_link.specs.Commands.{iso_commands}
-use Rattle.isodep_link.specs.Exchange.{iso_dep, blocks_of, pieces, blocks_back, reader_does, beginning, InStep, IsCut}
+use Rattle.isodep_link.specs.Exchange.{iso_dep, blocks_of, blocks_back, reader_does, beginning, InStep, IsCut}
 use Rattle.isodep_link.specs.CardTags.{IsAskedFrame, IsAskedBlock, TagDoes, IsShort, StepsByCard, IsCardTag}
 use Rattle.isodep_link.specs.Asking.{IsoStanding, Waits, Rests, Broken, asks, goes_by, noted, stand, due_at, iso_next, HasCardTag, IsAfter, CommandTurns, EndsBy}
 use Rattle.isodep_link.proofs.Wire.{is_piece}
+use Rattle.nfc_base.proofs.Chains as chain
 use Rattle.isodep_link.proofs.Standing as law
+use Rattle.isodep_link.proofs.Standing.{iso_ends}
 use Rattle.isodep_link.proofs.Obeyed.{keeps, asking_first}
 use Rattle.isodep_link.proofs.Images.{after_it, Stores, images_grow, commands_grow, given_stays}
 use Rattle.isodep_link.proofs.CardTurns.{Holds, Shows, CardTurn, card_turn, quiet_asked}
@@ -71,10 +72,10 @@ request_asked c f z e bytes p q = record { block = request c; asked = go c.drawi
     go true e = rw (z, e) p
     go false e = rw (z, e) (is_piece c.most c.number c.rest p q)
 
-held_number : (m j : ℕ) (out : List ℕ) (c : Core) (t : CardState) (g : Option (List ℕ)) (n bads : ℕ) → law.Held m j out c t g n bads → (c.number < 2) × (c.most ≤ 253)
-held_number m j out c t g n bads (law.of_chain h l) = (h.number, h.bounds.fits)
-held_number m j out c t g n bads (law.of_answer bytes h l) = (h.number, h.bounds.fits)
-held_number m j out c t g n bads (law.of_time z h l) = (h.number, h.bounds.fits)
+held_number : (m j : ℕ) (out : List ℕ) (c : Core) (t : CardState) (g : Option (List ℕ)) (n bads : ℕ) → chain.Held iso_ends m j out c t g n bads → (c.number < 2) × (c.most ≤ 253)
+held_number m j out c t g n bads (chain.of_chain h l) = (h.number, h.bounds.fits)
+held_number m j out c t g n bads (chain.of_reply bytes h l) = (h.number, h.bounds.fits)
+held_number m j out c t g n bads (chain.of_time z h l) = (h.number, h.bounds.fits)
 
 asked_frame : (m j : ℕ) (out : List ℕ) (i : ReaderState) (t : CardState) (g : Option (List ℕ)) (f : Signal) → HasBytes f → (n : ℕ) → law.Ask m j out i t g f n → IsAskedFrame f
 asked_frame m j out i t g f bytes n (law.asks p e z h b) = request_asked i.core f h.plain e bytes h.number h.bounds.fits
@@ -91,49 +92,6 @@ live_of m j out i t g f n (law.draws_again p e d w h) = inl p
 live_of m j out i t g f n (law.naks p e z h b) = inr p
 live_of m j out i t g f n (law.naks_held p e d h) = inr p
 live_of m j out i t g f n (law.grants p e w z h b) = inl p
-
--- an answering end that isn't quiet says something
-says_some : (r : List ℕ) (t : CardState) (d : Does Signal) → (settled iso_dep r t d).answer ≡ None → d ≡ Quiet
-says_some r t Quiet e = refl
-says_some r t (Reply a) e = absurd (cc)
-says_some r t (Deliver p) e = absurd (cc)
-
-positive : (n : ℕ) → (n ≡ 0 → ⊥) → 0 < n
-positive zero p = absurd (p refl)
-positive (suc n) p = omega arith
-
--- what didn't pass in a turn didn't pass in all of them
-noise_later : (base xs ys zs : List Event) (mid new : List Event) → mid ≡ base ++ xs → new ≡ mid ++ ys → new ≡ base ++ zs → 0 < noise ys → 0 < noise zs
-noise_later base xs ys zs mid new e1 e2 e3 h =
-    let q : base ++ zs ≡ base ++ (xs ++ ys) = sym e3 ∙ e2 ∙ ap (λ (es : List Event). es ++ ys) e1 ∙ append_assoc base xs ys in
-    let same : zs ≡ xs ++ ys = append_cancel_left base zs (xs ++ ys) q in
-    let sum : noise (xs ++ ys) ≡ noise xs + noise ys = noise_append xs ys in
-    let all : noise zs ≡ noise (xs ++ ys) = ap noise same in
-    omega (arith, sum, all, h)
-
--- what lost the field in a turn lost it in all of them
-breaks_later : (base xs ys zs : List Event) (mid new : List Event) → mid ≡ base ++ xs → new ≡ mid ++ ys → new ≡ base ++ zs → 0 < breaks ys → 0 < breaks zs
-breaks_later base xs ys zs mid new e1 e2 e3 h =
-    let q : base ++ zs ≡ base ++ (xs ++ ys) = sym e3 ∙ e2 ∙ ap (λ (es : List Event). es ++ ys) e1 ∙ append_assoc base xs ys in
-    let same : zs ≡ xs ++ ys = append_cancel_left base zs (xs ++ ys) q in
-    let sum : breaks (xs ++ ys) ≡ breaks xs + breaks ys = breaks-append xs ys in
-    let all : breaks zs ≡ breaks (xs ++ ys) = ap breaks same in
-    omega (arith, sum, all, h)
-
--- a turn of which nothing was heard, since it lost the field
-answered_lost : (t : CardState) (asked : Option (List ℕ)) (f : Signal) (q : Option Signal) (y : Fate) → None ≡ heard_in (turns.answered iso_dep t asked f q y).heard
-    → 0 < breaks (turns.answered iso_dep t asked f q y).events
-answered_lost t asked f None y e = absurd cc
-answered_lost t asked f (Some a) Pass e = absurd cc
-answered_lost t asked f (Some a) Damage e = absurd cc
-answered_lost t asked f (Some a) Lose e = absurd cc
-answered_lost t asked f (Some a) Break e = omega arith
-
-turned_lost : (r : List ℕ) (t : CardState) (f : Signal) (x y : Fate) → None ≡ heard_in (turns.turned iso_dep r t f x y).heard → 0 < breaks (turns.turned iso_dep r t f x y).events
-turned_lost r t f Pass y e = answered_lost (turns.step iso_dep r t f).state (turns.step iso_dep r t f).asked f (turns.step iso_dep r t f).answer y e
-turned_lost r t f Damage y e = absurd cc
-turned_lost r t f Lose y e = absurd cc
-turned_lost r t f Break y e = omega arith
 
 module _ {L : Type 0} (k : Ghosts L) (card : L → CardState) (tag : L → TagState) (begin : L) (i0 : ReaderState) (commands : List (List ℕ)) (arrived : List Signal) (command : List ℕ) where
   -- how the exchange stands
@@ -223,23 +181,12 @@ module _ {L : Type 0} (k : Ghosts L) (laws : Laws k) where
             selected = selected;
             lit = refl;
             dim = λ e. refl;
-            along = record {
-              world = beginning i0 (card begin) commands arrived command;
-              asking = refl;
-              answering = refl;
-              stage_is = refl;
-              inv = (
-                2 * pieces i0.core.most command,
-                law.asks refl refl (omega arith) (asking_first i0 (card begin) command short s) (omega arith),
-                record { once = sym (append-nil commands); reply = tt; stood = cut; bound = omega arith },
-              );
-              added = [];
-              events = sym (append-nil old.trace);
-              arrives = append-nil arrived;
-              sent = refl;
-              bads = refl;
-              given = refl;
-            };
+            along = starts_along iso_dep commands command (keeps (card begin).most (card begin).busy command) (2 * pieces i0.core.most command) TagState (TagDoes (k.commands begin)) arrived old.trace (tag begin)
+                (beginning i0 (card begin) commands arrived command) (
+                  2 * pieces i0.core.most command,
+                  law.asks refl refl (omega arith) (asking_first i0 (card begin) command short s) (omega arith),
+                  record { once = sym (append-nil commands); reply = tt; stood = cut; bound = omega arith },
+                ) refl refl refl refl;
             seen = [];
             seen_is = sym (append-nil old.trace);
             images = tt;
@@ -298,7 +245,7 @@ module _ {L : Type 0} (k : Ghosts L) (laws : Laws k) where
           speaks e =
               let j = subst (λ (x : Stage Signal). J iso_dep commands command (keeps (card begin).most (card begin).busy command) (2 * pieces i0.core.most command) o.along.world x) o.along.stage_is o.along.inv in
               let s : StepsByCard k card tag last f = last_tag.steps [] tt f is_asked in
-              let d : iso_dep.does (card last) f ≡ Quiet = says_some s.reply (iso_dep.heard (card last) f) (iso_dep.does (card last) f) (sym s.answer ∙ e) in
+              let d : iso_dep.does (card last) f ≡ Quiet = says_some iso_dep s.reply (iso_dep.heard (card last) f) (iso_dep.does (card last) f) (sym s.answer ∙ e) in
               speaks_at (card begin).most (card begin).busy command o.along.world.asking o.along.world.answering o.along.world.given f j.0 j.1 (subst (λ (x : CardState). iso_dep.does x f ≡ Quiet) (sym o.along.answering) d)
 
           live : (i.phase ≡ phases.Asked) ⊎ (i.phase ≡ phases.Nacked)
@@ -316,13 +263,13 @@ module _ {L : Type 0} (k : Ghosts L) (laws : Laws k) where
 
           -- where no whole frame is heard something didn't pass, since the reader's trace began
           pub noisy : ((g : Signal) → h ≡ Some (heards.Whole g) → ⊥) → (zs : List Event) → new.trace ≡ old.trace ++ zs → 0 < noise zs
-          noisy never zs e = noise_later old.trace o.along.added turn.added zs mid.trace new.trace o.along.events turn.trace e (calm_or turn.calm never)
+          noisy never zs e = counted_later noise noise_append old.trace o.along.added turn.added zs mid.trace new.trace o.along.events turn.trace e (calm_or turn.calm never)
 
           -- where the field was lost a transmission lost it
           pub broken : None ≡ h → (zs : List Event) → new.trace ≡ old.trace ++ zs → 0 < breaks zs
           broken none zs e =
-              breaks_later old.trace o.along.added (turns.turned iso_dep turn.turn.reply (card last) f turn.turn.first turn.turn.second).events zs mid.trace new.trace o.along.events turn.turn.events e
-              (turned_lost turn.turn.reply (card last) f turn.turn.first turn.turn.second (none ∙ turn.turn.heard_is))
+              counted_later breaks breaks-append old.trace o.along.added (turns.turned iso_dep turn.turn.reply (card last) f turn.turn.first turn.turn.second).events zs mid.trace new.trace o.along.events turn.turn.events e
+              (turned_lost iso_dep turn.turn.reply (card last) f turn.turn.first turn.turn.second (none ∙ turn.turn.heard_is))
 
           alone_left : IsAlone k (k.identifier begin) new.listeners place turn.left
           alone_left = subst (λ (own : List ℕ). IsAlone k own new.listeners place turn.left) own_same turn.alone

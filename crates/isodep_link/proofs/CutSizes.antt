@@ -5,85 +5,26 @@ use Rattle.nfc_base.specs.Signal.{Signal}
 use Rattle.nfc_base.specs.StopAndWait.{Does, Quiet, Reply, Deliver}
 use Rattle.nfc_base.specs.LinkTurns.{settled, step}
 use Rattle.nfc_base.specs.TagLinks.{TagState}
-use Rattle.nfc_base.specs.declared.event.Heard.{Heard}
 use Rattle.air_core.specs.Conversation.{Note, Lit, Got, Lost}
 use Rattle.air_core.specs.PlainTags.{reached}
 use Rattle.air_core.specs.declared.listener.Listener.{Ghosts}
 use Rattle.air_core.proofs.PlainAside.{Laws}
 use Rattle.isodep_link.specs.declared.block.Block.{Block}
 use Rattle.isodep_link.specs.declared.block.Block.TheVariants.{Info, Ack, Nak, Deselect, Extend}
-use Rattle.isodep_link.specs.declared.reader.Phase.{Phase}
-use Rattle.isodep_link.specs.declared.reader.Phase.TheVariants.{Asked, Nacked, Free, EndedSixBad, EndedProtocol}
 use Rattle.isodep_link.specs.declared.reader.ReaderStep.{ReaderStep}
 use Rattle.isodep_link.specs.declared.reader.ReaderStep.TheVariants as steps
 use Rattle.isodep_link.specs.Blocks.{piece, IsBlock, spelled_block}
 use Rattle.isodep_link.specs.Sizes.{limit, rats_code}
 use Rattle.isodep_link.specs.Card as cards
 use Rattle.isodep_link.specs.Card.{CardState, CardMove, card_table, block_table, grown, again, heeded, stays}
-use Rattle.isodep_link.specs.Reader.{may_extend, ReaderState, ReaderMove, Reception, Hears, Odd, Bad, reception, reader_table, most_bads, bad, received, more_follows, is_refused, acked, missed, brought, answered, waited, unasked, in_phase}
+use Rattle.isodep_link.specs.Reader.{ReaderState, reader_table}
 use Rattle.isodep_link.specs.Exchange.{iso_dep, backs_of}
 use Rattle.isodep_link.specs.CardTags.{IsAskedBlock, IsAskedFrame, IsCardTag}
 use Rattle.isodep_link.specs.Asking.{IsoStanding, Waits, Rests, Broken, Astray, asks, goes_by, noted, stand}
 use Rattle.isodep_link.proofs.Wire.{card_heeds}
 use Rattle.isodep_link.proofs.CardTurns.{Holds}
+use Rattle.isodep_link.proofs.Moves.{reader_cuts}
 use Rattle.isodep_link.proofs.AskingLaw.{stays_card_tag}
-
--- a reader's move after which it cuts to the same size
-abbrev Keeps : ReaderState → ReaderMove → Type 0
-Keeps i m = m.state.core.most ≡ i.core.most
-
--- each of the reader's moves is one
-keeps_if : (i : ReaderState) (v : Bool) (m n : ReaderMove) → Keeps i m → Keeps i n → Keeps i (if v then m else n)
-keeps_if i true m n p q = p
-keeps_if i false m n p q = q
-
-keeps_bad : (i : ReaderState) → Keeps i (bad i)
-keeps_bad i = keeps_if i (nat_lt i.bads most_bads) _ _ refl refl
-
-keeps_received : (i : ReaderState) (more : Bool) (xs : List ℕ) → Keeps i (received i more xs)
-keeps_received i true xs = refl
-keeps_received i false xs = refl
-
-keeps_brought : (i : ReaderState) (more : Bool) (xs : List ℕ) → Keeps i (brought i more xs)
-keeps_brought i more xs = keeps_if i (is_refused more xs (i.core.got ++ xs)) _ _ refl (keeps_received i more (i.core.got ++ xs))
-
-keeps_acked : (i : ReaderState) → Keeps i (acked i)
-keeps_acked i = keeps_if i (more_follows i.core) _ _ refl refl
-
-keeps_missed : (i : ReaderState) (phase : Phase) → Keeps i (missed i phase)
-keeps_missed i Asked = refl
-keeps_missed i Nacked = refl
-keeps_missed i Free = refl
-keeps_missed i EndedSixBad = refl
-keeps_missed i EndedProtocol = refl
-
-keeps_answered : (i : ReaderState) (b : Block) → Keeps i (answered i b)
-keeps_answered i (Info more n c) = keeps_if i (if more_follows i.core then false else n == i.core.number) _ _ (keeps_brought i more c.items) refl
-keeps_answered i (Ack n) = keeps_if i (n == i.core.number) _ _ (keeps_acked i) (keeps_missed i i.phase)
-keeps_answered i (Nak n) = refl
-keeps_answered i Deselect = refl
-keeps_answered i (Extend times) = keeps_if i (may_extend i.core times) _ _ refl refl
-
-keeps_waited : (i : ReaderState) (h : Reception) → Keeps i (waited i h)
-keeps_waited i (Hears b) = keeps_answered i b
-keeps_waited i Odd = refl
-keeps_waited i Bad = keeps_bad i
-
-keeps_unasked : (i : ReaderState) (h : Reception) → Keeps i (unasked i h)
-keeps_unasked i (Hears b) = refl
-keeps_unasked i Odd = refl
-keeps_unasked i Bad = keeps_bad i
-
-keeps_in : (i : ReaderState) (phase : Phase) (h : Reception) → Keeps i (in_phase i phase h)
-keeps_in i Asked h = keeps_waited i h
-keeps_in i Nacked h = keeps_waited i h
-keeps_in i Free h = keeps_unasked i h
-keeps_in i EndedSixBad h = refl
-keeps_in i EndedProtocol h = refl
-
--- whatever it hears the reader cuts to the same size
-reader_keeps : (i : ReaderState) (h : Heard) → (reader_table i h).state.core.most ≡ i.core.most
-reader_keeps i h = keeps_in i i.phase (reception h)
 
 -- where a reader stands that cuts to this size
 abbrev CutsTo : ℕ → IsoStanding → Type 0
@@ -106,7 +47,7 @@ goes_cuts n i steps.Protocol cs e = tt
 noted_cuts : (n : ℕ) (s : IsoStanding) (x : Note) → CutsTo n s → CutsTo n (noted s x)
 noted_cuts n (Waits i f cs) Lit e = tt
 noted_cuts n (Waits i f cs) Lost e = tt
-noted_cuts n (Waits i f cs) (Got h) e = goes_cuts n (reader_table i h).state (reader_table i h).does cs (reader_keeps i h ∙ e)
+noted_cuts n (Waits i f cs) (Got h) e = goes_cuts n (reader_table i h).state (reader_table i h).does cs (reader_cuts i h ∙ e)
 noted_cuts n (Rests i) x e = tt
 noted_cuts n (Broken f) x e = tt
 noted_cuts n Astray x e = tt

@@ -1,7 +1,6 @@
 -- The reader at the card's answers, and at bad receptions, while an exchange is under way.
-use Rattle.std.proofs.Common.{◌≡◌, ℕ, ◌+◌, ◌-◌, ◌*◌, ◌<◌, ◌≤◌, nat_lt, if◌then◌else◌, Bool, true, false, List, [], ◌++◌, length, take, drop, Option, Some, None, inl, inr, refl, sym, ◌∙◌, ap, subst, arith, append_assoc, take_all}
+use Rattle.std.proofs.Common.{◌≡◌, ℕ, ◌+◌, ◌-◌, ◌*◌, ◌<◌, ◌≤◌, nat_lt, if◌then◌else◌, Bool, true, false, List, [], ◌++◌, length, take, drop, Option, Some, None, inl, inr, refl, sym, ◌∙◌, ap, subst, arith, take_all}
 use Rattle.std.proofs.lemmas.Bool.{lt-ltb, ltb-true}
-use Rattle.std.proofs.lemmas.List.{take-append-drop, length-take-le}
 use Rattle.nfc_base.specs.Signal.{Signal}
 use Rattle.nfc_base.specs.StopAndWait.{Whole, Damaged, Silent}
 use Rattle.nfc_base.proofs.ExactlyOnce.{Goes}
@@ -13,11 +12,13 @@ use Rattle.isodep_link.specs.Blocks.{toggled, IsBlock, block_frame, piece}
 use Rattle.isodep_link.specs.Sizes.{limit}
 use Rattle.isodep_link.specs.Card.{CardState}
 use Rattle.isodep_link.specs.Reader as reader
-use Rattle.isodep_link.specs.Reader.{Core, ReaderState, ReaderMove, ReaderTurn, Asks, Gives, GivesUp, Refuses, request, sent, sends, after_bad, most_bads, most_extensions, longest_extension, bad, turned, more_follows, is_refused, answered, block_next, framed, framed_next, reader_table}
+use Rattle.nfc_base.specs.Pieces.{Core, most_bads, most_extensions, longest_extension, turned, more_follows, pieces}
+use Rattle.isodep_link.specs.Reader.{ReaderState, ReaderMove, ReaderTurn, Asks, Gives, GivesUp, Refuses, request, sent, sends, after_bad, bad, answered, block_next, framed, framed_next, reader_table}
 use Rattle.nfc_base.specs.LinkTurns.{heard_of}
-use Rattle.isodep_link.specs.Exchange.{iso_dep, reader_does, pieces, InStep}
+use Rattle.isodep_link.specs.Exchange.{iso_dep, reader_does, InStep}
 use Rattle.isodep_link.proofs.Wire.{reader_heeds, is_piece}
-use Rattle.isodep_link.proofs.Standing.{same, toggled_not, toggled_twice, toggled_small, not_lt, le_from_not, pieces_drop, chain_fits, Asking, Drawing, Acked, Answered, Extending, Held, of_chain, of_answer, of_time, Ask, asks, draws, draws_again, naks, naks_held, grants, IsLive, Wait, has, misses}
+use Rattle.nfc_base.proofs.Chains.{same, not_lt, le_from_not, pieces_drop, not_refused, Asking, Drawing, Acked, Answered, Extending, Held, of_chain, of_reply, of_time, held_left, held_worse, held_more, longer, time_granted, sent_on, ack_heard, got_on, piece_heard}
+use Rattle.isodep_link.proofs.Standing.{toggled_not, toggled_small, iso_ends, Ask, asks, draws, draws_again, naks, naks_held, grants, IsLive, Wait, has, misses}
 
 module _ (m k : ℕ) (out : List ℕ) where
   -- a bad reception: the reader sends something, of which two transmissions more are left, or gives up
@@ -46,37 +47,17 @@ module _ (m k : ℕ) (out : List ℕ) where
 
   -- how both ends stand at a reception
   data Either (i : ReaderState) (t : CardState) (g : Option (List ℕ)) (n : ℕ) : Type 0 where
-    sending : i.bads ≤ most_bads → Asking m k out i.core t g → 2 * pieces i.core.most i.core.rest ≤ n → Either i t g n
-    drawing : Drawing m k out i.core t g → 2 * pieces t.most t.left ≤ n → Either i t g n
-    held : (i.core.drawing ≡ true → i.core.extension ≡ None) → Held m k out i.core t g n i.bads → Either i t g n
-    granting : i.bads ≤ most_bads → i.core.extension ≡ Some t.times → Extending m k out i.core t g (i.bads + 1) → 2 * (t.due + pieces t.most t.left) ≤ n + 2 → Either i t g n
+    sending : i.bads ≤ most_bads → Asking iso_ends m k out i.core t g → 2 * pieces i.core.most i.core.rest ≤ n → Either i t g n
+    drawing : Drawing iso_ends m k out i.core t g → 2 * pieces t.most t.left ≤ n → Either i t g n
+    held : (i.core.drawing ≡ true → i.core.extension ≡ None) → Held iso_ends m k out i.core t g n i.bads → Either i t g n
+    granting : i.bads ≤ most_bads → i.core.extension ≡ Some t.times → Extending iso_ends m k out i.core t g (i.bads + 1) → 2 * (t.due + pieces t.most t.left) ≤ n + 2 → Either i t g n
 
-  -- one bad reception more
-  worse : (c : Core) (t : CardState) (g : Option (List ℕ)) (bads : ℕ) → Extending m k out c t g bads → Extending m k out c t g (bads + 1)
-  worse c t g bads h =
-      record {
-        bounds = h.bounds;
-        number = h.number;
-        sending = h.sending;
-        empty = h.empty;
-        no_more = h.no_more;
-        same_number = h.same_number;
-        no_chain = h.no_chain;
-        last = h.last;
-        due = h.due;
-        reply = h.reply;
-        short_back = h.short_back;
-        count = (let c = h.count in omega arith);
-      }
+  held_again : (c : Core) (t : CardState) (g : Option (List ℕ)) (n bads : ℕ) → bads < most_bads → Held iso_ends m k out c t g n bads → Held iso_ends m k out c t g (n + 2) (bads + 1)
+  held_again c t g n bads few h = held_more iso_ends m k out c t g n (bads + 1) (held_worse iso_ends m k out c t g n bads few h)
 
-  held_worse : (c : Core) (t : CardState) (g : Option (List ℕ)) (n bads : ℕ) → bads < most_bads → Held m k out c t g n bads → Held m k out c t g (n + 2) (bads + 1)
-  held_worse c t g n bads few (of_chain h l) = of_chain h (omega arith)
-  held_worse c t g n bads few (of_answer bytes h l) = of_answer bytes h (omega arith)
-  held_worse c t g n bads few (of_time z h l) = of_time (omega arith) (worse c t g bads h) (omega arith)
-
-  held_plain : (c : Core) (t : CardState) (g : Option (List ℕ)) (n bads : ℕ) → Held m k out c t g n bads → c.drawing ≡ true → c.extension ≡ None
+  held_plain : (c : Core) (t : CardState) (g : Option (List ℕ)) (n bads : ℕ) → Held iso_ends m k out c t g n bads → c.drawing ≡ true → c.extension ≡ None
   held_plain c t g n bads (of_chain h l) d = absurd (let z = h.sending in cc)
-  held_plain c t g n bads (of_answer bytes h l) d = h.plain d
+  held_plain c t g n bads (of_reply bytes h l) d = h.asked_by d
   held_plain c t g n bads (of_time z h l) d = absurd (let z = h.sending in cc)
 
   asks_again : (i : ReaderState) (t : CardState) (g : Option (List ℕ)) (n : ℕ) → i.bads < most_bads → Either i t g n → (d : Bool) → i.core.drawing ≡ d
@@ -85,8 +66,8 @@ module _ (m k : ℕ) (out : List ℕ) where
   asks_again i t g n few (sending z h b) false d = naks refl refl (omega arith) h (omega arith)
   asks_again i t g n few (drawing h b) true d = draws refl refl h (omega arith)
   asks_again i t g n few (drawing h b) false d = absurd (let z = h.receiving in cc)
-  asks_again i t g n few (held w h) true d = draws_again refl refl d (w d) (held_worse i.core t g n i.bads few h)
-  asks_again i t g n few (held w h) false d = naks_held refl refl d (held_worse i.core t g n i.bads few h)
+  asks_again i t g n few (held w h) true d = draws_again refl refl d (w d) (held_again i.core t g n i.bads few h)
+  asks_again i t g n few (held w h) false d = naks_held refl refl d (held_again i.core t g n i.bads few h)
   asks_again i t g n few (granting z w h b) true d = absurd (let z = h.sending in cc)
   asks_again i t g n few (granting z w h b) false d = naks_held refl refl d (of_time (omega arith) h b)
 
@@ -148,70 +129,24 @@ module _ (m k : ℕ) (out : List ℕ) where
       let y : reader_table i (heard_of (Whole a)) ≡ framed x = ap (λ z. reader_table i (heard_of (Whole z))) e ∙ reader_heeds i b r ∙ ap framed (live_heard i b l ∙ q) in
       subst (λ (u : ReaderTurn). Goes (λ z. (q : ℕ) × Ask m k out u.state t g z q × (q + 2 ≤ n)) (λ r. (g ≡ Some r) × InStep u.state t) ⊥ (reader_does u.does)) (sym y) h
 
-  -- the next piece of the command
-  abbrev sent_on : Core → Core
-  sent_on c = turned c (drop c.most c.rest) false c.got
-
-  ack_heard : (i : ReaderState) (t : CardState) (g : Option (List ℕ)) → Acked m k out i.core t g
-      → (answered i (Ack i.core.number) ≡ sends (sent_on i.core) Asked 0) × Asking m k out (sent_on i.core) t g
-  ack_heard i t g h = (
-    rw (same i.core.number, h.sending, lt-ltb i.core.most (length i.core.rest) h.more) refl,
-    record {
-      bounds = h.bounds;
-      number = toggled_small i.core.number;
-      plain = refl;
-      none_yet = refl;
-      sending = refl;
-      empty = h.empty;
-      other = rw (h.same_number, toggled_twice i.core.number h.number) refl;
-      joins = h.joins;
-      none = h.none;
-    },
-  )
-
-  not_refused : (got xs : List ℕ) (n : ℕ) → 0 < n → length (got ++ xs) ≤ limit → is_refused (nat_lt n (length xs)) (take n xs) (got ++ take n xs) ≡ false
-  not_refused got xs n p f = go (nat_lt n (length xs)) refl
-    where
-      le : length (got ++ take n xs) ≤ limit
-      le = chain_fits got xs (got ++ xs) n refl f
-
-      go : (b : Bool) → nat_lt n (length xs) ≡ b → is_refused (nat_lt n (length xs)) (take n xs) (got ++ take n xs) ≡ false
-      go false e = rw (not_lt limit (length (got ++ take n xs)) le, e) refl
-      go true e =
-          let l : n < length xs = ltb-true n (length xs) e in
-          let w : length (take n xs) ≡ n = length-take-le n xs (omega arith) in
-          rw (not_lt limit (length (got ++ take n xs)) le, e, w, lt-ltb 0 n p) refl
+  acked_next : (i : ReaderState) (t : CardState) (g : Option (List ℕ)) → Acked iso_ends m k out i.core t g
+      → answered i (Ack i.core.number) ≡ sends (sent_on iso_ends m k out i.core) Asked 0
+  acked_next i t g h = rw (same i.core.number, h.sending, lt-ltb i.core.most (length i.core.rest) h.more) refl
 
   -- a piece of the answer that isn't the last
-  abbrev got_on : Core → List ℕ → Core
-  got_on c xs = turned c [] true (c.got ++ xs)
-
-  piece_heard : (i : ReaderState) (t : CardState) (g : Option (List ℕ)) (bytes : List ℕ) → Answered m k out i.core t g bytes → t.most < length bytes
-      → (answered i (piece t.most i.core.number bytes) ≡ sends (got_on i.core (take t.most bytes)) Asked 0) × Drawing m k out (got_on i.core (take t.most bytes)) t g
-  piece_heard i t g bytes h l = (
-    rw (h.no_more, same i.core.number, not_refused i.core.got bytes t.most h.bounds.some_back h.short_back, lt-ltb t.most (length bytes) l) refl,
-    record {
-      bounds = h.bounds;
-      number = toggled_small i.core.number;
-      plain = refl;
-      none_due = h.none_due;
-      receiving = refl;
-      other = rw (h.same_number, toggled_twice i.core.number h.number) refl;
-      no_chain = h.no_chain;
-      unsent = h.unsent ∙ lt-ltb t.most (length bytes) l;
-      reply = rw (h.left, append_assoc, take-append-drop) h.reply;
-      short_back = rw (h.left, append_assoc, take-append-drop) h.short_back;
-    },
-  )
+  piece_next : (i : ReaderState) (t : CardState) (g : Option (List ℕ)) (bytes : List ℕ) → Answered iso_ends m k out i.core t g bytes → t.most < length bytes
+      → answered i (piece t.most i.core.number bytes) ≡ sends (got_on iso_ends m k out i.core (take t.most bytes)) Asked 0
+  piece_next i t g bytes h l =
+      rw (h.no_more, same i.core.number, not_refused limit i.core.got bytes t.most h.bounds.some_back h.short_back, lt-ltb t.most (length bytes) l) refl
 
   abbrev ended : Core → ReaderState
-  ended c = record { core = turned c [] false []; phase = Free; bads = 0 }
+  ended c = record { core = turned c (toggled c.number) [] false []; phase = Free; bads = 0 }
 
-  last_heard : (i : ReaderState) (t : CardState) (g : Option (List ℕ)) (bytes : List ℕ) → Answered m k out i.core t g bytes → length bytes ≤ t.most
+  last_heard : (i : ReaderState) (t : CardState) (g : Option (List ℕ)) (bytes : List ℕ) → Answered iso_ends m k out i.core t g bytes → length bytes ≤ t.most
       → answered i (piece t.most i.core.number bytes) ≡ record { state = ended i.core; does = Gives (i.core.got ++ bytes) }
   last_heard i t g bytes h l =
       let e : take t.most bytes ≡ bytes = take_all t.most bytes l in
-      rw (h.no_more, same i.core.number, not_refused i.core.got bytes t.most h.bounds.some_back h.short_back, not_lt t.most (length bytes) l, e) refl
+      rw (h.no_more, same i.core.number, not_refused limit i.core.got bytes t.most h.bounds.some_back h.short_back, not_lt t.most (length bytes) l, e) refl
 
   -- the last I-block again
   abbrev unextended : Core → Core
@@ -221,7 +156,7 @@ module _ (m k : ℕ) (out : List ℕ) where
       → answered i (Ack t.number) ≡ sends (unextended i.core) Asked i.bads
   missed_heard i t p e l = rw (p, e, toggled_not i.core.number l) refl
 
-  still_asking : (c : Core) (t : CardState) (g : Option (List ℕ)) → Asking m k out c t g → Asking m k out (unextended c) t g
+  still_asking : (c : Core) (t : CardState) (g : Option (List ℕ)) → Asking iso_ends m k out c t g → Asking iso_ends m k out (unextended c) t g
   still_asking c t g h =
       record {
         bounds = h.bounds;
@@ -230,39 +165,19 @@ module _ (m k : ℕ) (out : List ℕ) where
         none_yet = h.none_yet;
         sending = h.sending;
         empty = h.empty;
-        other = h.other;
+        expects = h.expects;
         joins = h.joins;
         none = h.none;
       }
 
   -- the card asks for more time
-  abbrev longer : Core → ℕ → Core
-  longer c times = record c { extension = Some times; granted = c.granted + 1 }
-
   time_heard : (i : ReaderState) (times : ℕ) → i.core.drawing ≡ false → more_follows i.core ≡ false → 1 ≤ times → times ≤ longest_extension → i.core.granted < most_extensions
-      → answered i (Extend times) ≡ sends (longer i.core times) Asked i.bads
+      → answered i (Extend times) ≡ sends (longer iso_ends m k out i.core times) Asked i.bads
   time_heard i times d f l1 l2 l3 =
       rw (f, d, lt-ltb 0 times (omega arith), not_lt longest_extension times l2, lt-ltb i.core.granted most_extensions l3) refl
 
-  time_granted : (i : ReaderState) (t : CardState) (g : Option (List ℕ)) → Extending m k out i.core t g i.bads → Extending m k out (longer i.core t.times) t g (i.bads + 1)
-  time_granted i t g h =
-      record {
-        bounds = h.bounds;
-        number = h.number;
-        sending = h.sending;
-        empty = h.empty;
-        no_more = h.no_more;
-        same_number = h.same_number;
-        no_chain = h.no_chain;
-        last = h.last;
-        due = h.due;
-        reply = h.reply;
-        short_back = h.short_back;
-        count = (let c = h.count in omega arith);
-      }
-
   answer_heard : (i : ReaderState) (t : CardState) (g : Option (List ℕ)) (a : Signal) (n : ℕ) (bytes : List ℕ) → IsLive m k out i.phase
-      → a ≡ block_frame (piece t.most i.core.number bytes) → Answered m k out i.core t g bytes → 2 * pieces t.most bytes ≤ n → AcceptedAt i t g a n
+      → a ≡ block_frame (piece t.most i.core.number bytes) → Answered iso_ends m k out i.core t g bytes → 2 * pieces t.most bytes ≤ n → AcceptedAt i t g a n
   answer_heard i t g a n bytes p e h b = go (nat_lt t.most (length bytes)) refl
     where
       r : IsBlock (piece t.most i.core.number bytes)
@@ -271,10 +186,9 @@ module _ (m k : ℕ) (out : List ℕ) where
       go : (d : Bool) → nat_lt t.most (length bytes) ≡ d → AcceptedAt i t g a n
       go true d =
           let l = ltb-true t.most (length bytes) d in
-          let q = piece_heard i t g bytes h l in
           let z = pieces_drop t.most bytes h.bounds.some_back l in
-          accepted_by i t g a (piece t.most i.core.number bytes) n _ p e r q.0
-          (2 * pieces t.most (drop t.most bytes), draws refl refl q.1 (rw h.left (omega arith)), omega arith)
+          accepted_by i t g a (piece t.most i.core.number bytes) n _ p e r (piece_next i t g bytes h l)
+          (2 * pieces t.most (drop t.most bytes), draws refl refl (piece_heard iso_ends m k out i.core t g bytes h l) (rw h.left (omega arith)), omega arith)
       go false d =
           let l = le_from_not t.most (length bytes) d in
           accepted_by i t g a (piece t.most i.core.number bytes) n _ p e r (last_heard i t g bytes h l) (
@@ -282,7 +196,7 @@ module _ (m k : ℕ) (out : List ℕ) where
             record {
               heeds = h.bounds.heeds;
               number = toggled_small i.core.number;
-              other = rw (h.same_number, toggled_twice i.core.number h.number) refl;
+              other = iso_ends.goes_on t i.core.number h.number h.expects;
               no_chain = h.no_chain;
               all_sent = h.unsent ∙ not_lt t.most (length bytes) l;
               asks = (h.bounds.some, h.bounds.fits);
@@ -294,17 +208,17 @@ module _ (m k : ℕ) (out : List ℕ) where
 
   pub answered_at : (i : ReaderState) (t : CardState) (g : Option (List ℕ)) (a : Signal) (n : ℕ) → Wait m k out i t g a n → (2 ≤ n) × AcceptedAt i t g a n
   answered_at i t g a n (misses p e z h b) =
-      let r : IsBlock (Ack t.number) = rw h.other (toggled_small i.core.number) in (
+      let r : IsBlock (Ack t.number) = rw h.expects (toggled_small i.core.number) in (
         omega arith,
-        accepted_by i t g a (Ack t.number) n _ (inr p) e r (missed_heard i t p h.other h.number) (2 * pieces i.core.most i.core.rest, asks refl refl z (still_asking i.core t g h) (omega arith), b),
+        accepted_by i t g a (Ack t.number) n _ (inr p) e r (missed_heard i t p h.expects h.number) (2 * pieces i.core.most i.core.rest, asks refl refl z (still_asking i.core t g h) (omega arith), b),
       )
   answered_at i t g a n (has p x e l (of_chain h b)) =
       let q : x ≡ Ack i.core.number = (let y = h.last in cc) in
-      let s = ack_heard i t g h in
+      let s = ack_heard iso_ends m k out i.core t g h in
       let z = pieces_drop i.core.most i.core.rest h.bounds.some h.more in (
         omega arith,
-        accepted_by i t g a (Ack i.core.number) n _ p (e ∙ ap block_frame q) h.number s.0
-            (2 * pieces i.core.most (drop i.core.most i.core.rest), asks refl refl (omega arith) s.1 (omega arith), omega arith),
+        accepted_by i t g a (Ack i.core.number) n _ p (e ∙ ap block_frame q) h.number (acked_next i t g h)
+            (2 * pieces i.core.most (drop i.core.most i.core.rest), asks refl refl (omega arith) s (omega arith), omega arith),
       )
   answered_at i t g a n (has p x e l (of_time z h b)) =
       let q : x ≡ Extend t.times = (let y = h.last in cc) in
@@ -314,21 +228,16 @@ module _ (m k : ℕ) (out : List ℕ) where
         omega arith,
         accepted_by i t g a (Extend t.times) n _ p (e ∙ ap block_frame q) tt
             (time_heard i t.times h.sending h.no_more h.bounds.long h.bounds.longest (omega arith))
-            (2 * (t.due + pieces t.most t.left) - 2, grants refl refl refl z (time_granted i t g h) (omega arith), omega arith),
+            (2 * (t.due + pieces t.most t.left) - 2, grants refl refl refl z (time_granted iso_ends m k out i.core t g i.bads t.times h tt) (omega arith), omega arith),
       )
-  answered_at i t g a n (has p x e l (of_answer bytes h b)) =
+  answered_at i t g a n (has p x e l (of_reply bytes h b)) =
       let q : x ≡ piece t.most i.core.number bytes = (let y = h.last in cc) in
       (omega arith, answer_heard i t g a n bytes p (e ∙ ap block_frame q) h b)
-
-  held_left : (c : Core) (t : CardState) (g : Option (List ℕ)) (n bads : ℕ) → Held m k out c t g n bads → 1 ≤ n
-  held_left c t g n bads (of_chain h l) = omega arith
-  held_left c t g n bads (of_answer bytes h l) = omega arith
-  held_left c t g n bads (of_time z h l) = omega arith
 
   pub ask_left : (i : ReaderState) (t : CardState) (g : Option (List ℕ)) (f : Signal) (n : ℕ) → Ask m k out i t g f n → 1 ≤ n
   ask_left i t g f n (asks p e z h b) = omega arith
   ask_left i t g f n (draws p e h b) = omega arith
-  ask_left i t g f n (draws_again p e d w h) = held_left i.core t g n i.bads h
+  ask_left i t g f n (draws_again p e d w h) = held_left iso_ends m k out i.core t g n i.bads h
   ask_left i t g f n (naks p e z h b) = omega arith
-  ask_left i t g f n (naks_held p e d h) = held_left i.core t g n i.bads h
+  ask_left i t g f n (naks_held p e d h) = held_left iso_ends m k out i.core t g n i.bads h
   ask_left i t g f n (grants p e w z h b) = (let d = h.due in omega arith)

@@ -22,7 +22,8 @@ use Rattle.air_core.proofs.PlainTurns.{noise_append}
 use Rattle.isodep_link.specs.Card.{CardState}
 use Rattle.isodep_link.specs.Reader.{ReaderState, waiting}
 use Rattle.isodep_link.specs.Commands.{iso_commands}
-use Rattle.isodep_link.specs.Exchange.{blocks_of, pieces, IsCut, Backs, backs_of, blocks_back}
+use Rattle.nfc_base.specs.Pieces.{pieces}
+use Rattle.isodep_link.specs.Exchange.{blocks_of, IsCut, Backs, backs_of, blocks_back}
 use Rattle.isodep_link.specs.Activating.{first_link, AsksRats, Opens, IsActivated, RatsEnds, IsActivatedLink}
 use Rattle.isodep_link.specs.CardTags as tags
 use Rattle.isodep_link.specs.Asking.{IsoStanding, iso_next, CommandTurns}

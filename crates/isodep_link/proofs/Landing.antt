@@ -1,8 +1,7 @@
 -- The card at the reader's frames, while an exchange is under way: it answers what it has, takes the next piece, or obeys the
 -- whole command for the first time.
-use Rattle.std.proofs.Common.{◌≡◌, ℕ, ◌+◌, ◌-◌, ◌*◌, ◌<◌, ◌≤◌, nat_lt, Bool, true, false, List, [], ◌∷◌, ◌++◌, length, take, drop, Option, Some, None, inl, inr, refl, sym, ◌∙◌, ap, subst, arith, append_assoc, take_all}
+use Rattle.std.proofs.Common.{◌≡◌, ℕ, ◌+◌, ◌-◌, ◌*◌, ◌<◌, ◌≤◌, nat_lt, Bool, true, false, List, [], ◌∷◌, ◌++◌, length, take, drop, Option, Some, None, inl, inr, refl, sym, ◌∙◌, ap, subst, arith, take_all}
 use Rattle.std.proofs.lemmas.Bool.{lt-ltb, ltb-true}
-use Rattle.std.proofs.lemmas.List.{take-append-drop}
 use Rattle.nfc_base.specs.Signal.{Signal}
 use Rattle.nfc_base.specs.StopAndWait.{Quiet}
 use Rattle.nfc_base.proofs.ExactlyOnce.{Lands}
@@ -12,23 +11,25 @@ use Rattle.isodep_link.specs.declared.reader.Phase.TheVariants.{Asked}
 use Rattle.isodep_link.specs.Blocks.{toggled, IsBlock, block_frame, piece}
 use Rattle.isodep_link.specs.Sizes.{limit}
 use Rattle.isodep_link.specs.Card.{CardState, CardMove, CardTurn, Answers, Delivers, framed, framed_does, card_table, block_table, replied, reply_block}
-use Rattle.isodep_link.specs.Reader.{Core, ReaderState, request, asked, most_bads}
+use Rattle.nfc_base.specs.Pieces.{Core, most_bads, pieces}
+use Rattle.isodep_link.specs.Reader.{ReaderState, request, asked}
 use Rattle.isodep_link.specs.Commands.{taken}
-use Rattle.isodep_link.specs.Exchange.{iso_dep, card_does, pieces, IsCut}
+use Rattle.isodep_link.specs.Exchange.{iso_dep, card_does, IsCut}
 use Rattle.isodep_link.proofs.Wire.{card_heeds, is_piece, cut_of, cuts_on, cuts_same}
-use Rattle.isodep_link.proofs.Standing.{same, not_toggled, toggled_twice, not_lt, le_from_not, chain_fits, Asking, Drawing, Acked, Answered, Extending, Held, of_chain, of_answer, of_time, Ask, asks, draws, draws_again, naks, naks_held, grants, IsLive, Wait, has, misses, more, Fits}
+use Rattle.nfc_base.proofs.Chains.{same, not_lt, le_from_not, chain_fits, Asking, Drawing, Acked, Answered, Extending, of_chain, of_reply, of_time, last_of, piece_taken, time_asked, first_sent, reply_drawn, time_again, time_over, more, Fits}
+use Rattle.isodep_link.proofs.Standing.{not_toggled, toggled_twice, iso_ends, Ask, asks, draws, draws_again, naks, naks_held, grants, IsLive, Wait, has, misses}
 
 module _ (m k : ℕ) (out : List ℕ) where
   -- the reader's frame f lands, at which the card makes that move
   abbrev Landed : ReaderState → CardState → Option (List ℕ) → Signal → ℕ → CardMove → Type 0
-  Landed i t g f n x = Lands iso_dep out (Ask m k out) (Wait m k out) (more m k out) (Fits m k out) IsCut i t g f n x.state (card_does (framed_does x.does))
+  Landed i t g f n x = Lands iso_dep out (Ask m k out) (Wait m k out) (more iso_ends m k out) (Fits iso_ends m k out) IsCut i t g f n x.state (card_does (framed_does x.does))
 
   lands_by : (i : ReaderState) (t : CardState) (g : Option (List ℕ)) (f : Signal) (b : Block) (n : ℕ) (x : CardMove)
       → f ≡ block_frame b → t.mute ≡ false → IsBlock b → block_table t b ≡ x → Landed i t g f n x
-      → Lands iso_dep out (Ask m k out) (Wait m k out) (more m k out) (Fits m k out) IsCut i t g f n (iso_dep.heard t f) (iso_dep.does t f)
+      → Lands iso_dep out (Ask m k out) (Wait m k out) (more iso_ends m k out) (Fits iso_ends m k out) IsCut i t g f n (iso_dep.heard t f) (iso_dep.does t f)
   lands_by i t g f b n x e h r q l =
       let y : card_table t f ≡ framed x = ap (card_table t) e ∙ card_heeds t b h r ∙ ap framed q in
-      subst (λ (z : CardTurn). Lands iso_dep out (Ask m k out) (Wait m k out) (more m k out) (Fits m k out) IsCut i t g f n z.state (card_does z.does)) (sym y) l
+      subst (λ (z : CardTurn). Lands iso_dep out (Ask m k out) (Wait m k out) (more iso_ends m k out) (Fits iso_ends m k out) IsCut i t g f n z.state (card_does z.does)) (sym y) l
 
   -- the card takes a piece that isn't the last
   abbrev took : CardState → Core → CardState
@@ -43,24 +44,19 @@ module _ (m k : ℕ) (out : List ℕ) where
   drew t =
       record t { number = toggled t.number; last = Some (piece t.most (toggled t.number) t.left); left = drop t.most t.left; unsent = nat_lt t.most (length t.left) }
 
-  piece_taken : (c : Core) (t : CardState) (g : Option (List ℕ)) → Asking m k out c t g → c.most < length c.rest
-      → (block_table t (request c) ≡ record { state = took t c; does = Answers (Ack (toggled t.number)) }) × Acked m k out c (took t c) g
-  piece_taken c t g h l = (
-    rw (h.plain, h.sending, lt-ltb c.most (length c.rest) l, not_lt limit (length (t.chain ++ take c.most c.rest)) (chain_fits t.chain c.rest out c.most h.joins h.bounds.short)) refl,
-    record {
-      bounds = h.bounds;
-      number = h.number;
-      sending = h.sending;
-      empty = h.empty;
-      more = l;
-      same_number = rw (h.other, toggled_twice c.number h.number) refl;
-      joins = rw (append_assoc, take-append-drop) h.joins;
-      none = h.none;
-      last = rw (h.other, toggled_twice c.number h.number) refl;
-    },
-  )
+  -- where the card lacks a piece, its number toggled is the piece's
+  now_has : (c : Core) (n : ℕ) → c.number < 2 → n ≡ toggled c.number → toggled n ≡ c.number
+  now_has c n l e = ap toggled e ∙ toggled_twice c.number l
 
-  handed_over : (c : Core) (t : CardState) (g : Option (List ℕ)) → Asking m k out c t g → length c.rest ≤ c.most
+  takes : (c : Core) (t : CardState) (g : Option (List ℕ)) → Asking iso_ends m k out c t g → c.most < length c.rest
+      → (block_table t (request c) ≡ record { state = took t c; does = Answers (Ack (toggled t.number)) }) × Acked iso_ends m k out c (took t c) g
+  takes c t g h l =
+      let q = now_has c t.number h.number h.expects in (
+        rw (h.plain, h.sending, lt-ltb c.most (length c.rest) l, not_lt limit (length (t.chain ++ take c.most c.rest)) (chain_fits limit t.chain c.rest out c.most h.joins h.bounds.short)) refl,
+        piece_taken iso_ends m k out c t (took t c) g q h l (rw q refl),
+      )
+
+  handed_over : (c : Core) (t : CardState) (g : Option (List ℕ)) → Asking iso_ends m k out c t g → length c.rest ≤ c.most
       → (block_table t (request c) ≡ record { state = handing t; does = Delivers out }) × (t.chain ++ take c.most c.rest ≡ out)
   handed_over c t g h l =
       let w : t.chain ++ take c.most c.rest ≡ out = rw (take_all c.most c.rest l) h.joins in
@@ -73,55 +69,24 @@ module _ (m k : ℕ) (out : List ℕ) where
   abbrev sending_first : CardState → List ℕ → CardState
   sending_first t r = record (handing t) { last = Some (piece t.most (toggled t.number) r); left = drop t.most r; unsent = nat_lt t.most (length r); due = 0 }
 
-  time_asked : (c : Core) (t : CardState) (g : Option (List ℕ)) (bads : ℕ) → Asking m k out c t g → length c.rest ≤ c.most → 0 < t.busy
-      → (r : List ℕ) → length r ≤ limit → Extending m k out c (asking_time t r) (Some r) bads
-  time_asked c t g bads h l p r f =
-      record {
-        bounds = h.bounds;
-        number = h.number;
-        sending = h.sending;
-        empty = h.empty;
-        no_more = rw (h.sending, not_lt c.most (length c.rest) l) refl;
-        same_number = rw (h.other, toggled_twice c.number h.number) refl;
-        no_chain = refl;
-        last = refl;
-        due = p;
-        reply = refl;
-        short_back = f;
-        count = (let a = h.none_yet in let b = h.bounds.asks in omega arith);
-      }
+  first_piece : (c : Core) (t : CardState) (g : Option (List ℕ)) → Asking iso_ends m k out c t g → length c.rest ≤ c.most
+      → (r : List ℕ) → length r ≤ limit → Answered iso_ends m k out c (sending_first t r) (Some r) r
+  first_piece c t g h l r f =
+      let q = now_has c t.number h.number h.expects in first_sent iso_ends m k out c t (sending_first t r) g q r h l f (λ d. h.plain) (rw q refl)
 
-  first_sent : (c : Core) (t : CardState) (g : Option (List ℕ)) → Asking m k out c t g → length c.rest ≤ c.most
-      → (r : List ℕ) → length r ≤ limit → Answered m k out c (sending_first t r) (Some r) r
-  first_sent c t g h l r f =
-      record {
-        bounds = h.bounds;
-        number = h.number;
-        plain = λ d. h.plain;
-        none_due = refl;
-        no_more = rw (h.sending, not_lt c.most (length c.rest) l) refl;
-        same_number = rw (h.other, toggled_twice c.number h.number) refl;
-        no_chain = refl;
-        last = rw (h.other, toggled_twice c.number h.number) refl;
-        left = refl;
-        unsent = refl;
-        reply = rw h.empty refl;
-        short_back = rw h.empty f;
-      }
-
-  replies : (i : ReaderState) (t : CardState) (g : Option (List ℕ)) (n : ℕ) → i.bads ≤ most_bads → IsLive m k out i.phase → Asking m k out i.core t g
+  replies : (i : ReaderState) (t : CardState) (g : Option (List ℕ)) (n : ℕ) → i.bads ≤ most_bads → IsLive m k out i.phase → Asking iso_ends m k out i.core t g
       → length i.core.rest ≤ i.core.most → 2 ≤ n → (r : List ℕ) → length r ≤ limit
-      → Wait m k out i (replied (handing t) r) (Some r) (block_frame (reply_block (handing t) r)) (n + 2 * more m k out r)
+      → Wait m k out i (replied (handing t) r) (Some r) (block_frame (reply_block (handing t) r)) (n + 2 * more iso_ends m k out r)
   replies i t g n z p h l nn r f = go (nat_lt 0 t.busy) refl
     where
       Waits : CardState → Block → Type 0
-      Waits x v = Wait m k out i x (Some r) (block_frame v) (n + 2 * more m k out r)
+      Waits x v = Wait m k out i x (Some r) (block_frame v) (n + 2 * more iso_ends m k out r)
 
       go : (b : Bool) → nat_lt 0 t.busy ≡ b → Waits (replied (handing t) r) (reply_block (handing t) r)
       go true b =
           let q : replied (handing t) r ≡ asking_time t r = rw b refl in
           let u : reply_block (handing t) r ≡ Extend t.times = rw b refl in
-          let e = time_asked i.core t g i.bads h l (ltb-true 0 t.busy b) r f in
+          let e = time_asked iso_ends m k out i.core t (asking_time t r) g (now_has i.core t.number h.number h.expects) r i.bads h l (ltb-true 0 t.busy b) f tt refl in
           let w : Waits (asking_time t r) (Extend t.times) =
           has p (Extend t.times) refl refl (of_time z e (rw (h.bounds.asks, h.bounds.sizes) (omega arith))) in
           subst (λ (x : CardState). Waits x (reply_block (handing t) r)) (sym q) (subst (λ (v : Block). Waits (asking_time t r) v) (sym u) w)
@@ -129,28 +94,16 @@ module _ (m k : ℕ) (out : List ℕ) where
           let q : replied (handing t) r ≡ sending_first t r = rw b refl in
           let u : reply_block (handing t) r ≡ piece t.most (toggled t.number) r = rw b refl in
           let w : Waits (sending_first t r) (piece t.most (toggled t.number) r) =
-          has p (piece t.most (toggled t.number) r) refl refl (of_answer r (first_sent i.core t g h l r f) (rw h.bounds.sizes (omega arith))) in
+          has p (piece t.most (toggled t.number) r) refl refl (of_reply r (first_piece i.core t g h l r f) (rw h.bounds.sizes (omega arith))) in
           subst (λ (x : CardState). Waits x (reply_block (handing t) r)) (sym q) (subst (λ (v : Block). Waits (sending_first t r) v) (sym u) w)
 
-  reply_drawn : (c : Core) (t : CardState) (g : Option (List ℕ)) → Drawing m k out c t g
-      → (block_table t (request c) ≡ record { state = drew t; does = Answers (piece t.most (toggled t.number) t.left) }) × Answered m k out c (drew t) g t.left
-  reply_drawn c t g h = (
-    rw (h.plain, h.receiving, h.other, not_toggled c.number h.number, h.none_due, h.unsent) refl,
-    record {
-      bounds = h.bounds;
-      number = h.number;
-      plain = λ d. h.plain;
-      none_due = h.none_due;
-      no_more = rw h.receiving refl;
-      same_number = rw (h.other, toggled_twice c.number h.number) refl;
-      no_chain = h.no_chain;
-      last = rw (h.other, toggled_twice c.number h.number) refl;
-      left = refl;
-      unsent = refl;
-      reply = h.reply;
-      short_back = h.short_back;
-    },
-  )
+  draws_on : (c : Core) (t : CardState) (g : Option (List ℕ)) → Drawing iso_ends m k out c t g
+      → (block_table t (request c) ≡ record { state = drew t; does = Answers (piece t.most (toggled t.number) t.left) }) × Answered iso_ends m k out c (drew t) g t.left
+  draws_on c t g h =
+      let q = now_has c t.number h.number h.expects in (
+        rw (h.plain, h.receiving, h.expects, not_toggled c.number h.number, h.none_due, h.unsent) refl,
+        reply_drawn iso_ends m k out c t (drew t) g q h (λ d. h.plain) (rw q refl),
+      )
 
   request_again : (c : Core) (t : CardState) (b : Block) → c.extension ≡ None → c.drawing ≡ true → t.number ≡ c.number → t.last ≡ Some b
       → block_table t (request c) ≡ record { state = t; does = Answers b }
@@ -169,23 +122,6 @@ module _ (m k : ℕ) (out : List ℕ) where
       go : (d : Bool) → c.drawing ≡ d → IsBlock (request c)
       go true e = rw (z, e) p
       go false e = rw (z, e) (is_piece c.most c.number c.rest p q)
-
-  -- the last block of a card that has what the reader asks
-  pub record LastOf (c : Core) (t : CardState) : Type 0 where
-    pub block : Block
-    pub last : t.last ≡ Some block
-    pub same_number : t.number ≡ c.number
-    pub heeds : t.mute ≡ false
-    pub number : c.number < 2
-    pub fits : c.most ≤ 253
-
-  last_of : (c : Core) (t : CardState) (g : Option (List ℕ)) (n bads : ℕ) → Held m k out c t g n bads → LastOf c t
-  last_of c t g n bads (of_chain h l) =
-      record { block = Ack c.number; last = h.last; same_number = h.same_number; heeds = h.bounds.heeds; number = h.number; fits = h.bounds.fits }
-  last_of c t g n bads (of_time z h l) =
-      record { block = Extend t.times; last = h.last; same_number = h.same_number; heeds = h.bounds.heeds; number = h.number; fits = h.bounds.fits }
-  last_of c t g n bads (of_answer bytes h l) =
-      record { block = piece t.most c.number bytes; last = h.last; same_number = h.same_number; heeds = h.bounds.heeds; number = h.number; fits = h.bounds.fits }
 
   -- what a block brings
   ack_cut : (c : Core) (t : CardState) (ps : List (List ℕ)) → c.extension ≡ None → c.drawing ≡ true → taken (cut_of t ps) (request c) ≡ cut_of t ps
@@ -207,58 +143,31 @@ module _ (m k : ℕ) (out : List ℕ) where
   abbrev given_time : CardState → CardState
   given_time t = record t { due = 0; last = Some (piece t.most t.number t.left); left = drop t.most t.left; unsent = nat_lt t.most (length t.left) }
 
-  time_again : (t : CardState) → 0 < t.due → 1 < t.due
+  asks_again : (t : CardState) → 0 < t.due → 1 < t.due
       → block_table t (Extend t.times) ≡ record { state = record t { due = t.due - 1 }; does = Answers (Extend t.times) }
-  time_again t l p = rw (lt-ltb 0 t.due l, same t.times, lt-ltb 1 t.due p) refl
+  asks_again t l p = rw (lt-ltb 0 t.due l, same t.times, lt-ltb 1 t.due p) refl
 
   has_time : (t : CardState) → 0 < t.due → t.due ≤ 1 → block_table t (Extend t.times) ≡ record { state = given_time t; does = Answers (piece t.most t.number t.left) }
   has_time t l p = rw (lt-ltb 0 t.due l, same t.times, not_lt 1 t.due p) refl
 
   time_lands : (i : ReaderState) (t : CardState) (g : Option (List ℕ)) (f : Signal) (n : ℕ) → i.phase ≡ Asked → f ≡ block_frame (Extend t.times)
-      → i.core.extension ≡ Some t.times → i.bads ≤ most_bads → Extending m k out i.core t g (i.bads + 1) → 2 * (t.due + pieces t.most t.left) ≤ n + 2
-      → Lands iso_dep out (Ask m k out) (Wait m k out) (more m k out) (Fits m k out) IsCut i t g f n (iso_dep.heard t f) (iso_dep.does t f)
+      → i.core.extension ≡ Some t.times → i.bads ≤ most_bads → Extending iso_ends m k out i.core t g (i.bads + 1) → 2 * (t.due + pieces t.most t.left) ≤ n + 2
+      → Lands iso_dep out (Ask m k out) (Wait m k out) (more iso_ends m k out) (Fits iso_ends m k out) IsCut i t g f n (iso_dep.heard t f) (iso_dep.does t f)
   time_lands i t g f n p y w z h b = go (nat_lt 1 t.due) refl
     where
-      go : (d : Bool) → nat_lt 1 t.due ≡ d → Lands iso_dep out (Ask m k out) (Wait m k out) (more m k out) (Fits m k out) IsCut i t g f n (iso_dep.heard t f) (iso_dep.does t f)
+      go : (d : Bool) → nat_lt 1 t.due ≡ d → Lands iso_dep out (Ask m k out) (Wait m k out) (more iso_ends m k out) (Fits iso_ends m k out) IsCut i t g f n (iso_dep.heard t f) (iso_dep.does t f)
       go true d =
           let l = ltb-true 1 t.due d in
-          let e : Extending m k out i.core (record t { due = t.due - 1 }) g i.bads = record {
-            bounds = h.bounds;
-            number = h.number;
-            sending = h.sending;
-            empty = h.empty;
-            no_more = h.no_more;
-            same_number = h.same_number;
-            no_chain = h.no_chain;
-            last = h.last;
-            due = omega arith;
-            reply = h.reply;
-            short_back = h.short_back;
-            count = (let c = h.count in omega arith);
-          } in
-          lands_by i t g f (Extend t.times) n _ y h.bounds.heeds tt (time_again t h.due l) (
+          let e = time_again iso_ends m k out i.core t (record t { due = t.due - 1 }) g h.expects i.bads h l tt refl in
+          lands_by i t g f (Extend t.times) n _ y h.bounds.heeds tt (asks_again t h.due l) (
             has (inl p) (Extend t.times) refl h.last (of_time z e (omega arith)),
             cuts_same t (record t { due = t.due - 1 }) f (Extend t.times) y tt (λ ps. refl),
           )
       go false d =
           let l = le_from_not 1 t.due d in
-          let v : t.number ≡ i.core.number = h.same_number in
-          let e : Answered m k out i.core (given_time t) g t.left = record {
-            bounds = h.bounds;
-            number = h.number;
-            plain = λ d. absurd (let s = h.sending in cc);
-            none_due = refl;
-            no_more = h.no_more;
-            same_number = h.same_number;
-            no_chain = h.no_chain;
-            last = ap (λ (x : ℕ). let o : Option Block = Some (piece t.most x t.left) in o) v;
-            left = refl;
-            unsent = refl;
-            reply = rw h.empty h.reply;
-            short_back = rw h.empty h.short_back;
-          } in
+          let e = time_over iso_ends m k out i.core t (given_time t) g h.expects (i.bads + 1) h (λ d. absurd (let s = h.sending in cc)) (rw h.expects refl) in
           lands_by i t g f (Extend t.times) n _ y h.bounds.heeds tt (has_time t h.due l) (
-            has (inl p) (piece t.most t.number t.left) refl refl (of_answer t.left e (let a = h.due in omega arith)),
+            has (inl p) (piece t.most t.number t.left) refl refl (of_reply t.left e (let a = h.due in omega arith)),
             cuts_same t (given_time t) f (Extend t.times) y tt (λ ps. refl),
           )
 
@@ -267,16 +176,16 @@ module _ (m k : ℕ) (out : List ℕ) where
   is_extension c t f w e = e ∙ ap (λ (o : Option ℕ). block_frame (asked c o)) w
 
   pub lands_at : (i : ReaderState) (t : CardState) (g : Option (List ℕ)) (f : Signal) (n : ℕ) → Ask m k out i t g f n
-      → Lands iso_dep out (Ask m k out) (Wait m k out) (more m k out) (Fits m k out) IsCut i t g f n (iso_dep.heard t f) (iso_dep.does t f)
+      → Lands iso_dep out (Ask m k out) (Wait m k out) (more iso_ends m k out) (Fits iso_ends m k out) IsCut i t g f n (iso_dep.heard t f) (iso_dep.does t f)
   lands_at i t g f n (asks p e z h b) = go (nat_lt i.core.most (length i.core.rest)) refl
     where
       r : IsBlock (request i.core)
       r = is_request i.core h.plain h.number h.bounds.fits
 
       go : (d : Bool) → nat_lt i.core.most (length i.core.rest) ≡ d
-          → Lands iso_dep out (Ask m k out) (Wait m k out) (more m k out) (Fits m k out) IsCut i t g f n (iso_dep.heard t f) (iso_dep.does t f)
+          → Lands iso_dep out (Ask m k out) (Wait m k out) (more iso_ends m k out) (Fits iso_ends m k out) IsCut i t g f n (iso_dep.heard t f) (iso_dep.does t f)
       go true d =
-          let q = piece_taken i.core t g h (ltb-true i.core.most (length i.core.rest) d) in
+          let q = takes i.core t g h (ltb-true i.core.most (length i.core.rest) d) in
           lands_by i t g f (request i.core) n _ e h.bounds.heeds r q.0 (
             has (inl p) (Ack (toggled t.number)) refl refl (of_chain q.1 b),
             cuts_same t (took t i.core) f (request i.core) e r (λ ps. chained_cut i.core t ps h.plain h.sending d),
@@ -293,25 +202,25 @@ module _ (m k : ℕ) (out : List ℕ) where
             ),
           )
   lands_at i t g f n (draws p e h b) =
-      let q = reply_drawn i.core t g h in
+      let q = draws_on i.core t g h in
       let r = is_request i.core h.plain h.number h.bounds.fits in
       lands_by i t g f (request i.core) n _ e h.bounds.heeds r q.0 (
-        has (inl p) (piece t.most (toggled t.number) t.left) refl refl (of_answer t.left q.1 b),
+        has (inl p) (piece t.most (toggled t.number) t.left) refl refl (of_reply t.left q.1 b),
         cuts_same t (drew t) f (request i.core) e r (λ ps. ack_cut i.core t ps h.plain h.receiving),
       )
   lands_at i t g f n (grants p e w z h b) = time_lands i t g f n p (is_extension i.core t f w e) w z h b
   lands_at i t g f n (draws_again p e d w h) =
-      let a = last_of i.core t g n i.bads h in
+      let a = last_of iso_ends m k out i.core t g n i.bads h in
       let r = is_request i.core w a.number a.fits in
-      lands_by i t g f (request i.core) n (record { state = t; does = Answers a.block }) e a.heeds r (request_again i.core t a.block w d a.same_number a.last)
-      (has (inl p) a.block refl a.last h, cuts_same t t f (request i.core) e r (λ ps. ack_cut i.core t ps w d))
+      lands_by i t g f (request i.core) n (record { state = t; does = Answers a.value }) e a.heeds r (request_again i.core t a.value w d a.expects a.last)
+      (has (inl p) a.value refl a.last h, cuts_same t t f (request i.core) e r (λ ps. ack_cut i.core t ps w d))
   lands_at i t g f n (naks p e z h b) =
-      lands_by i t g f (Nak i.core.number) n (record { state = t; does = Answers (Ack t.number) }) e h.bounds.heeds h.number (nak_missed i.core t h.other h.number)
+      lands_by i t g f (Nak i.core.number) n (record { state = t; does = Answers (Ack t.number) }) e h.bounds.heeds h.number (nak_missed i.core t h.expects h.number)
       (misses p refl z h b, cuts_same t t f (Nak i.core.number) e h.number (λ ps. refl))
   lands_at i t g f n (naks_held p e d h) =
-      let a = last_of i.core t g n i.bads h in
-      lands_by i t g f (Nak i.core.number) n (record { state = t; does = Answers a.block }) e a.heeds a.number (nak_again i.core t a.block a.same_number a.last)
-      (has (inr p) a.block refl a.last h, cuts_same t t f (Nak i.core.number) e a.number (λ ps. refl))
+      let a = last_of iso_ends m k out i.core t g n i.bads h in
+      lands_by i t g f (Nak i.core.number) n (record { state = t; does = Answers a.value }) e a.heeds a.number (nak_again i.core t a.value a.expects a.last)
+      (has (inr p) a.value refl a.last h, cuts_same t t f (Nak i.core.number) e a.number (λ ps. refl))
 
   -- the card is never silent at what is asked of it
   speaks_by : (t : CardState) (f : Signal) (b : Block) (x : CardMove) → f ≡ block_frame b → t.mute ≡ false → IsBlock b → block_table t b ≡ x
@@ -327,19 +236,20 @@ module _ (m k : ℕ) (out : List ℕ) where
       r = is_request i.core h.plain h.number h.bounds.fits
 
       go : (d : Bool) → nat_lt i.core.most (length i.core.rest) ≡ d → iso_dep.does t f ≡ Quiet → ⊥
-      go true d = speaks_by t f (request i.core) _ e h.bounds.heeds r (piece_taken i.core t g h (ltb-true i.core.most (length i.core.rest) d)).0 (λ z. absurd (cc))
+      go true d = speaks_by t f (request i.core) _ e h.bounds.heeds r (takes i.core t g h (ltb-true i.core.most (length i.core.rest) d)).0 (λ z. absurd (cc))
       go false d = speaks_by t f (request i.core) _ e h.bounds.heeds r (handed_over i.core t g h (le_from_not i.core.most (length i.core.rest) d)).0 (λ z. absurd (cc))
-  speaks_at i t g f n (draws p e h b) = speaks_by t f (request i.core) _ e h.bounds.heeds (is_request i.core h.plain h.number h.bounds.fits) (reply_drawn i.core t g h).0 (λ z. absurd (cc))
+  speaks_at i t g f n (draws p e h b) = speaks_by t f (request i.core) _ e h.bounds.heeds (is_request i.core h.plain h.number h.bounds.fits) (draws_on i.core t g h).0 (λ z. absurd (cc))
   speaks_at i t g f n (grants p e w z h b) = go (nat_lt 1 t.due) refl
     where
       go : (d : Bool) → nat_lt 1 t.due ≡ d → iso_dep.does t f ≡ Quiet → ⊥
-      go true d = speaks_by t f (Extend t.times) _ (is_extension i.core t f w e) h.bounds.heeds tt (time_again t h.due (ltb-true 1 t.due d)) (λ z. absurd (cc))
+      go true d = speaks_by t f (Extend t.times) _ (is_extension i.core t f w e) h.bounds.heeds tt (asks_again t h.due (ltb-true 1 t.due d)) (λ z. absurd (cc))
       go false d = speaks_by t f (Extend t.times) _ (is_extension i.core t f w e) h.bounds.heeds tt (has_time t h.due (le_from_not 1 t.due d)) (λ z. absurd (cc))
   speaks_at i t g f n (draws_again p e d w h) =
-      let a = last_of i.core t g n i.bads h in
-      speaks_by t f (request i.core) (record { state = t; does = Answers a.block }) e a.heeds (is_request i.core w a.number a.fits) (request_again i.core t a.block w d a.same_number a.last) (λ z. absurd (cc))
+      let a = last_of iso_ends m k out i.core t g n i.bads h in
+      speaks_by t f (request i.core) (record { state = t; does = Answers a.value }) e a.heeds (is_request i.core w a.number a.fits)
+      (request_again i.core t a.value w d a.expects a.last) (λ z. absurd (cc))
   speaks_at i t g f n (naks p e z h b) =
-      speaks_by t f (Nak i.core.number) (record { state = t; does = Answers (Ack t.number) }) e h.bounds.heeds h.number (nak_missed i.core t h.other h.number) (λ z. absurd (cc))
+      speaks_by t f (Nak i.core.number) (record { state = t; does = Answers (Ack t.number) }) e h.bounds.heeds h.number (nak_missed i.core t h.expects h.number) (λ z. absurd (cc))
   speaks_at i t g f n (naks_held p e d h) =
-      let a = last_of i.core t g n i.bads h in
-      speaks_by t f (Nak i.core.number) (record { state = t; does = Answers a.block }) e a.heeds a.number (nak_again i.core t a.block a.same_number a.last) (λ z. absurd (cc))
+      let a = last_of iso_ends m k out i.core t g n i.bads h in
+      speaks_by t f (Nak i.core.number) (record { state = t; does = Answers a.value }) e a.heeds a.number (nak_again i.core t a.value a.expects a.last) (λ z. absurd (cc))

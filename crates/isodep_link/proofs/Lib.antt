@@ -1,6 +1,6 @@
 pub mod Spelled
 pub mod Once
-pub mod Ended
+pub mod Moves
 pub mod Brought
 pub mod Wire
 pub mod Standing
@@ -14,7 +14,6 @@ pub mod CutSizes
 pub mod Images
 pub mod AskingLaw
 pub mod AnyTag
-pub mod Falls
 pub mod IsoViews
 pub mod IsoAnswers
 pub mod ActivateLaw

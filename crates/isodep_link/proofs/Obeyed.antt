@@ -5,8 +5,10 @@ use Rattle.nfc_base.proofs.ExactlyOnce.{Keeps, exactly_once}
 use Rattle.isodep_link.specs.Sizes.{limit}
 use Rattle.isodep_link.specs.Card.{CardState}
 use Rattle.isodep_link.specs.Reader.{ReaderState, begun}
-use Rattle.isodep_link.specs.Exchange.{iso_dep, pieces, blocks_back, InStep, IsCut, beginning, ObeysOnce}
-use Rattle.isodep_link.proofs.Standing.{Asking, Ask, asks, Wait, more, Fits}
+use Rattle.nfc_base.specs.Pieces.{pieces}
+use Rattle.isodep_link.specs.Exchange.{iso_dep, blocks_back, InStep, IsCut, beginning, ObeysOnce}
+use Rattle.nfc_base.proofs.Chains.{Asking, more, Fits}
+use Rattle.isodep_link.proofs.Standing.{iso_ends, Ask, asks, Wait}
 use Rattle.isodep_link.proofs.Landing.{lands_at}
 use Rattle.isodep_link.proofs.Hearing.{unheard_at, lost_at, damaged_at, answered_at, ask_left}
 
@@ -16,8 +18,8 @@ keeps m k out = record {
   Ask = Ask m k out;
   Wait = Wait m k out;
   Done = InStep;
-  more = more m k out;
-  Fits = Fits m k out;
+  more = more iso_ends m k out;
+  Fits = Fits iso_ends m k out;
   Stood = IsCut;
   stood = λ t commands arrived s. ap (λ c. c.commands) s;
   some_left = ask_left m k out;
@@ -29,7 +31,7 @@ keeps m k out = record {
 }
 
 -- an exchange begins so
-pub asking_first : (i : ReaderState) (t : CardState) (command : List ℕ) → length command ≤ limit → InStep i t → Asking t.most t.busy command (begun i command).core t None
+pub asking_first : (i : ReaderState) (t : CardState) (command : List ℕ) → length command ≤ limit → InStep i t → Asking iso_ends t.most t.busy command (begun i command).core t None
 asking_first i t command short s =
     record {
       bounds = record { heeds = s.heeds; short = short; some = s.asks.0; fits = s.asks.1; sizes = refl; some_back = s.answers.0; fits_back = s.answers.1; asks = refl; few = s.busy; long = s.times.0; longest = s.times.1 };
@@ -38,7 +40,7 @@ asking_first i t command short s =
       none_yet = refl;
       sending = refl;
       empty = refl;
-      other = s.other;
+      expects = s.other;
       joins = rw s.no_chain refl;
       none = refl;
     }

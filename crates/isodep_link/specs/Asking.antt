@@ -23,7 +23,8 @@ use Rattle.isodep_link.specs.Blocks.{block_frame}
 use Rattle.isodep_link.specs.Card.{CardState}
 use Rattle.isodep_link.specs.Reader.{ReaderState, reader_table, request, begun}
 use Rattle.isodep_link.specs.Commands.{iso_commands}
-use Rattle.isodep_link.specs.Exchange.{blocks_of, pieces, InStep, IsCut, blocks_back}
+use Rattle.nfc_base.specs.Pieces.{pieces}
+use Rattle.isodep_link.specs.Exchange.{blocks_of, InStep, IsCut, blocks_back}
 use Rattle.isodep_link.specs.Muted.{SpeaksMute, IsStopped}
 use Rattle.isodep_link.specs.CardTags.{IsAskedFrame, TagDoes, IsCardTag}
 

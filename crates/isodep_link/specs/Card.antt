@@ -171,10 +171,6 @@ darkened t = record (fresh t.code) { busy = t.busy; times = t.times }
 abbrev pub made_busy : CardState → ℕ → ℕ → CardState
 made_busy t count times = record t { busy = count; times = times }
 
--- the most often that a card asks for more time before an answer
-abbrev pub most_busy : ℕ
-most_busy = 5
-
 -- a step whose answer stands in the place that it was given
 abbrev pub card_step_at : CardKind → Signal → CardStep
 card_step_at kinds.Quiet f = steps.Quiet

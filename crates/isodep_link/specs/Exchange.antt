@@ -1,8 +1,9 @@
 -- Both ends of ISO-DEP as a link that stops and waits (ISO/IEC 14443-4; NFC Forum Digital Protocol): their tables on the air,
 -- how one exchange begins, and in how many blocks its command and its answer are sent.
-use Rattle.std.specs.Prelude.{◌≡◌, ℕ, ◌+◌, ◌-◌, ◌/◌, ◌<◌, ◌≤◌, false, List, [], ◌∷◌, length, Option, Some, None}
+use Rattle.std.specs.Prelude.{◌≡◌, ℕ, ◌+◌, ◌<◌, ◌≤◌, false, List, [], ◌∷◌, length, Option, Some, None}
 use Rattle.nfc_base.specs.Signal.{Signal}
-use Rattle.nfc_base.specs.StopAndWait.{Does, Quiet, Reply, Deliver, Finished, SixBad, Protocol, Next, Send, Ends, StopAndWait, Requests, World, Once, IsReplyTo, run}
+use Rattle.nfc_base.specs.StopAndWait.{Does, Quiet, Reply, Deliver, Finished, SixBad, Protocol, Next, Send, Ends, StopAndWait, World, Once, IsReplyTo, run}
+use Rattle.nfc_base.specs.Sessions.{opening}
 use Rattle.nfc_base.specs.LinkTurns.{heard_of}
 use Rattle.isodep_link.specs.declared.block.Block.{Block}
 use Rattle.isodep_link.specs.declared.card.CardStep.{CardStep}
@@ -10,8 +11,9 @@ use Rattle.isodep_link.specs.declared.card.CardStep.TheVariants as card
 use Rattle.isodep_link.specs.declared.reader.ReaderStep.{ReaderStep}
 use Rattle.isodep_link.specs.declared.reader.ReaderStep.TheVariants as reader
 use Rattle.isodep_link.specs.Blocks.{toggled, block_frame, spelled_block}
-use Rattle.isodep_link.specs.Card.{CardState, card_table, replied, reply_block, darkened, most_busy}
-use Rattle.isodep_link.specs.Reader.{ReaderState, reader_table, begun, request, longest_extension}
+use Rattle.nfc_base.specs.Pieces.{pieces, most_busy, longest_extension}
+use Rattle.isodep_link.specs.Card.{CardState, card_table, replied, reply_block, darkened}
+use Rattle.isodep_link.specs.Reader.{ReaderState, reader_table, begun, request}
 use Rattle.nfc_base.specs.declared.event.Fate.{Fate}
 use Rattle.isodep_link.specs.Sizes.{limit}
 use Rattle.isodep_link.specs.Commands.{cut_by, iso_commands}
@@ -55,10 +57,6 @@ iso_dep = record {
 abbrev pub Exchange : Type 0
 Exchange = World ReaderState CardState Signal
 
--- how many blocks some bytes take, by the most content of each
-abbrev pub pieces : ℕ → List ℕ → ℕ
-pieces most xs = 1 + (length xs - 1) / most
-
 -- What a card's answers take: the most content of a block that it sends, and how often it asks for more time first.
 pub record Backs : Type 0 where
   pub most : ℕ
@@ -101,16 +99,11 @@ IsReady w = InStep w.asking w.answering × IsCut w.answering w.delivered w.arriv
 -- an exchange of this command begins, behind those in which the card obeyed these commands and heard these frames
 abbrev pub beginning : ReaderState → CardState → List (List ℕ) → List Signal → List ℕ → Exchange
 beginning i t commands arrived command =
-    record {
-      asking = begun i command;
-      answering = t;
-      stage = Requests (block_frame (request (begun i command).core));
-      given = None;
-      delivered = commands;
-      arrived = arrived;
-      sent = 0;
-      bads = 0;
-    }
+    opening (begun i command) t commands arrived (block_frame (request (begun i command).core))
+
+-- the exchange of a command begins, from where the one before it ended
+abbrev pub next_exchange : Exchange → List ℕ → Exchange
+next_exchange w command = beginning w.asking w.answering w.delivered w.arrived command
 
 -- The law of an exchange between a reader with this state and a card with that one, whose owner answers by the function far:
 -- at any moment the command was obeyed at most once, as Once says, with at most 2 (k1 + k2 - 1) + 2 K + 4 b transmissions.

@@ -16,7 +16,8 @@ use Rattle.air_core.specs.declared.listener.Listener.{Ghosts}
 use Rattle.isodep_link.specs.Card.{CardState}
 use Rattle.isodep_link.specs.Reader.{ReaderState}
 use Rattle.isodep_link.specs.Commands.{iso_commands}
-use Rattle.isodep_link.specs.Exchange.{blocks_of, pieces, Backs, backs_of}
+use Rattle.nfc_base.specs.Pieces.{pieces}
+use Rattle.isodep_link.specs.Exchange.{blocks_of, Backs, backs_of}
 use Rattle.isodep_link.specs.declared.link.IsoLink.{IsoLink}
 use Rattle.isodep_link.specs.Asking.{IsoStanding, Waits, Rests, Broken, asks, stand, iso_next, AsksCommand, HasCardTag, Exchanges}
 

@@ -22,7 +22,8 @@ use Rattle.isodep_link.specs.declared.reader.ReaderStep.TheVariants as steps
 use Rattle.isodep_link.specs.Card.{CardState}
 use Rattle.isodep_link.specs.Reader.{ReaderState, reader_table}
 use Rattle.isodep_link.specs.Asking.{IsoStanding, Waits, Rests, Broken, Astray, asks, goes_by, noted, stand, due_at, iso_next}
-use Rattle.isodep_link.specs.Exchange.{pieces, Backs}
+use Rattle.nfc_base.specs.Pieces.{pieces}
+use Rattle.isodep_link.specs.Exchange.{Backs}
 use Rattle.isodep_link.specs.IsoLinks.{IsoSeen, bytes_of, answer_pieces, most_sent, IsoStandsAt, card_backs, iso_view, EachOnce, IsoAsks, IsoMoves}
 use Rattle.nfc_base.specs.TagLinks.{TagState}
 

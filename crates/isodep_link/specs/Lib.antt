@@ -8,7 +8,6 @@ pub mod Sessions
 pub mod CardTags
 pub mod Muted
 pub mod Asking
-pub mod Falling
 pub mod IsoLinks
 pub mod IsoMoving
 pub mod Activating

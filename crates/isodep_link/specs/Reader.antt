@@ -1,6 +1,6 @@
 -- The reader's end of ISO-DEP (ISO/IEC 14443-4; NFC Forum Digital Protocol): what it sends next, or how the exchange
 -- ends, by what it sent last and what it heard. The six receptions and the 264 bytes are this project's own.
-use Rattle.std.specs.Prelude.{◌≡◌, ℕ, ◌+◌, ◌==◌, nat_lt, Bool, true, false, not, List, [], ◌++◌, length, drop, Option, Some, None, if◌then◌else◌}
+use Rattle.std.specs.Prelude.{◌≡◌, ℕ, ◌+◌, ◌==◌, nat_lt, Bool, true, false, List, [], ◌++◌, drop, Option, Some, None, if◌then◌else◌}
 use Rattle.nfc_base.specs.Signal.{Signal}
 use Rattle.nfc_base.specs.declared.event.Heard.{Heard}
 use Rattle.nfc_base.specs.declared.event.Heard.TheVariants.{Whole, Collided, Damaged, Silent}
@@ -13,19 +13,8 @@ use Rattle.isodep_link.specs.declared.reader.ReaderKind.{ReaderKind}
 use Rattle.isodep_link.specs.declared.reader.ReaderKind.TheVariants as kinds
 use Rattle.isodep_link.specs.declared.reader.ReaderStep.TheVariants as steps
 use Rattle.isodep_link.specs.Blocks.{toggled, piece, block_frame, spelled_block, IsSpelled}
+use Rattle.nfc_base.specs.Pieces.{Core, most_bads, quiet_core, begun_core, turned, more_follows, is_refused, may_extend}
 use Rattle.isodep_link.specs.Sizes.{piece_size, limit}
-
--- Where an exchange stands: the number, the most content of a block that the card takes, the bytes of the command that
--- aren't acknowledged, whether the answer is coming in a chain, the answer so far, the time extension that is being granted, and how
--- many were granted in this wait.
-pub record Core : Type 0 where
-  pub number : ℕ
-  pub most : ℕ
-  pub rest : List ℕ
-  pub drawing : Bool
-  pub got : List ℕ
-  pub extension : Option ℕ
-  pub granted : ℕ
 
 -- A reader: that, what it sent last or how its exchange ended, and the bad receptions of this wait.
 pub record ReaderState : Type 0 where
@@ -54,13 +43,6 @@ pub record ReaderTurn : Type 0 where
   pub state : ReaderState
   pub does : ReaderStep
 
--- the most time extensions that are granted in a wait, and the longest
-abbrev pub most_extensions : ℕ
-most_extensions = 16
-
-abbrev pub longest_extension : ℕ
-longest_extension = 59
-
 -- the block of a wait, or the time extension that is granted in it
 abbrev pub asked : Core → Option ℕ → Block
 asked c None = if c.drawing then Ack c.number else piece c.most c.number c.rest
@@ -86,36 +68,27 @@ abbrev pub after_bad : Phase → Core → Phase
 after_bad Free c = Free
 after_bad _ c = if c.drawing then Asked else Nacked
 
--- the most bad receptions of a wait that goes on
-abbrev pub most_bads : ℕ
-most_bads = 5
-
 abbrev pub bad : ReaderState → ReaderMove
 bad i =
     if nat_lt i.bads most_bads
     then sends i.core (after_bad i.phase i.core) (i.bads + 1)
     else record { state = record i { phase = EndedSixBad }; does = GivesUp }
 
--- a core whose wait ended: the number toggles, and no time was granted yet
-abbrev pub turned : Core → List ℕ → Bool → List ℕ → Core
-turned c rest drawing got = record c { number = toggled c.number; rest = rest; drawing = drawing; got = got; extension = None; granted = 0 }
-
 -- a piece of the answer was taken, with which it is xs
 abbrev pub received : ReaderState → Bool → List ℕ → ReaderMove
-received i true xs = sends (turned i.core [] true xs) Asked 0
-received i false xs = record { state = record { core = turned i.core [] false []; phase = Free; bads = 0 }; does = Gives xs }
-
--- whether pieces of the command follow the one that is under way
-abbrev pub more_follows : Core → Bool
-more_follows c = if c.drawing then false else nat_lt c.most (length c.rest)
-
--- A piece is refused that makes the answer too long, or has no content and more pieces behind it.
-abbrev pub is_refused : Bool → List ℕ → List ℕ → Bool
-is_refused more xs all = if nat_lt limit (length all) then true else (if more then not (nat_lt 0 (length xs)) else false)
+received i true xs = sends (turned i.core (toggled i.core.number) [] true xs) Asked 0
+received i false xs =
+    record {
+      state = record { core = turned i.core (toggled i.core.number) [] false []; phase = Free; bads = 0 };
+      does = Gives xs;
+    }
 
 -- R(ACK) with the reader's number
 abbrev pub acked : ReaderState → ReaderMove
-acked i = if more_follows i.core then sends (turned i.core (drop i.core.most i.core.rest) false i.core.got) Asked 0 else refuses i
+acked i =
+    if more_follows i.core
+    then sends (turned i.core (toggled i.core.number) (drop i.core.most i.core.rest) false i.core.got) Asked 0
+    else refuses i
 
 -- R(ACK) with the other number: the card didn't hear the last I-block
 abbrev pub missed : ReaderState → Phase → ReaderMove
@@ -123,14 +96,8 @@ missed i Nacked = sends (record i.core { extension = None }) Asked i.bads
 missed i _ = refuses i
 
 abbrev pub brought : ReaderState → Bool → List ℕ → ReaderMove
-brought i more xs = if is_refused more xs (i.core.got ++ xs) then refuses i else received i more (i.core.got ++ xs)
-
--- Whether a card may ask for so much more time: where its answer is due and no piece of it came, so long, and so often in a wait.
-abbrev pub may_extend : Core → ℕ → Bool
-may_extend c times =
-    if c.drawing then false
-    else (if more_follows c then false
-    else (if nat_lt 0 times then (if nat_lt longest_extension times then false else nat_lt c.granted most_extensions) else false))
+brought i more xs =
+    if is_refused limit more xs (i.core.got ++ xs) then refuses i else received i more (i.core.got ++ xs)
 
 abbrev pub extended : ReaderState → ℕ → ReaderMove
 extended i times =
@@ -192,13 +159,11 @@ reader_table i h = framed (block_next i (reception h))
 
 -- a reader that begins with a command
 abbrev pub begun : ReaderState → List ℕ → ReaderState
-begun i command =
-    record { core = record i.core { rest = command; drawing = false; got = []; extension = None; granted = 0 }; phase = Asked; bads = 0 }
+begun i command = record { core = begun_core i.core command; phase = Asked; bads = 0 }
 
 -- a reader that knows a card's size code, and asked nothing
 abbrev pub waiting : ℕ → ReaderState
-waiting code =
-    record { core = record { number = 0; most = piece_size code; rest = []; drawing = false; got = []; extension = None; granted = 0 }; phase = Free; bads = 0 }
+waiting code = record { core = quiet_core (piece_size code); phase = Free; bads = 0 }
 
 -- a step whose frame stands in the place that it was given
 abbrev pub reader_step_at : ReaderKind → Signal → ReaderStep

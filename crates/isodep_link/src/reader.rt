@@ -2,7 +2,8 @@
 
 ghost use Rattle.std.specs.Prelude.{◌≡◌, ◌<◌, ◌≤◌, length, None};
 ghost use Rattle.isodep_link.specs.Blocks.{block_frame, spelled_block, IsSpelled};
-ghost use Rattle.isodep_link.specs.Reader.{ReaderTurn, reader_table, framed, sent, sends, refuses, bad, acked, missed, brought, answered, waited, whole_reception, request, more_follows, may_extend, extended, begun, waiting, SpellsSent, reader_step_at};
+ghost use Rattle.nfc_base.specs.Pieces.{more_follows, may_extend};
+ghost use Rattle.isodep_link.specs.Reader.{ReaderTurn, reader_table, framed, sent, sends, refuses, bad, acked, missed, brought, answered, waited, whole_reception, request, extended, begun, waiting, SpellsSent, reader_step_at};
 
 use crate::block::{Block, piece, toggled};
 use crate::size::piece_size;

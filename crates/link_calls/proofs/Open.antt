@@ -12,10 +12,12 @@ use Rattle.dep_pdu.specs.declared.frame.DepFrame.{DepFrame}
 use Rattle.dep_pdu.specs.declared.frame.DepFrame.TheVariants.{AtrReq, AtrRes, Info, Ack, Nack, Attention, Extend, DslReq, DslRes, RlsReq, RlsRes}
 use Rattle.dep_link.specs.declared.initiator.Phase.{Phase}
 use Rattle.dep_link.specs.declared.initiator.Phase.TheVariants.{Asked, Nacked, Attending, Free, EndedSixBad, EndedProtocol}
-use Rattle.dep_link.specs.Frames.{spelled}
+use Rattle.dep_link.specs.Frames.{spelled, after}
 use Rattle.dep_link.specs.Target.{TargetState}
 use Rattle.dep_link.specs.Payloads.{Cut}
-use Rattle.dep_link.specs.Initiator.{Core, InitState, InitMove, Next, Asks, Gives, GivesUp, Refuses, sends, refuses, bad, most_bads, turned, received, more_follows, is_refused, brought, may_extend, answered, waited, attending, whole, damaged, silent, heard_next, framed_next}
+use Rattle.dep_link.specs.Sizes.{limit}
+use Rattle.nfc_base.specs.Pieces.{Core, most_bads, turned, more_follows, is_refused, may_extend}
+use Rattle.dep_link.specs.Initiator.{InitState, InitMove, Next, Asks, Gives, GivesUp, Refuses, sends, refuses, bad, received, brought, answered, waited, attending, whole, damaged, silent, heard_next, framed_next}
 use Rattle.dep_link.specs.Asking.{Standing, Waits, Rests, Broken, Astray, asks, goes_by, noted, stand}
 use Rattle.dep_link.specs.DepLinks.{DepSeen, Exchanged, StandsAt, IsDepReady, IsInStep, over_at}
 
@@ -38,18 +40,18 @@ bad_frees i p =
     if_frees (nat_lt i.bads most_bads) (sends i i.core p (i.bads + 1)) (record { state = record i { phase = EndedSixBad }; does = GivesUp }) (sends_frees i i.core p (i.bads + 1)) (λ xs e. absurd cc)
 
 received_frees : (i : InitState) (more : Bool) (xs : List ℕ) → Frees (received i more xs)
-received_frees i true xs = sends_frees i (turned i.core [] true xs) Asked 0
+received_frees i true xs = sends_frees i (turned i.core (after i.core.number) [] true xs) Asked 0
 received_frees i false xs = λ ys e. refl
 
 answered_frees : (i : InitState) (v : DepFrame) → Frees (answered i v)
 answered_frees i (Ack true pni) =
-    let c : Core = turned i.core (drop i.core.most i.core.rest) false i.core.got in
+    let c : Core = turned i.core (after i.core.number) (drop i.core.most i.core.rest) false i.core.got in
     if_frees (if more_follows i.core then pni == i.core.number else false) (sends i c Asked 0) (refuses i) (sends_frees i c Asked 0) (refuses_frees i)
 answered_frees i (Ack false pni) = refuses_frees i
 answered_frees i (Info true more pni x) =
     let xs : List ℕ = i.core.got ++ x.items in
     if_frees (if more_follows i.core then false else pni == i.core.number) (brought i more x.items) (refuses i)
-    (if_frees (is_refused more x.items xs) (refuses i) (received i more xs) (refuses_frees i) (received_frees i more xs)) (refuses_frees i)
+    (if_frees (is_refused limit more x.items xs) (refuses i) (received i more xs) (refuses_frees i) (received_frees i more xs)) (refuses_frees i)
 answered_frees i (Info false more pni x) = refuses_frees i
 answered_frees i (Extend true times) =
     let c : Core = record i.core { extension = Some times; granted = i.core.granted + 1 } in

@@ -6,10 +6,12 @@ use Rattle.dep_pdu.specs.declared.frame.DepFrame.{DepFrame}
 use Rattle.dep_pdu.specs.declared.frame.DepFrame.TheVariants.{AtrReq, AtrRes, Info, Ack, Nack, Attention, Extend, DslReq, DslRes, RlsReq, RlsRes}
 use Rattle.dep_link.specs.Exchange.{before_frames}
 use Rattle.dep_link.specs.Frames.{spelled}
-use Rattle.dep_link.specs.Initiator.{Core, InitState}
+use Rattle.nfc_base.specs.Pieces.{Core}
+use Rattle.dep_link.specs.Initiator.{InitState}
 use Rattle.dep_link.specs.Payloads.{Cut}
 use Rattle.dep_link.specs.Target.{TargetState}
-use Rattle.dep_link.proofs.Standing.{Held, of_chain, of_reply, of_time, Wait, has, stays_up}
+use Rattle.nfc_base.proofs.Chains.{Held, of_chain, of_reply, of_time}
+use Rattle.dep_link.proofs.Standing.{dep_ends, Wait, has, stays_up}
 use Rattle.dep_link.proofs.Wire.{written_read}
 use Rattle.link_numbers.specs.Shown.{has_content, pieces_of}
 use Rattle.link_numbers.proofs.Spoken.{IsFilled, Full}
@@ -37,12 +39,12 @@ last_filled : (t : TargetState) (v : DepFrame) → t.last ≡ Some v → IfSome 
 last_filled t v e h = subst (λ (o : Option DepFrame). IfSome o IsFilled) e h
 
 -- before anything was delivered a target that has what the initiator asks acknowledges
-none_filled : (m k : ℕ) (out : List ℕ) (c : Core) (t : TargetState) (n bads : ℕ) (v : DepFrame) → Held m k out c t None n bads → t.last ≡ Some v → IsFilled v
+none_filled : (m k : ℕ) (out : List ℕ) (c : Core) (t : TargetState) (n bads : ℕ) (v : DepFrame) → Held dep_ends m k out c t None n bads → t.last ≡ Some v → IsFilled v
 none_filled m k out c t n bads v (of_chain h l) e = let q : v ≡ Ack true c.number = (let y = h.last in cc) in rw q tt
 none_filled m k out c t n bads v (of_reply bytes h l) e = absurd (let y = h.reply in cc)
 none_filled m k out c t n bads v (of_time z h l) e = absurd (let y = h.reply in cc)
 
-held_filled : (m k : ℕ) (out : List ℕ) (c : Core) (t : TargetState) (g : Option (List ℕ)) (n bads : ℕ) (v : DepFrame) → Held m k out c t g n bads → t.last ≡ Some v → Full t g
+held_filled : (m k : ℕ) (out : List ℕ) (c : Core) (t : TargetState) (g : Option (List ℕ)) (n bads : ℕ) (v : DepFrame) → Held dep_ends m k out c t g n bads → t.last ≡ Some v → Full t g
     → IfSome g (λ r. 0 < length r) → IsFilled v
 held_filled m k out c t None n bads v h e q s = none_filled m k out c t n bads v h e
 held_filled m k out c t (Some r) n bads v h e q s = last_filled t v e (q s)

@@ -7,13 +7,14 @@ use Rattle.dep_pdu.specs.declared.frame.DepFrame.TheVariants.{Ack, Nack, Attenti
 use Rattle.dep_pdu.specs.Spelling.{IsDepFrame}
 use Rattle.dep_link.specs.Sizes.{limit}
 use Rattle.dep_link.specs.Frames.{air_frame, after, piece}
-use Rattle.dep_link.specs.Initiator.{Core, InitState, asked, request}
-use Rattle.dep_link.specs.Moves.{le_from_not}
+use Rattle.nfc_base.specs.Pieces.{Core}
+use Rattle.dep_link.specs.Initiator.{InitState, asked, request}
+use Rattle.nfc_base.proofs.Chains.{le_from_not, last_of, same, not_lt, chain_fits, Asking, Held, of_chain, of_reply, of_time}
 use Rattle.dep_link.specs.Payloads.{Cut}
 use Rattle.dep_link.specs.Replies.{taken_up}
 use Rattle.dep_link.specs.Target.{TargetState, Answers, target_table, heeded, framed}
-use Rattle.dep_link.proofs.Landing.{last_of, stands_heeds, is_request, request_again, nack_again, attention_answered}
-use Rattle.dep_link.proofs.Standing.{same, not_after, after_small, not_lt, chain_fits, Asking, Held, of_chain, of_reply, of_time, Stands, asking, drawing, granting, held, granted, Ask, asks, nacks, attends}
+use Rattle.dep_link.proofs.Landing.{stands_heeds, is_request, request_again, nack_again, attention_answered}
+use Rattle.dep_link.proofs.Standing.{dep_ends, not_after, after_small, Stands, asking, drawing, granting, held, granted, Ask, asks, nacks, attends}
 use Rattle.dep_link.proofs.Wire.{target_heeds, is_piece}
 use Rattle.link_numbers.proofs.Spoken as spoken
 use Rattle.link_numbers.proofs.Spoken.{Speaks, none_said, some_said, all_said, Spoken, Kind, move_of, IsOld, Fits, InRange, cut_at, said_none}
@@ -43,7 +44,7 @@ old_piece U n e most bytes h k = let q : U.next ≡ after n = h ∙ k in rw (q, 
 
 module _ (m k : ℕ) (out : List ℕ) where
   -- a target that has what the initiator asks said it before
-  pub held_old : (c : Core) (t : TargetState) (g : Option (List ℕ)) (n bads : ℕ) (v : DepFrame) → Held m k out c t g n bads → t.last ≡ Some v → IsDepFrame v × IsOld t g v
+  pub held_old : (c : Core) (t : TargetState) (g : Option (List ℕ)) (n bads : ℕ) (v : DepFrame) → Held dep_ends m k out c t g n bads → t.last ≡ Some v → IsDepFrame v × IsOld t g v
   held_old c t g n bads v (of_chain h l) e =
       let q : v ≡ Ack true c.number = (let y = h.last in cc) in
       rw q (h.number, λ past U s. old_ack U c.number t.expected (next_none t g past U h.none s) h.expects)
@@ -54,12 +55,12 @@ module _ (m k : ℕ) (out : List ℕ) where
       let q : v ≡ Extend true t.times = (let y = h.last in cc) in
       rw q ((h.bounds.long, h.bounds.longest), λ past U s. refl)
 
-  again_turn : (c : Core) (t : TargetState) (g : Option (List ℕ)) (f : Signal) (n bads : ℕ) (v w : DepFrame) → Held m k out c t g n bads → t.last ≡ Some v
+  again_turn : (c : Core) (t : TargetState) (g : Option (List ℕ)) (f : Signal) (n bads : ℕ) (v w : DepFrame) → Held dep_ends m k out c t g n bads → t.last ≡ Some v
       → f ≡ air_frame w → IsDepFrame w → heeded t w ≡ record { state = t; does = Answers v } → Turn t g f
   again_turn c t g f n bads v w h l e r q = turns_by t g f w (spoken.repeats v) e r q (let o = held_old c t g n bads v h l in (l, o.0, o.1))
 
   -- a piece of the payload comes
-  asking_turn : (c : Core) (t : TargetState) (g : Option (List ℕ)) (f : Signal) → f ≡ air_frame (request c) → Asking m k out c t g → Turn t g f
+  asking_turn : (c : Core) (t : TargetState) (g : Option (List ℕ)) (f : Signal) → f ≡ air_frame (request c) → Asking dep_ends m k out c t g → Turn t g f
   asking_turn c t g f e h = go (nat_lt c.most (length c.rest)) refl
     where
       r : IsDepFrame (request c)
@@ -69,7 +70,7 @@ module _ (m k : ℕ) (out : List ℕ) where
       go true d =
           turns_by t g f (request c) (spoken.chains (t.chain ++ take c.most c.rest)) e r
           (let fits : nat_lt limit (length (t.chain ++ take c.most c.rest)) ≡ false =
-          not_lt limit (length (t.chain ++ take c.most c.rest)) (chain_fits t.chain c.rest out c.most h.joins h.bounds.short) in
+          not_lt limit (length (t.chain ++ take c.most c.rest)) (chain_fits limit t.chain c.rest out c.most h.joins h.bounds.short) in
           rw (h.plain, h.sending, h.bounds.heeds, h.expects, same c.number, d, fits) refl) h.none
       go false d =
           let w : t.chain ++ take c.most c.rest ≡ out = rw (take_all c.most c.rest (le_from_not c.most (length c.rest) d)) h.joins in
@@ -82,7 +83,7 @@ module _ (m k : ℕ) (out : List ℕ) where
       turns_by t g f (request c) spoken.draws e (is_request 0 m k out c h.plain h.number h.bounds.fits)
       (rw (h.plain, h.receiving, h.bounds.heeds, h.expects, same c.number, h.none_due, h.unsent) refl) (h.none_due, h.unsent, (c.got ++ t.left, h.reply))
   request_turn c bads t g f n e (held w h) =
-      let a = last_of 0 m k out c t g n bads h in
+      let a = last_of dep_ends m k out c t g n bads h in
       again_turn c t g f n bads a.value (request c) h a.last e (is_request 0 m k out c w a.number a.fits) (request_again 0 m k out c t a.value a.heeds w a.expects a.last)
   request_turn c bads t g f n e (granting z w h b) = go (nat_lt 1 t.due) refl
     where
@@ -104,13 +105,13 @@ module _ (m k : ℕ) (out : List ℕ) where
   pub turn_at : (i : InitState) (t : TargetState) (g : Option (List ℕ)) (f : Signal) (n : ℕ) → Ask m k out i t g f n → Turn t g f
   turn_at i t g f n (asks p e s) = request_turn i.core i.bads t g f n e s
   turn_at i t g f n (nacks p e h) =
-      let a = last_of 0 m k out i.core t g n i.bads h in
+      let a = last_of dep_ends m k out i.core t g n i.bads h in
       again_turn i.core t g f n i.bads a.value (Nack i.core.number) h a.last e a.number (nack_again 0 m k out i.core t a.value a.heeds a.expects a.last)
   turn_at i t g f n (attends p e q s l) =
       turns_by t g f (Attention false) spoken.attends e tt (attention_answered 0 m k out t (stands_heeds 0 m k out i.core i.bads t g q s)) tt
 
   -- what stays in range
-  held_range : (c : Core) (t : TargetState) (g : Option (List ℕ)) (n bads : ℕ) → Held m k out c t g n bads → InRange t
+  held_range : (c : Core) (t : TargetState) (g : Option (List ℕ)) (n bads : ℕ) → Held dep_ends m k out c t g n bads → InRange t
   held_range c t g n bads (of_chain h l) =
       record { number = rw h.expects (after_small c.number); some = h.bounds.some_back; most_fits = h.bounds.fits_back; asks = h.bounds.long; longest = h.bounds.longest }
   held_range c t g n bads (of_reply bytes h l) =

@@ -9,9 +9,11 @@ use Rattle.llcp_pdu.specs.declared.part.Part.TheVariants.{Symm, Ui, Connect, Dis
 use Rattle.llcp_pdu.specs.Writing.{part_bytes}
 use Rattle.dep_link.specs.Frames.{after}
 use Rattle.dep_link.specs.Payloads.{Cut}
-use Rattle.dep_link.specs.Initiator.{Core, InitState, begun, more_follows, turned}
+use Rattle.nfc_base.specs.Pieces.{Core, more_follows, turned}
+use Rattle.dep_link.specs.Initiator.{InitState, begun}
 use Rattle.dep_link.specs.Asking.{Standing, Waits, Rests, Broken, Astray, asks, noted}
-use Rattle.dep_link.proofs.Standing.{after_small, not_lt}
+use Rattle.nfc_base.proofs.Chains.{not_lt}
+use Rattle.dep_link.proofs.Standing.{after_small}
 use Rattle.llcp_link.specs.Fronts.{IsFrontOf}
 use Rattle.llcp_link.specs.Giving.{given, given_parts, payload_of}
 use Rattle.snep_core.specs.Talk.{EndState, Ends, GivesUp, Goes, Step, Working, payload, ready, replied, silent}
@@ -133,10 +135,11 @@ module _ (tail : List Signal) where
     heard_midst chain xs ys m e (Fails cause) along = over_alike ts (BrokenBy cause) refl along
     heard_midst chain xs ys m e Wanders along = over_alike ts Strays refl along
 
-    next_fit : (j : InitState) (drawn : Bool) (xs : List ℕ) → j.core ≡ turned i.core [] drawn xs → Fit j.core
+    next_fit : (j : InitState) (drawn : Bool) (xs : List ℕ) → j.core ≡ turned i.core (after i.core.number) [] drawn xs → Fit j.core
     next_fit j drawn xs e = subst Fit (sym e) (record { number = after_small i.core.number; some = fit.some; fits = fit.fits; times = tt })
 
-    heard_rests : (j : InitState) (reply : List ℕ) → j.core ≡ turned i.core [] false [] → later_numbers ks ≡ numbers (cuts (at (after i.core.number) []) (ahead ts)) → Heard (Rests j reply)
+    heard_rests : (j : InitState) (reply : List ℕ) → j.core ≡ turned i.core (after i.core.number) [] false []
+        → later_numbers ks ≡ numbers (cuts (at (after i.core.number) []) (ahead ts)) → Heard (Rests j reply)
     heard_rests j reply core e along =
         let to : Step = replied (first_number ns) w reply in
         let f : Fit j.core = next_fit j false [] core in

@@ -9,7 +9,8 @@ use Rattle.dep_pdu.specs.declared.frame.DepFrame.TheVariants.{AtrReq, AtrRes, In
 use Rattle.dep_link.specs.Frames.{after, information, spelled}
 use Rattle.dep_link.specs.Exchange.{before_frames, frames_of}
 use Rattle.dep_link.specs.Payloads.{Cut, cut_by, joined, taken}
-use Rattle.dep_link.proofs.Standing.{not_after, same}
+use Rattle.nfc_base.proofs.Chains.{same}
+use Rattle.dep_link.proofs.Standing.{not_after}
 use Rattle.dep_link.proofs.Wire.{frames_append}
 use Rattle.link_numbers.specs.Shown.{has_content, number, numbers, pieces_of}
 

@@ -13,8 +13,10 @@ use Rattle.dep_pdu.specs.declared.frame.DepFrame.{DepFrame}
 use Rattle.dep_pdu.specs.declared.frame.DepFrame.TheVariants.{AtrReq, AtrRes, Info, Ack, Nack, Attention, Extend, DslReq, DslRes, RlsReq, RlsRes}
 use Rattle.dep_link.specs.declared.initiator.Phase.{Phase}
 use Rattle.dep_link.specs.declared.initiator.Phase.TheVariants.{Asked, Nacked, Attending, Free, EndedSixBad, EndedProtocol}
-use Rattle.dep_link.specs.Frames.{air_frame, spelled}
-use Rattle.dep_link.specs.Initiator.{Core, InitState, InitMove, GivesUp, acked, attending, bad, brought, damaged, extended, framed_next, is_refused, longest_extension, may_extend, more_follows, most_bads, most_extensions, received, refuses, sends, sent, silent, turned, waited, whole}
+use Rattle.dep_link.specs.Frames.{air_frame, spelled, after}
+use Rattle.dep_link.specs.Sizes.{limit}
+use Rattle.nfc_base.specs.Pieces.{Core, is_refused, longest_extension, may_extend, more_follows, most_bads, most_extensions, turned}
+use Rattle.dep_link.specs.Initiator.{InitState, InitMove, GivesUp, acked, attending, bad, brought, damaged, extended, framed_next, received, refuses, sends, sent, silent, waited, whole}
 use Rattle.dep_link.specs.Asking.{Standing, Waits, Rests, Broken, Astray, goes_by, noted}
 
 -- the frame that is due where an initiator stands so
@@ -34,7 +36,7 @@ pub data Kind : Type 0 where
   Wanders : Kind
 
 abbrev pub onward : InitState → InitState
-onward i = record i { core = turned i.core (drop i.core.most i.core.rest) false i.core.got; phase = Asked; bads = 0 }
+onward i = record i { core = turned i.core (after i.core.number) (drop i.core.most i.core.rest) false i.core.got; phase = Asked; bads = 0 }
 
 abbrev pub again : InitState → Phase → ℕ → InitState
 again i phase bads = record i { phase = phase; bads = bads }
@@ -150,10 +152,12 @@ module _ (i : InitState) where
   module _ (more : more_follows i.core ≡ true) where
     acked_so : (pni : ℕ) → stands (acked i pni) ≡ made i (if pni == i.core.number then Onward else Fails Protocol)
     acked_so pni =
-        ap (λ (t : Bool). stands (if (if t then pni == i.core.number else false) then sends i (turned i.core (drop i.core.most i.core.rest) false i.core.got) Asked 0 else refuses i)) more
+        ap (λ (t : Bool). stands (if (if t then pni == i.core.number else false)
+        then sends i (turned i.core (after i.core.number) (drop i.core.most i.core.rest) false i.core.got) Asked 0 else refuses i)) more
         ∙ go (pni == i.core.number)
       where
-        go : (t : Bool) → stands (if t then sends i (turned i.core (drop i.core.most i.core.rest) false i.core.got) Asked 0 else refuses i) ≡ made i (if t then Onward else Fails Protocol)
+        go : (t : Bool) → stands (if t then sends i (turned i.core (after i.core.number) (drop i.core.most i.core.rest) false i.core.got) Asked 0 else refuses i)
+            ≡ made i (if t then Onward else Fails Protocol)
         go true = refl
         go false = refl
 
@@ -225,8 +229,8 @@ may_times c times e = go c.drawing (more_follows c) (nat_lt 0 times) (nat_lt lon
 pub data Behind (i : InitState) (s : Standing) : Type 0 where
   waits : (j : InitState) → s ≡ Waits j (frame_due j) → j.core.number ≡ i.core.number → j.core.most ≡ i.core.most
       → more_follows j.core ≡ false → InTimes j.core.extension → Behind i s
-  draws : (j : InitState) (xs : List ℕ) → s ≡ Waits j (frame_due j) → j.core ≡ turned i.core [] true xs → j.phase ≡ Asked → Behind i s
-  rests : (j : InitState) (reply : List ℕ) → s ≡ Rests j reply → j.core ≡ turned i.core [] false [] → Behind i s
+  draws : (j : InitState) (xs : List ℕ) → s ≡ Waits j (frame_due j) → j.core ≡ turned i.core (after i.core.number) [] true xs → j.phase ≡ Asked → Behind i s
+  rests : (j : InitState) (reply : List ℕ) → s ≡ Rests j reply → j.core ≡ turned i.core (after i.core.number) [] false [] → Behind i s
   fails : (cause : EndCause) → s ≡ Broken cause → Behind i s
   wanders : s ≡ Astray → Behind i s
 
@@ -250,16 +254,17 @@ module _ (i : InitState) (none : more_follows i.core ≡ false) (times : InTimes
   acked_goes : (pni : ℕ) → Goes (acked i pni)
   acked_goes pni = go (more_follows i.core) none
     where
-      go : (t : Bool) → t ≡ false → Goes (if (if t then pni == i.core.number else false) then sends i (turned i.core (drop i.core.most i.core.rest) false i.core.got) Asked 0 else refuses i)
+      go : (t : Bool) → t ≡ false
+          → Goes (if (if t then pni == i.core.number else false) then sends i (turned i.core (after i.core.number) (drop i.core.most i.core.rest) false i.core.got) Asked 0 else refuses i)
       go true e = absurd (cc)
       go false e = refuses_goes
 
   received_goes : (more : Bool) (xs : List ℕ) → Goes (received i more xs)
-  received_goes true xs = draws (record i { core = turned i.core [] true xs; phase = Asked; bads = 0 }) xs refl refl refl
-  received_goes false xs = rests (record i { core = turned i.core [] false []; phase = Free; bads = 0 }) xs refl refl
+  received_goes true xs = draws (record i { core = turned i.core (after i.core.number) [] true xs; phase = Asked; bads = 0 }) xs refl refl refl
+  received_goes false xs = rests (record i { core = turned i.core (after i.core.number) [] false []; phase = Free; bads = 0 }) xs refl refl
 
   brought_goes : (more : Bool) (xs : List ℕ) → Goes (brought i more xs)
-  brought_goes more xs = go (is_refused more xs (i.core.got ++ xs))
+  brought_goes more xs = go (is_refused limit more xs (i.core.got ++ xs))
     where
       go : (t : Bool) → Goes (if t then refuses i else received i more (i.core.got ++ xs))
       go true = refuses_goes

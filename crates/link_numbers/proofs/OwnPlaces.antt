@@ -13,9 +13,11 @@ use Rattle.dep_link.specs.declared.initiator.Phase.{Phase}
 use Rattle.dep_link.specs.declared.initiator.Phase.TheVariants.{Asked, Nacked, Attending, Free, EndedSixBad, EndedProtocol}
 use Rattle.dep_link.specs.Frames.{after, information, piece, spelled}
 use Rattle.dep_link.specs.Payloads.{Cut, taken}
-use Rattle.dep_link.specs.Initiator.{Core, InitState, asked, more_follows, sent}
+use Rattle.nfc_base.specs.Pieces.{Core, more_follows}
+use Rattle.dep_link.specs.Initiator.{InitState, asked, sent}
 use Rattle.dep_link.specs.Asking.{Standing, Waits, Rests, Broken, Astray, noted}
-use Rattle.dep_link.proofs.Standing.{after_small, not_lt}
+use Rattle.nfc_base.proofs.Chains.{not_lt}
+use Rattle.dep_link.proofs.Standing.{after_small}
 use Rattle.dep_link.proofs.Wire.{is_piece, written_read}
 use Rattle.llcp_link.specs.Fronts.{IsFrontOf}
 use Rattle.link_numbers.specs.Shown.{has_content}

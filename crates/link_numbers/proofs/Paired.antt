@@ -12,7 +12,8 @@ use Rattle.dep_link.specs.declared.initiator.InitStep.TheVariants as init_steps
 use Rattle.dep_link.specs.declared.target.TargetStep.{TargetStep}
 use Rattle.dep_link.specs.declared.target.TargetStep.TheVariants as steps
 use Rattle.dep_link.specs.Asking.{Standing, Waits, Rests, Broken, Astray, goes_by, noted}
-use Rattle.dep_link.specs.Exchange.{InStep, IsCut, nfc_dep, target_does, initiator_does, before_frames, pieces}
+use Rattle.nfc_base.specs.Pieces.{pieces}
+use Rattle.dep_link.specs.Exchange.{InStep, IsCut, nfc_dep, target_does, initiator_does, before_frames}
 use Rattle.dep_link.specs.Frames.{air_frame, spelled}
 use Rattle.dep_link.specs.Initiator.{InitState, begun, init_table, request}
 use Rattle.dep_link.specs.Payloads.{Cut}
@@ -22,7 +23,8 @@ use Rattle.dep_link.specs.Target.{TargetState, TargetMove, TargetTurn, Does, Sta
 use Rattle.dep_link.proofs.Handed.{asking_first}
 use Rattle.dep_link.proofs.Hearing.{unheard_at, lost_at, damaged_at, answered_at}
 use Rattle.dep_link.proofs.Landing.{lands_at}
-use Rattle.dep_link.proofs.Standing.{Ask, asks, asking, Wait, more, Fits}
+use Rattle.nfc_base.proofs.Chains.{more, Fits}
+use Rattle.dep_link.proofs.Standing.{dep_ends, Ask, asks, asking, Wait}
 use Rattle.dep_link.proofs.Wire.{written_read}
 use Rattle.link_numbers.proofs.Spoken.{Speaks, none_said, some_said, all_said, Spoken, cut_at, move_of, InRange, Said, move_said, Full, FullSaid, move_full}
 use Rattle.link_numbers.proofs.Moving.{Turn, turn_at, range_at}
@@ -90,7 +92,7 @@ module _ (i : InitState) (f : Signal) (t : TargetState) (U : Cut) (past : List (
   module _ (m k : ℕ) (out : List ℕ) (n : ℕ) where
     -- what the law of stop and wait says of the move
     abbrev LandsAs : TargetState → TargetStep → Type 0
-    LandsAs u d = Lands (nfc_dep 0) out (Ask m k out) (Wait m k out) (more m k out) (Fits m k out) (IsCut 0) i t g f n u (target_does d)
+    LandsAs u d = Lands (nfc_dep 0) out (Ask m k out) (Wait m k out) (more dep_ends m k out) (Fits dep_ends m k out) (IsCut 0) i t g f n u (target_does d)
 
     abbrev Landed : TargetMove → Type 0
     Landed x = LandsAs x.state (framed_does x.does)
@@ -109,7 +111,7 @@ module _ (i : InitState) (f : Signal) (t : TargetState) (U : Cut) (past : List (
             most = m;
             busy = k;
             out = out;
-            ahead = n + 2 * more m k out r;
+            ahead = n + 2 * more dep_ends m k out r;
             wait = (l.2 r fits).0;
             said = subst (λ (c : Cut). Spoken (replied u r) past (Some r) c) (sym (cut_frame U (reply_frame u r) (s.1 r).0)) (s.1 r).1;
             full = q r;

@@ -2,7 +2,9 @@
 use Rattle.std.proofs.Common.{◌≡◌, ◌<◌, ◌≤◌, ◌==◌, ◌-◌, ℕ, Bool, true, false, List, [], ◌∷◌, if◌then◌else◌, refl, sym, subst, arith}
 use Rattle.nfc_base.specs.Choosing.{first_number, later_numbers}
 use Rattle.air_core.specs.Conversation.{Note}
-use Rattle.dep_link.specs.Initiator.{Core, InitState, more_follows, turned, waiting}
+use Rattle.dep_link.specs.Frames.{after}
+use Rattle.nfc_base.specs.Pieces.{Core, more_follows, turned}
+use Rattle.dep_link.specs.Initiator.{InitState, waiting}
 use Rattle.dep_link.specs.Asking.{Standing, Waits, Rests, Broken, Astray, noted}
 use Rattle.dep_link.proofs.Standing.{after_small}
 use Rattle.snep_core.specs.Talk.{EndState, Ends, Finds, Gets, GivesUp, Goes, Step, Working, client_sap, client_saps, closes, leave_from, replied}
@@ -32,7 +34,7 @@ FitAt (Rests i reply) = Rested i.core
 FitAt (Broken cause) = Unit {0}
 FitAt Astray = Unit {0}
 
-turned_fit : (c : Core) (drawn : Bool) (xs : List ℕ) → Fit c → Fit (turned c [] drawn xs)
+turned_fit : (c : Core) (drawn : Bool) (xs : List ℕ) → Fit c → Fit (turned c (after c.number) [] drawn xs)
 turned_fit c drawn xs fit = record { number = after_small c.number; some = fit.some; fits = fit.fits; times = tt }
 
 rested_of : (c : Core) → Fit c → Rested c

@@ -6,11 +6,11 @@ use Rattle.dep_pdu.specs.declared.frame.DepFrame.{DepFrame}
 use Rattle.dep_pdu.specs.declared.frame.DepFrame.TheVariants.{Info, Ack, Attention, Extend}
 use Rattle.dep_pdu.specs.Spelling.{IsDepFrame}
 use Rattle.dep_link.specs.Frames.{after, before, piece}
-use Rattle.dep_link.specs.Moves.{le_from_not}
+use Rattle.nfc_base.proofs.Chains.{le_from_not, same}
 use Rattle.dep_link.specs.Payloads.{Cut, joined}
 use Rattle.dep_link.specs.Replies.{taken_up}
 use Rattle.dep_link.specs.Target.{TargetState, TargetMove, Does, Stays, Answers, Begins, Delivers, Sleeps, Frees, grown, first_piece, replied, reply_frame}
-use Rattle.dep_link.proofs.Standing.{same, before_after}
+use Rattle.dep_link.proofs.Standing.{before_after}
 use Rattle.dep_link.proofs.Wire.{is_piece}
 
 abbrev pub cut_at : ℕ → List ℕ → List (List ℕ) → Cut

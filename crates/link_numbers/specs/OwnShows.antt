@@ -6,7 +6,8 @@ use Rattle.nfc_base.specs.declared.event.Event.{Event}
 use Rattle.nfc_base.specs.declared.event.Event.TheVariants.{Request}
 use Rattle.nfc_base.specs.declared.event.Fate.{Fate}
 use Rattle.air_core.specs.Conversation.{Note, Next, Over, Asks, EachDue, receptions}
-use Rattle.dep_link.specs.Initiator.{Core, InitState}
+use Rattle.nfc_base.specs.Pieces.{Core}
+use Rattle.dep_link.specs.Initiator.{InitState}
 use Rattle.snep_core.specs.Talk.{EndState, Ends, GivesUp, Goes, Step}
 use Rattle.link_calls.specs.Walk.{walk_due_at}
 use Rattle.link_calls.specs.CallDue.{call_due, call_stand}

@@ -4,4 +4,6 @@ pub mod BitsOfBytes
 pub mod Leading
 pub mod ExactlyOnce
 pub mod LinkTurns
+pub mod Sessions
+pub mod Chains
 pub mod Locking

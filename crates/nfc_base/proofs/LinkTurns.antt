@@ -1,8 +1,9 @@
 -- A loop that makes turns of a link that stops and waits keeps the law of its exchange, whatever becomes of the turns.
-use Rattle.std.proofs.Common.{◌≡◌, ℕ, ◌+◌, List, [], ◌∷◌, ◌++◌, length, Option, Some, None, arith, refl, sym, ◌∙◌, ap, subst, append_assoc, append-nil, length-append}
+use Rattle.std.proofs.Common.{◌≡◌, ◌<◌, ℕ, zero, suc, ◌+◌, List, [], ◌∷◌, ◌++◌, length, Option, Some, None, arith, refl, sym, ◌∙◌, ap, subst, append_assoc, append-nil, length-append}
+use Rattle.std.proofs.lemmas.List.{append_cancel_left}
 use Rattle.std.specs.Option.{option_to_list}
 use Rattle.nfc_base.specs.Signal.{Signal}
-use Rattle.nfc_base.specs.Trace.{Back, back_of, heard_by}
+use Rattle.nfc_base.specs.Trace.{Back, back_of, heard_by, breaks}
 use Rattle.nfc_base.specs.Trace as backs
 use Rattle.nfc_base.specs.StopAndWait.{Does, Quiet, Reply, Deliver, Hears, Silent, StopAndWait, Stage, Requests, Answers, Dark, stage_of, World, badness, counted, hears, answering_does, transmitted, delivered_of}
 use Rattle.nfc_base.specs.LinkTurns.{heard_in, with_arrived, arrived, bads_heard, bad_receptions, Turned, MovedBy, GivenBy, settled, step, sent_back, answered, turned, IsTurn}
@@ -60,6 +61,40 @@ given_moves {E} steps far0 far far' payload r None (Some p) h m e =
     let q : p ≡ payload = cc in
     subst (λ (x : List ℕ). steps far0 x r far') q (subst (λ (x : E). steps x p r far') h m)
 given_moves steps far0 far far' payload r (Some r0) (Some p) h m e = absurd (cc)
+
+-- what is counted of the events of a turn is counted of all that were added to a trace
+pub counted_later : (count : List Event → ℕ) → ((a b : List Event) → count (a ++ b) ≡ count a + count b) → (base xs ys zs : List Event) (mid new : List Event)
+    → mid ≡ base ++ xs → new ≡ mid ++ ys → new ≡ base ++ zs → 0 < count ys → 0 < count zs
+counted_later count adds base xs ys zs mid new e1 e2 e3 h =
+    let q : base ++ zs ≡ base ++ (xs ++ ys) = sym e3 ∙ e2 ∙ ap (λ (es : List Event). es ++ ys) e1 ∙ append_assoc base xs ys in
+    let sum : count (xs ++ ys) ≡ count xs + count ys = adds xs ys in
+    let all : count zs ≡ count (xs ++ ys) = ap count (append_cancel_left base zs (xs ++ ys) q) in
+    omega (arith, sum, all, h)
+
+pub positive : (n : ℕ) → (n ≡ 0 → ⊥) → 0 < n
+positive zero p = absurd (p refl)
+positive (suc n) p = omega arith
+
+module _ {I T : Type 0} (L : StopAndWait I T Signal) where
+  -- an answering end that isn't quiet says something
+  pub says_some : (r : List ℕ) (t : T) (d : Does Signal) → (settled L r t d).answer ≡ None → d ≡ Quiet
+  says_some r t Quiet e = refl
+  says_some r t (Reply a) e = absurd (cc)
+  says_some r t (Deliver p) e = absurd (cc)
+
+  -- a turn of which nothing was heard, since it lost the field
+  answered_lost : (t : T) (asked : Option (List ℕ)) (f : Signal) (q : Option Signal) (y : Fate) → None ≡ heard_in (answered L t asked f q y).heard → 0 < breaks (answered L t asked f q y).events
+  answered_lost t asked f None y e = absurd cc
+  answered_lost t asked f (Some a) Pass e = absurd cc
+  answered_lost t asked f (Some a) Damage e = absurd cc
+  answered_lost t asked f (Some a) Lose e = absurd cc
+  answered_lost t asked f (Some a) Break e = omega arith
+
+  pub turned_lost : (r : List ℕ) (t : T) (f : Signal) (x y : Fate) → None ≡ heard_in (turned L r t f x y).heard → 0 < breaks (turned L r t f x y).events
+  turned_lost r t f Pass y e = answered_lost (step L r t f).state (step L r t f).asked f (step L r t f).answer y e
+  turned_lost r t f Damage y e = absurd cc
+  turned_lost r t f Lose y e = absurd cc
+  turned_lost r t f Break y e = omega arith
 
 module _ {I T : Type 0} (L : StopAndWait I T Signal) (before : List (List ℕ)) (payload : List ℕ) (K : Keeps L payload) (base : ℕ) where
   abbrev Any : Option (List ℕ) → Type 0
@@ -315,7 +350,7 @@ module _ {I T : Type 0} (L : StopAndWait I T Signal) (before : List (List ℕ)) 
         }
 
     -- a loop begins where its world has counted nothing
-    pub starts_along : (w : World I T Signal) → J w w.stage → w.arrived ≡ heard0 → w.sent ≡ 0 → w.bads ≡ 0 → w.given ≡ None
+    abbrev pub starts_along : (w : World I T Signal) → J w w.stage → w.arrived ≡ heard0 → w.sent ≡ 0 → w.bads ≡ 0 → w.given ≡ None
         → Along E steps heard0 es0 far0 w.asking w.answering es0 far0 w.stage
     starts_along w inv e1 e2 e3 e4 =
         record {

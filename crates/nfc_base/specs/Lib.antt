@@ -11,3 +11,5 @@ pub mod Links
 pub mod TagLinks
 pub mod StopAndWait
 pub mod LinkTurns
+pub mod Sessions
+pub mod Pieces

@@ -6,8 +6,7 @@ use Rattle.air_core.proofs.PlainAside.{Laws}
 use Rattle.nfc_base.specs.declared.event.Heard.{Heard}
 use Rattle.dep_link.specs.declared.initiator.InitStep.{InitStep}
 use Rattle.dep_link.specs.Initiator.{InitState, InitTurn, init_table}
-use Rattle.dep_link.proofs.Ended.{out_stays}
-use Rattle.dep_link.proofs.Falls.{falls_by}
+use Rattle.dep_link.proofs.Moves.{out_stays, falls_by}
 use Rattle.dep_link.proofs.AnyPeer.{begins_so, goes_on, tells_reply, tells_six, tells_never, tells_lost, tells_wanting, tells_stopped}
 use Rattle.dep_link.proofs.SwapEnds.{first_here, next_here, ends_replied, ends_six, ends_never, ends_lost, ends_memory, ends_stopped}
 use Rattle.dep_link.proofs.exchange.ask_peer.Given as given

@@ -5,7 +5,7 @@ use Rattle.dep_link.specs.Frames.{air_frame}
 use Rattle.dep_link.specs.Initiator.{InitState, begun, request}
 use Rattle.dep_link.specs.Asking.{Waits, HasPeer}
 use Rattle.dep_link.specs.AnyPeer.{IsBegun}
-use Rattle.dep_link.specs.Falling.{left_to_do}
+use Rattle.dep_link.proofs.Moves.{left_to_do}
 use Rattle.dep_link.proofs.AnyPeer.{StandsSo}
 use Rattle.dep_link.proofs.Swapping.{HasBytes, OnPeer}
 use Rattle.dep_link.proofs.exchange.ask_peer.Given as goal

@@ -11,7 +11,7 @@ use Rattle.isodep_link.specs.Reader.{begun, request}
 use Rattle.isodep_link.specs.Reader.{ReaderState}
 use Rattle.isodep_link.specs.Asking.{Waits}
 use Rattle.isodep_link.proofs.AnyTag.{command_said, command_sends, command_answered, command_six, command_refused, command_lost, command_stopped}
-use Rattle.isodep_link.proofs.Falls.{falls_by}
+use Rattle.isodep_link.proofs.Moves.{falls_by}
 use Rattle.isodep_link.proofs.exchange.ask_card.Given as given
 use Rattle.isodep_link.proofs.exchange.ask_card.Goals as goal
 

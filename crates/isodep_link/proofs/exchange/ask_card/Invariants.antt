@@ -2,7 +2,7 @@ use Rattle.std.proofs.Common.{ℕ, List, []}
 use Rattle.nfc_base.specs.Signal.{Signal}
 use Rattle.nfc_base.specs.StopAndWait.{Requests}
 use Rattle.isodep_link.specs.Asking.{Waits, HasCardTag}
-use Rattle.isodep_link.specs.Falling.{left_to_do}
+use Rattle.isodep_link.proofs.Moves.{left_to_do}
 use Rattle.isodep_link.proofs.AskingLaw.{HasBytes, OnTag}
 use Rattle.isodep_link.proofs.AnyTag.{CommandSaid}
 use Rattle.isodep_link.proofs.exchange.ask_card.Given as goal

@@ -1,4 +1,4 @@
-use Rattle.isodep_link.proofs.Ended.{faults_stay}
+use Rattle.isodep_link.proofs.Moves.{faults_stay}
 use Rattle.isodep_link.proofs.law.faults_stay.Goals as goal
 
 pub returns : goal.returns
