@@ -119,7 +119,6 @@ impl<S> Llc<S> {
     }
 
     /// The oldest unit that was handed up on the connection from a SAP and not yet given here. It takes no memory.
-    #[tactic(auto, using(crate::proofs::Asked::unit_taken_so))]
     pub fn unit(&mut self, ssap: u8) -> Option<Items<u8>>
         ensures unit { result ≡ unit_of (own_from ssap self.old.own) }
         ensures step { self.new ≡ unit_taken_by self.old (own_from ssap self.old.own) }
@@ -135,9 +134,10 @@ impl<S> Llc<S> {
         ensures err { IfErr result (λ e. e ≡ LlcFault.Memory) }
         ensures same { OnErr result (self.new ≡ self.old) }
     {
-        let Some((place, disc)) = owns::leaving(&self.own, ssap) else {
+        let Some(place) = owns::place_of(&self.own, ssap) else {
             unreachable!()
         };
+        let disc = self.own[place].disc();
         queue::push(&mut self.queue, true, disc)?;
         self.own[place].leave();
         Ok(())
