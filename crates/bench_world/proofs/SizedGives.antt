@@ -8,7 +8,7 @@ use Rattle.llcp_pdu.specs.declared.part.Part.{Part}
 use Rattle.llcp_pdu.specs.declared.part.Part.TheVariants.{Symm, Ui, Connect, Disc, Cc, Dm, Frmr, Snl, Info, Rr, Rnr}
 use Rattle.llcp_pdu.specs.General.{miu_by}
 use Rattle.llcp_pdu.specs.Params.{last_of, miux_in}
-use Rattle.llcp_pdu.specs.Wire.{least_miu, rr_type, rnr_type}
+use Rattle.llcp_pdu.specs.Wire.{least_miu, rr_type, rnr_type, sap_count}
 use Rattle.llcp_pdu.specs.Writing.{params_bytes, part_bytes, parts_bytes, inner_bytes}
 use Rattle.llcp_conn.specs.declared.conn.Taken.{Taken}
 use Rattle.llcp_conn.specs.declared.conn.Taken.TheVariants as taking
@@ -17,7 +17,7 @@ use Rattle.llcp_conn.specs.Conn.{ConnState, Took, fresh, gives, gives_ack, queue
 use Rattle.llcp_link.specs.Serving.{Serving}
 use Rattle.llcp_link.specs.declared.own.OwnIs.{OwnIs}
 use Rattle.llcp_link.specs.declared.own.OwnIs.TheVariants.{Asking, Open, Refused, Leaving, Closed}
-use Rattle.llcp_link.specs.State.{LlcState, OwnState, Queued, Holder, Nobody, Served, Asked, conn_from, holder, own_from, own_holder, sap_count, with_own}
+use Rattle.llcp_link.specs.State.{LlcState, OwnState, Queued, Holder, Nobody, Served, Asked, conn_from, holder, own_from, own_holder, with_own}
 use Rattle.llcp_link.specs.Names.{answer_to, answers_to, miu_of, name_of, own_params, reached, rw_of, told_all}
 use Rattle.llcp_link.specs.Taking as t
 use Rattle.llcp_link.specs.Taking.{Item, Good, Broken, brought, step, steps, taken_from}

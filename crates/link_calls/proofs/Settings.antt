@@ -10,7 +10,8 @@ use Rattle.llcp_conn.specs.declared.conn.Taken.{Taken}
 use Rattle.llcp_conn.specs.declared.conn.Taken.TheVariants as taking
 use Rattle.llcp_conn.specs.Conn.{ConnState, Took, queued, gives, gives_ack, report, takes}
 use Rattle.llcp_link.specs.Own.{OwnGave, ack_on, unit_on}
-use Rattle.llcp_link.specs.State.{Queued, OwnState, Holder, Nobody, Served, Asked, sap_count, conn_from, own_from, holder, with_own, with_conn}
+use Rattle.llcp_link.specs.State.{Queued, OwnState, Holder, Nobody, Served, Asked, conn_from, own_from, holder, with_own, with_conn}
+use Rattle.llcp_pdu.specs.Wire.{sap_count}
 use Rattle.llcp_link.specs.Names.{rw_of, reached, name_of, answers_to, told_all}
 use Rattle.llcp_link.specs.Taking as t
 use Rattle.llcp_link.specs.Taking.{Item, Good, Broken, taken_from, brought, step, steps, steps_part}

@@ -5,7 +5,8 @@ use Rattle.llcp_pdu.specs.declared.part.Part.{Part}
 use Rattle.llcp_pdu.specs.Writing.{inner_bytes}
 use Rattle.llcp_conn.specs.Conn.{ConnState, queued, gives, gives_ack, gives_from, Gave as GaveConn}
 use Rattle.llcp_link.specs.Serving.{Serving}
-use Rattle.llcp_link.specs.State.{LlcState, sap_count, Queued, OwnState, conn_from, own_from, with_conn}
+use Rattle.llcp_link.specs.State.{LlcState, Queued, OwnState, conn_from, own_from, with_conn}
+use Rattle.llcp_pdu.specs.Wire.{sap_count}
 use Rattle.llcp_link.specs.Giving as g
 use Rattle.llcp_link.specs.Giving.{Gave, GaveAll, first_from, gave, gave_first, gave_none, joined, given_so, given_parts, after_giving, may_send, or_else, sap_after}
 use Rattle.llcp_link.specs.Own.{OwnGave, ack_on, unit_on}

@@ -9,7 +9,7 @@ use Rattle.llcp_conn.specs.declared.conn.Taken.{Taken}
 use Rattle.llcp_conn.specs.declared.conn.Taken.TheVariants as taking
 use Rattle.llcp_conn.specs.Conn.{ConnState, Gave as GaveConn, Took, queued, acks, count_end, due, fresh, gives, gives_ack, gives_from, is_outside, report, takes, takes_nr, takes_unit}
 use Rattle.llcp_link.specs.Serving.{Serving}
-use Rattle.llcp_link.specs.State.{LlcState, Queued, OwnIs, Asking, Open, Refused, Leaving, Closed, OwnState, Holder, Nobody, Served, Asked, sap_count, conn_from, own_from, own_holder, holds_open, served_holder, holder, with_own, with_conn}
+use Rattle.llcp_link.specs.State.{LlcState, Queued, OwnIs, Asking, Open, Refused, Leaving, Closed, OwnState, Holder, Nobody, Served, Asked, conn_from, own_from, own_holder, holds_open, served_holder, holder, with_own, with_conn}
 use Rattle.llcp_link.specs.Asking.{acked_of, acked_on, is_open, is_open_by, standing_of, standing_on, unit_taken_by}
 use Rattle.llcp_link.specs.declared.standing.Standing.TheVariants as stands
 use Rattle.llcp_link.specs.Names.{rw_of, reached, name_of, miu_of, answers_to, told_all}
@@ -18,7 +18,7 @@ use Rattle.llcp_link.specs.Taking.{Item, Good, Broken, taken_from, brought, step
 use Rattle.llcp_link.specs.Giving as g
 use Rattle.llcp_link.specs.Giving.{Gave, GaveAll, first_from, gave, gave_none, joined, given_so, given_parts, after_giving, or_else, sap_after}
 use Rattle.llcp_link.specs.Waning.{pending, pending_on}
-use Rattle.llcp_pdu.specs.Wire.{rr_type, rnr_type}
+use Rattle.llcp_pdu.specs.Wire.{rr_type, rnr_type, sap_count}
 use Rattle.llcp_link.specs.Own.{OwnGave, ack_on, ack_so, cc_on, cc_so, dm_on, dm_so, gave_so, if_there, on_own, unit_on, unit_so}
 use Rattle.llcp_link.proofs.OwnHeard.{cc_here, dm_here}
 use Rattle.llcp_link.proofs.OwnPlaces.{here_of}

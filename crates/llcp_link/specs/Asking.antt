@@ -14,6 +14,10 @@ use Rattle.llcp_link.specs.State.{Queued, OwnIs, Asking, Open, Refused, Leaving,
 use Rattle.llcp_link.specs.Own.{on_own}
 use Rattle.llcp_link.specs.Names.{own_params}
 
+-- the SAP from which an end connects where no other is named
+abbrev pub first_sap : ℕ
+first_sap = 32
+
 -- one of this end's own requests
 abbrev pub request : Part → Queued
 request p = record { own = true; part = p }

@@ -6,7 +6,8 @@ use Rattle.llcp_pdu.specs.declared.pdu.Pdu.TheVariants.{Agf, One}
 use Rattle.llcp_pdu.specs.Writing.{inner_bytes, pdu_bytes}
 use Rattle.llcp_conn.specs.Conn.{ConnState, gives, queued, gives_ack, has_room}
 use Rattle.llcp_link.specs.Serving.{Serving}
-use Rattle.llcp_link.specs.State.{Queued, OwnState, LlcState, sap_count, conn_from, with_conn, own_from, with_own}
+use Rattle.llcp_link.specs.State.{Queued, OwnState, LlcState, conn_from, with_conn, own_from, with_own}
+use Rattle.llcp_pdu.specs.Wire.{sap_count}
 use Rattle.llcp_link.specs.Own.{OwnGave, ack_on, unit_on}
 
 -- a PDU that was given, and the end behind it

@@ -3,7 +3,7 @@
 ghost use Rattle.std.specs.Prelude.{◌≡◌, ◌≤◌, ◌⊎◌, None, Some, true, length, IfErr, IfOk, OnOk, OnErr};
 ghost use Rattle.llcp_conn.specs.Conn.{IsSap};
 ghost use Rattle.llcp_conn.specs.declared.fault.ConnFault.{ConnFault};
-ghost use Rattle.llcp_link.specs.Asking.{Connects, Submits, acked_of, connecting_refusal, disconnected_by, forgotten, found_in, has_waiting_of, is_open_by, looked_up, refusal_of, standing_of, unit_of, unit_taken_by};
+ghost use Rattle.llcp_link.specs.Asking.{Connects, Submits, acked_of, connecting_refusal, disconnected_by, first_sap, forgotten, found_in, has_waiting_of, is_open_by, looked_up, refusal_of, standing_of, unit_of, unit_taken_by};
 ghost use Rattle.llcp_link.specs.State.{own_from};
 ghost use Rattle.llcp_link.specs.declared.fault.LlcFault.{LlcFault};
 
@@ -19,16 +19,16 @@ use nfc_base::Items;
 use std::alloc::AllocError;
 
 /// The SAP of this end from which it connects where no other is named.
-const FIRST_SAP: u8 = 32;
+pub const FIRST_SAP: u8 = 32;
 
 impl<S> Llc<S> {
     /// Asks for a connection from SAP 32.
     pub fn connect(&mut self, dsap: u8) -> Result<(), LlcFault>
         requires { IsSap dsap }
-        ensures ok { OnOk result (Connects self.old 32 dsap self.new) }
+        ensures ok { OnOk result (Connects self.old first_sap dsap self.new) }
         ensures err { IfErr result (λ e.
-            ((e ≡ LlcFault.Memory) × (connecting_refusal self.old 32 ≡ None))
-            ⊎ (connecting_refusal self.old 32 ≡ Some e)) }
+            ((e ≡ LlcFault.Memory) × (connecting_refusal self.old first_sap ≡ None))
+            ⊎ (connecting_refusal self.old first_sap ≡ Some e)) }
         ensures same { OnErr result (self.new ≡ self.old) }
     {
         self.connect_from(FIRST_SAP, dsap)

@@ -39,6 +39,7 @@ mod standing;
 mod taking;
 mod writing;
 
+pub use asking::FIRST_SAP;
 pub use counting::{Counted, Counts};
 pub use fault::LlcFault;
 pub use law::units;

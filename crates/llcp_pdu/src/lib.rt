@@ -4,7 +4,7 @@
 //! in an AGF, and `connect` has what the parameters of a CONNECT say together: none of these takes memory. `pdu` copies
 //! what was seen and writes a whole payload; `part` is a PDU that holds no other; `param` is a parameter of CONNECT, CC
 //! and SNL; `header` is the first two bytes of each PDU; `general` is the general bytes; `fault` says what is wrong with
-//! bytes that are no PDU, and where.
+//! bytes that are no PDU, and where. `wire` has the numbers of all these.
 #![tactic(auto)]
 
 mod connect;
@@ -30,3 +30,4 @@ pub use param_walk::{ParamView, ParamWalk};
 pub use part::{FrmrReport, Part};
 pub use pdu::Pdu;
 pub use pdu_view::{PduView, view};
+pub use wire::{DISC, INFO, LEAST_MIU, RNR, RR};

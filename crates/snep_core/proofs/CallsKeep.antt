@@ -8,7 +8,8 @@ use Rattle.llcp_conn.specs.declared.conn.Taken.{Taken}
 use Rattle.llcp_conn.specs.declared.conn.Taken.TheVariants as taking
 use Rattle.llcp_conn.specs.Conn.{ConnState, Took, gives, gives_ack, queued, takes}
 use Rattle.llcp_link.specs.Serving.{Serving}
-use Rattle.llcp_link.specs.State.{LlcState, sap_count, Queued, OwnState, Holder, Nobody, Served, Asked, conn_from, holder, own_from}
+use Rattle.llcp_link.specs.State.{LlcState, Queued, OwnState, Holder, Nobody, Served, Asked, conn_from, holder, own_from}
+use Rattle.llcp_pdu.specs.Wire.{sap_count}
 use Rattle.llcp_link.specs.Names.{rw_of, reached, name_of, answers_to, told_all}
 use Rattle.llcp_link.specs.Taking as t
 use Rattle.llcp_link.specs.Taking.{Item, Good, Broken, step, steps}

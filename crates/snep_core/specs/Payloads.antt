@@ -6,7 +6,8 @@ use Rattle.llcp_link.specs.Units.{Mark, marks, units}
 use Rattle.llcp_link.specs.Running.{Acted, AreBytes, IsRun, end_of, marks_of}
 use Rattle.llcp_link.specs.Answering.{Answers, Stops}
 use Rattle.snep_core.specs.Puts.{Puts}
-use Rattle.snep_core.specs.Server.{Received, ServerState, sap_count, serving}
+use Rattle.snep_core.specs.Server.{Received, ServerState, serving}
+use Rattle.llcp_pdu.specs.Wire.{sap_count}
 use Rattle.snep_core.specs.Session.{Offer}
 
 -- the units of connections, one after the other, put these messages
