@@ -10,7 +10,8 @@ use Rattle.llcp_link.specs.Running.{AreBytes}
 use Rattle.llcp_link.specs.Taking.{taken_from}
 use Rattle.llcp_link.specs.Taking as taking
 use Rattle.llcp_link.specs.Units.{units}
-use Rattle.snep_core.specs.Payloads.{AcceptsPuts, AcceptsSome, AllPut, IsFront, accepted_from}
+use Rattle.snep_core.specs.Payloads.{AcceptsPuts, AcceptsSome, AllPut, accepted_from}
+use Rattle.llcp_conn.specs.Window.{IsFront}
 use Rattle.snep_core.specs.Server.{Received as Accepted, serving}
 use Rattle.llcp_pdu.specs.Wire.{sap_count}
 use Rattle.snep_core.specs.Session.{Offer}
