@@ -7,13 +7,12 @@ ghost use Rattle.llcp_link.specs.Halting.{IsSame};
 ghost use Rattle.llcp_link.specs.Offering.{LeavesNext, Tried, queued_first};
 ghost use Rattle.llcp_link.specs.State.{conn_from, own_from};
 
-use crate::lengths::part_len;
 use crate::llc::Llc;
 use crate::owns;
 use crate::queue::Queued;
 use crate::sending::{acknowledge, ower, send, sender};
 use crate::service::Service;
-use llcp_pdu::Part;
+use llcp_pdu::{Part, part_len};
 use std::alloc::AllocError;
 
 /// How many SAPs there are.
