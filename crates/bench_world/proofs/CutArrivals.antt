@@ -10,8 +10,10 @@ use Rattle.llcp_link.specs.Running.{AreBytes}
 use Rattle.llcp_link.specs.Taking.{taken_from}
 use Rattle.llcp_link.specs.Taking as taking
 use Rattle.llcp_link.specs.Units.{units}
-use Rattle.snep_core.specs.Payloads.{AcceptsPuts, AcceptsSome, AllPut, IsFront, accepted_from}
-use Rattle.snep_core.specs.Server.{Received as Accepted, sap_count, serving}
+use Rattle.snep_core.specs.Payloads.{AcceptsPuts, AcceptsSome, AllPut, accepted_from}
+use Rattle.llcp_conn.specs.Window.{IsFront}
+use Rattle.snep_core.specs.Server.{Received as Accepted, serving}
+use Rattle.llcp_pdu.specs.Wire.{sap_count}
 use Rattle.snep_core.specs.Session.{Offer}
 use Rattle.snep_core.proofs.CallsKeep.{giving_keeps}
 use Rattle.snep_core.proofs.CutOff.{cut_off_accepts}

@@ -38,7 +38,7 @@ use Rattle.peer_air.specs.SwapTurns.{Stands as StandsThere}
 use Rattle.peer_air.proofs.PeerEnds.{counted_step}
 use Rattle.llcp_link.specs.Counting.{AnswersCounted, RestartsCounted, StopsCounted}
 use Rattle.llcp_link.specs.State.{restarted}
-use Rattle.snep_core.specs.Payloads.{IsFront}
+use Rattle.llcp_conn.specs.Window.{IsFront}
 use Rattle.snep_core.specs.Server.{serving}
 use Rattle.link_calls.specs.Arriving.{Arrives, ArrivesCut}
 use Rattle.link_calls.specs.Carrying.{IsWalked, IsWalkEnded, IsWalkShort}

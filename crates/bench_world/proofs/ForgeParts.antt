@@ -19,7 +19,7 @@ use Rattle.dep_link.specs.Initiator.{InitState}
 use Rattle.llcp_link.specs.Counting.{RestartsCounted}
 use Rattle.llcp_link.specs.Running.{AreBytes}
 use Rattle.llcp_link.specs.State.{restarted}
-use Rattle.snep_core.specs.Payloads.{IsFront}
+use Rattle.llcp_conn.specs.Window.{IsFront}
 use Rattle.snep_core.specs.Server.{Received, serving}
 use Rattle.snep_core.proofs.CutOff.{cut_off_accepts}
 use Rattle.link_calls.specs.Arriving.{ArrivesCut, all_answered}

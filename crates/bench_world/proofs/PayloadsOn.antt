@@ -8,8 +8,10 @@ use Rattle.dep_link.specs.Payloads.{Cut}
 use Rattle.llcp_link.specs.Running.{AreBytes}
 use Rattle.llcp_link.specs.State.{restarted}
 use Rattle.llcp_link.specs.Units.{units}
-use Rattle.snep_core.specs.Payloads.{AcceptsPuts, AllPut, IsFront, accepted_from}
-use Rattle.snep_core.specs.Server.{Received as Accepted, sap_count, serving}
+use Rattle.snep_core.specs.Payloads.{AcceptsPuts, AllPut, accepted_from}
+use Rattle.llcp_conn.specs.Window.{IsFront}
+use Rattle.snep_core.specs.Server.{Received as Accepted, serving}
+use Rattle.llcp_pdu.specs.Wire.{sap_count}
 use Rattle.snep_core.specs.Session.{Offer}
 use Rattle.link_calls.specs.Arriving.{IsCounted, all_answered}
 use Rattle.bench_script.specs.declared.command.Command.{Command}

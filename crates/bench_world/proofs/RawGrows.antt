@@ -14,7 +14,7 @@ use Rattle.far_air.specs.FarEnds.{by_link, first_far, later_fars, moved, numbers
 use Rattle.far_air.specs.FarWorld.{all_meet, device_after, reply_at}
 use Rattle.peer_air.specs.PeerFars.{peer_ends}
 use Rattle.llcp_link.specs.Taking.{brought, taken_from}
-use Rattle.snep_core.specs.Payloads.{IsFront}
+use Rattle.llcp_conn.specs.Window.{IsFront}
 use Rattle.snep_core.specs.Server.{Received as Accepted, ServerState, serving}
 use Rattle.snep_core.proofs.CallsKeep.{giving_keeps}
 use Rattle.snep_core.proofs.CutOff.{taking_adds}

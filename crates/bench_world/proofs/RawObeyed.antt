@@ -24,7 +24,7 @@ use Rattle.far_air.proofs.FarTurns.{far_goes_then, speaks_far}
 use Rattle.peer_air.specs.PeerFars.{peer_ends}
 use Rattle.peer_air.proofs.PeerEnds.{counted_step}
 use Rattle.llcp_link.specs.Counting.{AnswersCounted, RestartsCounted, StopsCounted}
-use Rattle.snep_core.specs.Payloads.{IsFront}
+use Rattle.llcp_conn.specs.Window.{IsFront}
 use Rattle.snep_core.specs.Server.{serving}
 use Rattle.snep_core.proofs.CutOff.{cut_off_accepts}
 use Rattle.link_calls.specs.Staying.{setting_of}

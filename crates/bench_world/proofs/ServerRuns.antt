@@ -7,8 +7,10 @@ use Rattle.llcp_link.specs.State.{restarted}
 use Rattle.llcp_link.specs.Taking.{brought, items, steps, taken_from}
 use Rattle.llcp_link.specs.Units.{Mark, marks}
 use Rattle.llcp_link.proofs.StepsSoFar.{steps_more}
-use Rattle.snep_core.specs.Payloads.{AcceptsPuts, AcceptsThere, IsFront, IsServerRun}
-use Rattle.snep_core.specs.Server.{ServerState, sap_count, serving}
+use Rattle.snep_core.specs.Payloads.{AcceptsPuts, AcceptsThere, IsServerRun}
+use Rattle.llcp_conn.specs.Window.{IsFront}
+use Rattle.snep_core.specs.Server.{ServerState, serving}
+use Rattle.llcp_pdu.specs.Wire.{sap_count}
 use Rattle.snep_core.specs.Session.{Offer}
 use Rattle.snep_core.proofs.PayloadLaw.{accepted_in_order, payloads_accepted}
 use Rattle.link_calls.specs.Arriving.{all_answered}

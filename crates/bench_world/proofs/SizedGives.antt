@@ -8,7 +8,7 @@ use Rattle.llcp_pdu.specs.declared.part.Part.{Part}
 use Rattle.llcp_pdu.specs.declared.part.Part.TheVariants.{Symm, Ui, Connect, Disc, Cc, Dm, Frmr, Snl, Info, Rr, Rnr}
 use Rattle.llcp_pdu.specs.General.{miu_by}
 use Rattle.llcp_pdu.specs.Params.{last_of, miux_in}
-use Rattle.llcp_pdu.specs.Wire.{least_miu, rr_type, rnr_type}
+use Rattle.llcp_pdu.specs.Wire.{least_miu, rr_type, rnr_type, sap_count}
 use Rattle.llcp_pdu.specs.Writing.{params_bytes, part_bytes, parts_bytes, inner_bytes}
 use Rattle.llcp_conn.specs.declared.conn.Taken.{Taken}
 use Rattle.llcp_conn.specs.declared.conn.Taken.TheVariants as taking
@@ -17,10 +17,11 @@ use Rattle.llcp_conn.specs.Conn.{ConnState, Took, fresh, gives, gives_ack, queue
 use Rattle.llcp_link.specs.Serving.{Serving}
 use Rattle.llcp_link.specs.declared.own.OwnIs.{OwnIs}
 use Rattle.llcp_link.specs.declared.own.OwnIs.TheVariants.{Asking, Open, Refused, Leaving, Closed}
-use Rattle.llcp_link.specs.State.{LlcState, OwnState, Queued, Holder, Nobody, Served, Asked, conn_from, holder, own_from, own_holder, sap_count, with_own}
+use Rattle.llcp_link.specs.State.{LlcState, OwnState, Queued, Holder, Nobody, Served, Asked, conn_from, holder, own_from, own_holder, with_own}
 use Rattle.llcp_link.specs.Names.{answer_to, answers_to, miu_of, name_of, own_params, reached, rw_of, told_all}
 use Rattle.llcp_link.specs.Taking as t
 use Rattle.llcp_link.specs.Taking.{Item, Good, Broken, brought, step, steps, taken_from}
+use Rattle.llcp_link.specs.Own.{OwnGave, ack_on, ack_so, cc_on, cc_so, dm_on, dm_so, gave_so, if_there, on_own, unit_on, unit_so}
 use Rattle.llcp_link.specs.Giving as g
 use Rattle.llcp_link.specs.Giving.{Gave, GaveAll, after_giving, first_from, gave, gave_first, gave_none, given, given_parts, given_so, joined, joined_so, may_send, or_else, others, payload_of, sap_after}
 use Rattle.llcp_link.proofs.Ranged.{either}
@@ -70,6 +71,35 @@ miu_short ps h = go (last_of miux_in ps) h
     go None k = omega arith
     go (Some n) k = omega arith
 
+-- an answer that such a connection awaits
+cc_short : (miu far_miu rw : ℕ) (o : OwnState) (i : OwnIs) → far_miu ≤ 2175 → o.is ≡ i → OwnShort o → OwnShort (cc_so miu far_miu rw o i)
+cc_short miu far_miu rw o Asking k e h =
+    either {X = OwnIs} StandsShort (rw == 0) Refused (Open (fresh o.here o.there miu far_miu rw)) (λ e. tt) (λ e. (k, tt))
+cc_short miu far_miu rw o i k e h = h
+
+heard_dm_short : (o : OwnState) (i : OwnIs) → OwnShort o → OwnShort (dm_so o i)
+heard_dm_short o Asking h = tt
+heard_dm_short o Leaving h = tt
+heard_dm_short o i h = h
+
+-- what one that the end asked for gives, and the PDU
+abbrev OwnGaveShort : OwnGave → Type 0
+OwnGaveShort x = OwnShort x.own × (length (part_bytes x.part) ≤ 2178)
+
+own_gave_short : (o : OwnState) (c : ConnState) (q : Option Part) → IfSome q (PduShort c) → IfSome (gave_so o c q) OwnGaveShort
+own_gave_short o c None k = tt
+own_gave_short o c (Some p) k = k
+
+unit_short : (o : OwnState) (i : OwnIs) → StandsShort i → IfSome (unit_so o i) OwnGaveShort
+unit_short o (Open c) k =
+    either {X = Option OwnGave} (λ x. IfSome x OwnGaveShort) (is_some (conn.due c)) (gave_so o (gives c).conn (gives c).pdu) None
+    (λ e. own_gave_short o (gives c).conn (gives c).pdu (pdu_short c k)) (λ e. tt)
+unit_short o i k = tt
+
+owed_short : (o : OwnState) (i : OwnIs) → StandsShort i → IfSome (ack_so o i) OwnGaveShort
+owed_short o (Open c) k = own_gave_short o (gives_ack c).conn (gives_ack c).pdu (ack_short c k)
+owed_short o i k = tt
+
 module _ {S : Type 0} where
   holder_short : (l : LlcState S) (d s : ℕ) → GivesShort l → HolderShort (holder l d s)
   holder_short l d s h =
@@ -110,20 +140,12 @@ module _ {S : Type 0} where
   asked_short l o c (taking.Closed r) k h = answered_short (t.ends l (Asked o c)) _ (frmr_short c.there c.here r) (ends_short l (Asked o c) k h)
 
   -- an answer that such a connection awaits
-  cc_short : (l : LlcState S) (o : OwnState) (ps : List Param) (i : OwnIs) → IfSome (last_of miux_in ps) IsLess → GivesShort l → GivesShort (t.heard_cc l o ps i)
-  cc_short l o ps Asking k h =
-      either {X = LlcState S} (λ x. GivesShort x) (rw_of ps == 0) _ _ (λ e. own_changed l (record o { is = Refused }) tt h)
-      (λ e. own_changed l (record o { is = Open (fresh o.here o.there l.miu (miu_of ps) (rw_of ps)) }) (miu_short ps k, tt) h)
-  cc_short l o ps i k h = h
-
-  heard_dm_short : (l : LlcState S) (o : OwnState) (i : OwnIs) → GivesShort l → GivesShort (t.heard_dm l o i)
-  heard_dm_short l o Asking h = own_changed l (record o { is = Refused }) tt h
-  heard_dm_short l o Leaving h = own_changed l (record o { is = Closed }) tt h
-  heard_dm_short l o i h = h
-
-  awaited_short : (l : LlcState S) (s : ℕ) (f : OwnState → LlcState S) (q : Option OwnState) → ((o : OwnState) → GivesShort (f o)) → GivesShort l → GivesShort (t.awaited l s f q)
-  awaited_short l s f None each h = h
-  awaited_short l s f (Some o) each h = either {X = LlcState S} (λ x. GivesShort x) (o.there == s) (f o) l (λ e. each o) (λ e. h)
+  heard_short : (l : LlcState S) (d s : ℕ) (f : OwnState → OwnState) → ((o : OwnState) → OwnShort o → OwnShort (f o)) → GivesShort l → GivesShort (t.heard_own l d s f)
+  heard_short l d s f each h = go (own_from d l.own) (own_found d l.own h.own)
+    where
+      go : (q : Option OwnState) → IfSome q OwnShort → GivesShort (record l { own = on_own (if_there s f) q l.own })
+      go None k = h
+      go (Some o) k = own_changed l (if_there s f o) (either {X = OwnState} OwnShort (o.there == s) (f o) o (λ e. each o k) (λ e. k)) h
 
   -- service discovery
   tells_short : (l : LlcState S) (ps : List Param) → length (params_bytes ps) ≤ 2176 → GivesShort l → GivesShort (t.tells l ps)
@@ -174,8 +196,9 @@ module _ {S : Type 0} (m : Serving S) where
   step_short l (Good (Ui d s info)) k h = h
   step_short l (Good (Connect d s ps)) k h =
       either {X = LlcState S} (λ x. GivesShort x) (t.is_full l) l (t.connects_to m l d s ps (t.accepted l d s ps)) (λ e. h) (λ e. connects_short l d s ps (t.accepted l d s ps) k h)
-  step_short l (Good (Cc d s ps)) k h = awaited_short l s (λ o. t.heard_cc l o ps o.is) (own_from d l.own) (λ o. cc_short l o ps o.is k h) h
-  step_short l (Good (Dm d s r)) k h = awaited_short l s (λ o. t.heard_dm l o o.is) (own_from d l.own) (λ o. heard_dm_short l o o.is h) h
+  step_short l (Good (Cc d s ps)) k h =
+      heard_short l d s (cc_on l.miu (miu_of ps) (rw_of ps)) (λ o z. cc_short l.miu (miu_of ps) (rw_of ps) o o.is (miu_short ps k) refl z) h
+  step_short l (Good (Dm d s r)) k h = heard_short l d s dm_on (λ o z. heard_dm_short o o.is z) h
   step_short l (Good (Disc d s)) k h = leaves_short l d s (holder l d s) (holder_short l d s h) h
   step_short l (Good (Frmr d s r)) k h = ends_short l (holder l d s) (holder_short l d s h) h
   step_short l (Good (Snl ps)) k h = discovers_short l ps h
@@ -210,9 +233,9 @@ module _ {S : Type 0} (m : Serving S) where
   conn_gives l c None k h = tt
   conn_gives l c (Some p) k h = (record { miu = h.miu; queue = h.queue; served = with_short c l.served k.0 h.served; own = h.own }, k.1)
 
-  own_gives : (l : LlcState S) (o : OwnState) (c : ConnState) (q : Option Part) → IfSome q (PduShort c) → GivesShort l → IfSome (g.gave_own l o c q) GaveShort
-  own_gives l o c None k h = tt
-  own_gives l o c (Some p) k h = (record { miu = h.miu; queue = h.queue; served = h.served; own = with_own_short (record o { is = Open c }) l.own k.0 h.own }, k.1)
+  own_gives : (l : LlcState S) (q : Option OwnGave) → IfSome q OwnGaveShort → GivesShort l → IfSome (g.gave_own l q) GaveShort
+  own_gives l None k h = tt
+  own_gives l (Some x) k h = (record { miu = h.miu; queue = h.queue; served = h.served; own = with_own_short x.own l.own k.0 h.own }, k.1)
 
   module _ (fits : (s : S) (client miu : ℕ) → IfSome (m.due s client miu) (λ u. length u ≤ miu)) where
     sends_short : (l : LlcState S) (c : ConnState) (q : Option (List ℕ)) → IfSome q (λ u. length u ≤ c.far_miu) → ConnShort c → GivesShort l → IfSome (g.sends m l c q) GaveShort
@@ -227,27 +250,17 @@ module _ {S : Type 0} (m : Serving S) where
         either {X = Option (Gave S)} (λ o. IfSome o GaveShort) (may_send c) (g.sends m l c (m.due l.service c.there c.far_miu)) None
         (λ e. sends_short l c (m.due l.service c.there c.far_miu) (fits l.service c.there c.far_miu) k h) (λ e. tt)
 
-    informs_open_short : (l : LlcState S) (o : OwnState) (i : OwnIs) → StandsShort i → GivesShort l → IfSome (g.informs_open l o i) GaveShort
-    informs_open_short l o (Open c) k h =
-        either {X = Option (Gave S)} (λ x. IfSome x GaveShort) (is_some (conn.due c)) (g.gave_own l o (gives c).conn (gives c).pdu) None
-        (λ e. own_gives l o (gives c).conn (gives c).pdu (pdu_short c k) h) (λ e. tt)
-    informs_open_short l o i k h = tt
-
     informs_own_short : (l : LlcState S) (q : Option OwnState) → IfSome q OwnShort → GivesShort l → IfSome (g.informs_own l q) GaveShort
     informs_own_short l None k h = tt
-    informs_own_short l (Some o) k h = informs_open_short l o o.is k h
+    informs_own_short l (Some o) k h = own_gives l (unit_on o) (unit_short o o.is k) h
 
     acks_served_short : (l : LlcState S) (q : Option ConnState) → IfSome q ConnShort → GivesShort l → IfSome (g.acknowledges_served l q) GaveShort
     acks_served_short l None k h = tt
     acks_served_short l (Some c) k h = conn_gives l (gives_ack c).conn (gives_ack c).pdu (ack_short c k) h
 
-    acks_open_short : (l : LlcState S) (o : OwnState) (i : OwnIs) → StandsShort i → GivesShort l → IfSome (g.acknowledges_open l o i) GaveShort
-    acks_open_short l o (Open c) k h = own_gives l o (gives_ack c).conn (gives_ack c).pdu (ack_short c k) h
-    acks_open_short l o i k h = tt
-
     acks_own_short : (l : LlcState S) (q : Option OwnState) → IfSome q OwnShort → GivesShort l → IfSome (g.acknowledges_own l q) GaveShort
     acks_own_short l None k h = tt
-    acks_own_short l (Some o) k h = acks_open_short l o o.is k h
+    acks_own_short l (Some o) k h = own_gives l (ack_on o) (owed_short o o.is k) h
 
     -- what waits comes first
     from_queue : (l : LlcState S) (q : List Queued) → AllByRecursion QueuedShort q → GivesShort l → IfSome (g.gave_from m l q) GaveShort

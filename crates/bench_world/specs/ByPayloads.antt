@@ -6,8 +6,10 @@ use Rattle.llcp_link.specs.State.{restarted}
 use Rattle.llcp_link.specs.Taking.{Item, steps}
 use Rattle.llcp_link.specs.Taking as taking
 use Rattle.llcp_link.specs.Units.{Mark, marks, units}
-use Rattle.snep_core.specs.Payloads.{AcceptsPuts, AllPut, IsFront, accepted_from}
-use Rattle.snep_core.specs.Server.{sap_count, serving}
+use Rattle.snep_core.specs.Payloads.{AcceptsPuts, AllPut, accepted_from}
+use Rattle.llcp_conn.specs.Window.{IsFront}
+use Rattle.snep_core.specs.Server.{serving}
+use Rattle.llcp_pdu.specs.Wire.{sap_count}
 use Rattle.bench_world.specs.Arrivals.{Arrival, arrival_marks, end_at, end_behind, payloads_of}
 use Rattle.bench_world.specs.World.{FarEnd}
 use Rattle.bench_world.specs.Stories.{Opener, ByLink, ByForge, ByRaw, Story}

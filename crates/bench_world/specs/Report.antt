@@ -21,6 +21,7 @@ use Rattle.bench_world.specs.declared.entry.SlotDone.{SlotDone}
 use Rattle.bench_world.specs.declared.entry.Seen.{Seen}
 use Rattle.bench_devices.specs.declared.polling.SeenKind.{SeenKind}
 use Rattle.bench_devices.specs.declared.polling.SeenKind.TheVariants as kinds
+use Rattle.snep_core.specs.Talk.{client_sap}
 use Rattle.bench_script.specs.DeviceIds.{bytes_of}
 use Rattle.bench_script.specs.Canonical.{hex_text, frame_text}
 
@@ -73,11 +74,7 @@ tag_text id = codes " " ++ hex_text id
 abbrev pub tags_text : List (List ℕ) → List ℕ
 tags_text ids = codes "crowd " ++ decimal (length ids) ++ flat_map tag_text ids
 
--- the SAP from which a reader's client connects
-abbrev pub client_sap : ℕ
-client_sap = 32
-
--- the SAP from which a message came, untold where it is that one
+-- the SAP from which a message came, untold where it is that from which a reader's client connects
 abbrev pub source_text : ℕ → List ℕ
 source_text source = if source == client_sap then [] else codes "." ++ decimal source
 

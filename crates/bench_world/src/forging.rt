@@ -23,7 +23,7 @@ use bench_devices::{Device, Selection, open_link, select};
 use bench_script::{Command, DeviceId};
 use link_calls::exchange_all;
 use llcp_link::{Counted, Counts};
-use llcp_pdu::general_write;
+use llcp_pdu::{LEAST_MIU, general_write};
 use nfc_base::{EndCause, Items};
 use nfca_poll::Ident;
 use snep_core::Server;
@@ -34,9 +34,6 @@ const MOST_PAYLOADS: usize = 16;
 
 /// The longest payload (NFC Forum LLCP 1.3: an I PDU with the most information).
 const LONGEST_PAYLOAD: usize = 2178;
-
-/// The MIU of an end that says none (NFC Forum LLCP 1.3).
-const LEAST_MIU: u16 = 128;
 
 /// Whether payloads may be sent so: some, not too many, and each of a length that one may have.
 fn are_payloads(payloads: &[Items<u8>]) -> bool

@@ -13,9 +13,7 @@ use arrayvec::ArrayVec;
 use bench_devices::SeenKind;
 use bench_script::DeviceId;
 use nfc_base::Items;
-
-/// The SAP from which a reader's client connects, which a line leaves out.
-const CLIENT_SAP: u8 = 32;
+use snep_core::CLIENT_SAP;
 
 /// The items that are left of what an answer lists.
 #[derive(Debug, Drop)]

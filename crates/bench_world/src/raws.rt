@@ -23,16 +23,13 @@ use air_core::{AirFault, Field};
 use bench_devices::{Device, Selection, open_link, select};
 use bench_script::{Command, DeviceId};
 use llcp_link::{Counted, Counts};
-use llcp_pdu::general_write;
+use llcp_pdu::{LEAST_MIU, general_write};
 use nfc_base::{Answerer, EndCause, Frame, Heard, Items, Mute};
 use snep_core::Server;
 use std::alloc::Global;
 
 /// How many frames one command may have (this project's limit).
 const MOST_FRAMES: usize = 16;
-
-/// The MIU of an end that says none (NFC Forum LLCP 1.3).
-const LEAST_MIU: u16 = 128;
 
 /// How many peers are placed.
 pub(crate) fn count_peers(devices: &[Device]) -> usize

@@ -1,5 +1,5 @@
 -- No payload changes what is set of a peer's end.
-use Rattle.std.proofs.Common.{◌≡◌, ℕ, zero, suc, ◌+◌, ◌/◌, ◌==◌, nat_le, List, [], ◌∷◌, length, Option, Some, None, refl, sym, ap, subst, ◌∙◌, inl, inr, is_some}
+use Rattle.std.proofs.Common.{◌≡◌, ℕ, zero, suc, ◌+◌, ◌/◌, ◌==◌, nat_le, List, [], ◌∷◌, length, Option, Some, None, refl, sym, ap, subst, ◌∙◌, inl, inr}
 use Rattle.nfc_base.specs.Choosing.{Choosing, first_number}
 use Rattle.nfc_base.specs.Links.{FarStep, Stepped, Stopped, FarMoved}
 use Rattle.llcp_pdu.specs.declared.part.Part.{Part}
@@ -8,10 +8,10 @@ use Rattle.llcp_pdu.specs.declared.param.Param.{Param}
 use Rattle.llcp_pdu.specs.Writing.{inner_bytes}
 use Rattle.llcp_conn.specs.declared.conn.Taken.{Taken}
 use Rattle.llcp_conn.specs.declared.conn.Taken.TheVariants as taking
-use Rattle.llcp_conn.specs.Conn.{ConnState, Took, queued, due, gives, gives_ack, report, takes}
-use Rattle.llcp_link.specs.declared.own.OwnIs.{OwnIs}
-use Rattle.llcp_link.specs.declared.own.OwnIs.TheVariants.{Asking, Open, Refused, Leaving, Closed}
-use Rattle.llcp_link.specs.State.{Queued, OwnState, Holder, Nobody, Served, Asked, sap_count, conn_from, own_from, holder, with_own, with_conn}
+use Rattle.llcp_conn.specs.Conn.{ConnState, Took, queued, gives, gives_ack, report, takes}
+use Rattle.llcp_link.specs.Own.{OwnGave, ack_on, unit_on}
+use Rattle.llcp_link.specs.State.{Queued, OwnState, Holder, Nobody, Served, Asked, conn_from, own_from, holder, with_own, with_conn}
+use Rattle.llcp_pdu.specs.Wire.{sap_count}
 use Rattle.llcp_link.specs.Names.{rw_of, reached, name_of, answers_to, told_all}
 use Rattle.llcp_link.specs.Taking as t
 use Rattle.llcp_link.specs.Taking.{Item, Good, Broken, taken_from, brought, step, steps, steps_part}
@@ -54,24 +54,6 @@ module _ (z : Setting) where
   asked_is l o c (taking.Unit u) h = h
   asked_is l o c (taking.Closed r) h = answered_is (t.ends l (Asked o c)) (Frmr c.there c.here r) h
 
-  cc_is : (l : PeerState) (o : OwnState) (ps : List Param) (i : OwnIs) → Is l → Is (t.heard_cc l o ps i)
-  cc_is l o ps Asking h = either {X = PeerState} Is (rw_of ps == 0) _ _ (λ e. h) (λ e. h)
-  cc_is l o ps (Open c) h = h
-  cc_is l o ps Refused h = h
-  cc_is l o ps Leaving h = h
-  cc_is l o ps Closed h = h
-
-  dm_is : (l : PeerState) (o : OwnState) (i : OwnIs) → Is l → Is (t.heard_dm l o i)
-  dm_is l o Asking h = h
-  dm_is l o (Open c) h = h
-  dm_is l o Refused h = h
-  dm_is l o Leaving h = h
-  dm_is l o Closed h = h
-
-  awaited_is : (l : PeerState) (s : ℕ) (f : OwnState → PeerState) → ((o : OwnState) → Is (f o)) → (o : Option OwnState) → Is l → Is (t.awaited l s f o)
-  awaited_is l s f all None h = h
-  awaited_is l s f all (Some o) h = either {X = PeerState} Is (o.there == s) (f o) l (λ e. all o) (λ e. h)
-
   tells_is : (l : PeerState) (ps : List Param) → Is l → Is (t.tells l ps)
   tells_is l [] h = h
   tells_is l (p ∷ ps) h = answered_is l (Snl (p ∷ ps)) h
@@ -103,8 +85,8 @@ module _ (z : Setting) where
   part_is l Symm h = h
   part_is l (Ui d s info) h = h
   part_is l (Connect d s ps) h = connects_is l d s ps h
-  part_is l (Cc d s ps) h = awaited_is l s (λ o. t.heard_cc l o ps o.is) (λ o. cc_is l o ps o.is h) (own_from d l.own) h
-  part_is l (Dm d s reason) h = awaited_is l s (λ o. t.heard_dm l o o.is) (λ o. dm_is l o o.is h) (own_from d l.own) h
+  part_is l (Cc d s ps) h = h
+  part_is l (Dm d s reason) h = h
   part_is l (Disc d s) h = leaves_is l d s (holder l d s) h
   part_is l (Frmr d s r) h = ends_is l (holder l d s) h
   part_is l (Snl ps) h = tells_is (record l { lookups = told_all ps l.lookups }) (answers_to l.bound (l.far_miu / 4) ps) h
@@ -146,9 +128,9 @@ module _ (z : Setting) where
   conn_is l c None h = none_is
   conn_is l c (Some p) h = one_is (record l { served = with_conn c l.served; last = Some c.there }) p h
 
-  own_is : (l : PeerState) (o : OwnState) (c : ConnState) (p : Option Part) → Is l → AllAre (g.gave_own l o c p)
-  own_is l o c None h = none_is
-  own_is l o c (Some p) h = one_is (record l { own = with_own (record o { is = Open c }) l.own; last = Some o.here }) p h
+  own_is : (l : PeerState) (q : Option OwnGave) → Is l → AllAre (g.gave_own l q)
+  own_is l None h = none_is
+  own_is l (Some x) h = one_is (record l { own = with_own x.own l.own; last = Some x.own.here }) x.part h
 
   sends_is : (l : PeerState) (c : ConnState) (q : Option (List ℕ)) → Is l → AllAre (g.sends serving l c q)
   sends_is l c None h = none_is
@@ -161,16 +143,9 @@ module _ (z : Setting) where
       by_served None = none_is
       by_served (Some c) = either AllAre (g.may_send c) _ _ (λ e. sends_is l c (serving.due l.service c.there c.far_miu) h) (λ e. none_is)
 
-      by_is : (o : OwnState) (i : OwnIs) → AllAre (g.informs_open l o i)
-      by_is o (Open c) = either AllAre (is_some (due c)) _ _ (λ k. own_is l o (gives c).conn (gives c).pdu h) (λ k. none_is)
-      by_is o Asking = none_is
-      by_is o Refused = none_is
-      by_is o Leaving = none_is
-      by_is o Closed = none_is
-
       by_own : (q : Option OwnState) → AllAre (g.informs_own l q)
       by_own None = none_is
-      by_own (Some o) = by_is o o.is
+      by_own (Some o) = own_is l (unit_on o) h
 
   acks_are : (l : PeerState) (s : ℕ) → Is l → AllAre (g.acknowledges l s)
   acks_are l s h = else_is _ _ (by_served (conn_from s l.served)) (by_own (own_from s l.own))
@@ -179,16 +154,9 @@ module _ (z : Setting) where
       by_served None = none_is
       by_served (Some c) = conn_is l (gives_ack c).conn (gives_ack c).pdu h
 
-      by_is : (o : OwnState) (i : OwnIs) → AllAre (g.acknowledges_open l o i)
-      by_is o (Open c) = own_is l o (gives_ack c).conn (gives_ack c).pdu h
-      by_is o Asking = none_is
-      by_is o Refused = none_is
-      by_is o Leaving = none_is
-      by_is o Closed = none_is
-
       by_own : (q : Option OwnState) → AllAre (g.acknowledges_own l q)
       by_own None = none_is
-      by_own (Some o) = by_is o o.is
+      by_own (Some o) = own_is l (ack_on o) h
 
   gave_is : (l : PeerState) → Is l → AllAre (gave serving l)
   gave_is l h = go l.queue

@@ -8,9 +8,7 @@ use Rattle.llcp_conn.specs.declared.conn.Taken.{Taken}
 use Rattle.llcp_conn.specs.declared.conn.Taken.TheVariants as taking
 use Rattle.llcp_conn.specs.Conn.{ConnState, Took, takes}
 use Rattle.llcp_link.specs.Serving.{Serving}
-use Rattle.llcp_link.specs.declared.own.OwnIs.{OwnIs}
-use Rattle.llcp_link.specs.declared.own.OwnIs.TheVariants.{Asking, Open, Refused, Leaving, Closed}
-use Rattle.llcp_link.specs.State.{LlcState, OwnState, Holder, Nobody, Served, Asked, holder, own_from}
+use Rattle.llcp_link.specs.State.{LlcState, OwnState, Holder, Nobody, Served, Asked, holder}
 use Rattle.llcp_link.specs.Names.{rw_of, reached, name_of, answers_to, told_all}
 use Rattle.llcp_link.specs.Taking as t
 use Rattle.llcp_link.specs.Taking.{Item, Good, Broken, items, step, steps, taken_from}
@@ -29,24 +27,6 @@ module _ {S : Type 0} (m : Serving S) (miu : ℕ) where
   asked_has l o k taking.Nothing h = h
   asked_has l o k (taking.Unit u) h = h
   asked_has l o k (taking.Closed r) h = answered_has (t.ends l (Asked o k)) _ h
-
-  cc_has : (l : LlcState S) (o : OwnState) (ps : List Param) (x : OwnIs) → Has l → Has (t.heard_cc l o ps x)
-  cc_has l o ps Asking h = either {X = LlcState S} Has (rw_of ps == 0) _ _ (λ e. h) (λ e. h)
-  cc_has l o ps (Open c) h = h
-  cc_has l o ps Refused h = h
-  cc_has l o ps Leaving h = h
-  cc_has l o ps Closed h = h
-
-  dm_has : (l : LlcState S) (o : OwnState) (x : OwnIs) → Has l → Has (t.heard_dm l o x)
-  dm_has l o Asking h = h
-  dm_has l o (Open c) h = h
-  dm_has l o Refused h = h
-  dm_has l o Leaving h = h
-  dm_has l o Closed h = h
-
-  awaited_has : (l : LlcState S) (s : ℕ) (f : OwnState → LlcState S) (q : Option OwnState) → ((o : OwnState) → Has (f o)) → Has l → Has (t.awaited l s f q)
-  awaited_has l s f None k h = h
-  awaited_has l s f (Some o) k h = either {X = LlcState S} Has (o.there == s) (f o) l (λ e. k o) (λ e. h)
 
   tells_has : (l : LlcState S) (ps : List Param) → Has l → Has (t.tells l ps)
   tells_has l [] h = h
@@ -92,8 +72,8 @@ module _ {S : Type 0} (m : Serving S) (miu : ℕ) where
   step_has l (Good (Ui d s info)) h = h
   step_has l (Good (Connect d s ps)) h =
       either {X = LlcState S} Has (t.is_full l) l (t.connects_to m l d s ps (t.accepted l d s ps)) (λ e. h) (λ e. connects_has l d s ps (t.accepted l d s ps) h)
-  step_has l (Good (Cc d s ps)) h = awaited_has l s (λ o. t.heard_cc l o ps o.is) (own_from d l.own) (λ o. cc_has l o ps o.is h) h
-  step_has l (Good (Dm d s r)) h = awaited_has l s (λ o. t.heard_dm l o o.is) (own_from d l.own) (λ o. dm_has l o o.is h) h
+  step_has l (Good (Cc d s ps)) h = h
+  step_has l (Good (Dm d s r)) h = h
   step_has l (Good (Disc d s)) h = leaves_has l d s (holder l d s) h
   step_has l (Good (Frmr d s r)) h = ends_has l (holder l d s) h
   step_has l (Good (Snl ps)) h = tells_has (record l { lookups = told_all ps l.lookups }) (answers_to l.bound (l.far_miu / 4) ps) h

@@ -6,7 +6,7 @@ use Rattle.llcp_pdu.specs.declared.part.Part.TheVariants.{Symm, Ui, Connect, Dis
 use Rattle.llcp_pdu.specs.declared.part.FrmrReport.{FrmrReport}
 use Rattle.llcp_pdu.specs.declared.pdu_view.PduView.{PduView}
 use Rattle.llcp_pdu.specs.declared.pdu_view.PduView.TheVariants as view
-use Rattle.llcp_pdu.specs.Wire.{info_type, rr_type, rnr_type}
+use Rattle.llcp_pdu.specs.Wire.{info_type, rr_type, rnr_type, sap_count}
 use Rattle.llcp_conn.specs.declared.conn.Taken.{Taken}
 use Rattle.llcp_conn.specs.declared.conn.Taken.TheVariants as taken
 use Rattle.llcp_conn.specs.declared.conn.ConnNumbers.{ConnNumbers}
@@ -60,7 +60,7 @@ has_room c = nat_lt (length c.flight + length c.queue) c.window
 
 -- SAPs of six bits; windows of 1 to 15
 abbrev pub IsSap : ℕ → Type 0
-IsSap sap = sap < 64
+IsSap sap = sap < sap_count
 
 abbrev pub IsWindow : ℕ → Type 0
 IsWindow rw = (1 ≤ rw) × (rw ≤ most_window)

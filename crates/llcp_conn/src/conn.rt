@@ -9,7 +9,7 @@ ghost use Rattle.llcp_conn.specs.declared.fault.ConnFault.{ConnFault};
 use crate::fault::{ConnFault, SharedCause, SharedRefused};
 use bytes::Bytes;
 use circular_buffer::HeapCircularBuffer;
-use llcp_pdu::{FrmrReport, Part, PduView};
+use llcp_pdu::{FrmrReport, INFO, Part, PduView, RNR, RR};
 use nfc_base::Items;
 use std::alloc::{AllocError, Global};
 use std::marker::Model;
@@ -20,12 +20,6 @@ const INFORMATION: u8 = 0x40;
 const RECEIVED: u8 = 0x20;
 
 const SENT: u8 = 0x10;
-
-const INFO: u8 = 12;
-
-const RR: u8 = 13;
-
-const RNR: u8 = 14;
 
 /// What a PDU comes to.
 #[derive(Debug, Drop)]

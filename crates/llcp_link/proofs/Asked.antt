@@ -1,39 +1,30 @@
 -- Calls on the connections that an end asked for, by the table.
 use Rattle.std.proofs.Common.{◌≡◌, ℕ, Bool, List, [], ◌∷◌, ◌++◌, slice_index_or, slice_set, Option, Some, None, refl, sym, ap, ◌∙◌}
 use Rattle.llcp_pdu.specs.declared.part.Part.{Part}
+use Rattle.llcp_pdu.specs.declared.part.Part.TheVariants.{Disc}
 use Rattle.llcp_link.specs.State.{LlcState, Queued, Leaving, OwnState, own_from, with_own, OwnIs, Asking, Open, Refused, Closed}
-use Rattle.llcp_link.specs.Asking.{disconnected_by, is_open, is_open_by, standing_of, standing_on, refusal_of, request, Submits, submitted_by, unit_taken_by}
+use Rattle.llcp_link.specs.Asking.{disconnected_by, is_open, is_open_by, standing_of, standing_on, queued_on, refusal_of, request, Submits}
 use Rattle.llcp_link.specs.declared.standing.Standing.{Standing}
 use Rattle.llcp_link.specs.declared.standing.Standing.TheVariants as stands
-use Rattle.llcp_link.specs.Owns.{Leaves, queued_in, unit_taken_in}
+use Rattle.llcp_link.specs.Own.{on_own}
+use Rattle.llcp_link.specs.Places.{StandsAt}
 
 module _ {S : Type 0} (l : LlcState S) (d : ℕ) where
-  submitted_in : (u : List ℕ) (o : Option OwnState) → record l { own = queued_in u l.own o } ≡ submitted_by l u o
-  submitted_in u None = refl
-  submitted_in u (Some o) = refl
-
-  pub submitted_so : (u : List ℕ) (own : List OwnState) → refusal_of (own_from d l.own) u ≡ None → own ≡ queued_in u l.own (own_from d l.own)
+  pub submitted_so : (u : List ℕ) (own : List OwnState) → refusal_of (own_from d l.own) u ≡ None → own ≡ on_own (λ o. queued_on o u o.is) (own_from d l.own) l.own
       → Submits l d u (record l { own = own })
-  submitted_so u own f e = record { free = f; kept = ap (λ xs. record l { own = xs }) e ∙ submitted_in u (own_from d l.own) }
+  submitted_so u own f e = record { free = f; kept = ap (λ xs. record l { own = xs }) e }
 
-  taken_in : (o : Option OwnState) → record l { own = unit_taken_in l.own o } ≡ unit_taken_by l o
-  taken_in None = refl
-  taken_in (Some o) = refl
-
-  pub unit_taken_so : (own : List OwnState) → own ≡ unit_taken_in l.own (own_from d l.own) → record l { own = own } ≡ unit_taken_by l (own_from d l.own)
-  unit_taken_so own e = ap (λ xs. record l { own = xs }) e ∙ taken_in (own_from d l.own)
-
-  pub disconnected_so : (place : ℕ) (p : Part) (k : Leaves d l.own place p) (o new : OwnState) (queue : List Queued) → o ≡ slice_index_or l.own place o
-      → new ≡ record o { is = Leaving } → queue ≡ l.queue ++ record { own = Bool.true; part = p } ∷ []
+  pub disconnected_so : (place : ℕ) (k : StandsAt d l.own place) (o old new : OwnState) (p : Part) (queue : List Queued) → o ≡ slice_index_or l.own place o → p ≡ Disc o.there o.here
+      → queue ≡ l.queue ++ record { own = Bool.true; part = p } ∷ [] → old ≡ slice_index_or l.own place old → new ≡ record old { is = Leaving }
       → record l { queue = queue; own = slice_set l.own place new } ≡ disconnected_by l (own_from d l.own)
-  disconnected_so place p k o new queue is e q =
-      let same : o ≡ k.at.own = is ∙ k.at.read o in
-      let n : new ≡ record k.at.own { is = Leaving } = e ∙ ap (λ (x : OwnState). record x { is = Leaving }) same in
-      let here : new.here ≡ d = ap (λ x. x.here) n ∙ k.at.here in
+  disconnected_so place k o old new p queue is part q was e =
+      let n : new ≡ record k.own { is = Leaving } = e ∙ ap (λ (x : OwnState). record x { is = Leaving }) (was ∙ k.read old) in
+      let here : new.here ≡ d = ap (λ x. x.here) n ∙ k.here in
       ap (λ x. record l { queue = x; own = slice_set l.own place new }) q
-      ∙ ap (λ x. record l { queue = l.queue ++ request p ∷ []; own = x }) (k.at.changed new here ∙ ap (λ x. with_own x l.own) n)
-      ∙ ap (λ x. record l { queue = l.queue ++ request x ∷ []; own = with_own (record k.at.own { is = Leaving }) l.own }) k.part
-      ∙ ap (disconnected_by l) (sym k.at.found)
+      ∙ ap (λ x. record l { queue = l.queue ++ request p ∷ []; own = x }) (k.changed new here ∙ ap (λ x. with_own x l.own) n)
+      ∙ ap (λ x. record l { queue = l.queue ++ request x ∷ []; own = with_own (record k.own { is = Leaving }) l.own })
+      (part ∙ ap (λ (x : OwnState). Disc x.there x.here) (is ∙ k.read o))
+      ∙ ap (disconnected_by l) (sym k.found)
 
 open_on : (i : OwnIs) (miu : ℕ) → standing_on i ≡ stands.Open miu → is_open i ≡ Bool.true
 open_on (Open c) miu e = refl

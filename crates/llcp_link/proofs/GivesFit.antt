@@ -1,13 +1,15 @@
 -- What an end gives changes nothing of the units that were brought.
-use Rattle.std.proofs.Common.{◌≡◌, ◌<◌, ◌≤◌, nat_lt, nat_le, ℕ, zero, suc, ◌+◌, ◌==◌, Bool, true, false, ◌&&◌, not, is_some, List, [], ◌∷◌, length, Option, Some, None, refl, sym, ◌∙◌, subst, arith, length-append, if◌then◌else◌}
+use Rattle.std.proofs.Common.{◌≡◌, ◌<◌, ◌≤◌, nat_lt, nat_le, ℕ, zero, suc, ◌+◌, ◌==◌, Bool, true, false, ◌&&◌, not, List, [], ◌∷◌, length, Option, Some, None, refl, sym, ◌∙◌, subst, arith, length-append, if◌then◌else◌}
 use Rattle.std.proofs.lemmas.Bool.{eqb-true, ltb-true}
 use Rattle.llcp_pdu.specs.declared.part.Part.{Part}
 use Rattle.llcp_pdu.specs.Writing.{inner_bytes}
-use Rattle.llcp_conn.specs.Conn.{ConnState, due, queued, gives, gives_ack, gives_from, Gave as GaveConn}
+use Rattle.llcp_conn.specs.Conn.{ConnState, queued, gives, gives_ack, gives_from, Gave as GaveConn}
 use Rattle.llcp_link.specs.Serving.{Serving}
-use Rattle.llcp_link.specs.State.{LlcState, sap_count, Queued, OwnIs, Asking, Open as OwnOpen, Refused, Leaving, Closed, OwnState, conn_from, own_from, with_conn}
+use Rattle.llcp_link.specs.State.{LlcState, Queued, OwnState, conn_from, own_from, with_conn}
+use Rattle.llcp_pdu.specs.Wire.{sap_count}
 use Rattle.llcp_link.specs.Giving as g
 use Rattle.llcp_link.specs.Giving.{Gave, GaveAll, first_from, gave, gave_first, gave_none, joined, given_so, given_parts, after_giving, may_send, or_else, sap_after}
+use Rattle.llcp_link.specs.Own.{OwnGave, ack_on, unit_on}
 use Rattle.llcp_link.specs.Units.{Open}
 use Rattle.llcp_link.proofs.Clients.{conn_there, conn_with, conn_with_other, distinct_with}
 use Rattle.llcp_link.proofs.Ranged.{either}
@@ -123,9 +125,9 @@ module _ {S : Type 0} (m : Serving S) (told : S → List (List (List ℕ)) → T
     tells = h.tells;
   })
 
-  own_fits : (l : LlcState S) (x : OwnState) (k : ConnState) (p : Option Part) → Fits told c miu l o done → AllFit (g.gave_own l x k p)
-  own_fits l x k None h = none_fits
-  own_fits l x k (Some p) h = one_fits _ p (same_fits told c miu l _ o done (beside m told c miu f l _ refl refl refl) h)
+  own_fits : (l : LlcState S) (q : Option OwnGave) → Fits told c miu l o done → AllFit (g.gave_own l q)
+  own_fits l None h = none_fits
+  own_fits l (Some x) h = one_fits _ x.part (same_fits told c miu l _ o done (beside m told c miu f l _ refl refl refl) h)
 
   sent_fits : (l : LlcState S) (d most : ℕ) → Fits told c miu l o done → Fits told c miu (record l { service = m.sent l.service d most }) o done
   sent_fits l d most h = record { near = h.near; distinct = h.distinct; link = h.link; tells = f.sent l.service d most _ h.tells }
@@ -150,16 +152,9 @@ module _ {S : Type 0} (m : Serving S) (told : S → List (List (List ℕ)) → T
           by_send false i = none_fits
           by_send true i = sends_fits l k (own_there l s k e) i (m.due l.service k.there k.far_miu) h
 
-      by_is : (x : OwnState) (y : OwnIs) → AllFit (g.informs_open l x y)
-      by_is x (OwnOpen k) = either AllFit (is_some (due k)) (g.gave_own l x (gives k).conn (gives k).pdu) None (λ e. own_fits l x (gives k).conn (gives k).pdu h) (λ e. none_fits)
-      by_is x Asking = none_fits
-      by_is x Refused = none_fits
-      by_is x Leaving = none_fits
-      by_is x Closed = none_fits
-
       by_own : (q : Option OwnState) → AllFit (g.informs_own l q)
       by_own None = none_fits
-      by_own (Some x) = by_is x x.is
+      by_own (Some x) = own_fits l (unit_on x) h
 
   acks_fits : (l : LlcState S) (s : ℕ) → Fits told c miu l o done → AllFit (g.acknowledges l s)
   acks_fits l s h = else_fits _ _ (by_served (conn_from s l.served) refl) (by_own (own_from s l.own))
@@ -168,16 +163,9 @@ module _ {S : Type 0} (m : Serving S) (told : S → List (List (List ℕ)) → T
       by_served None e = none_fits
       by_served (Some k) e = conn_fits l k (gives_ack k).conn (gives_ack k).pdu (own_there l s k e) (ack_keeps k) (λ x. ack_flight k x) h
 
-      by_is : (x : OwnState) (y : OwnIs) → AllFit (g.acknowledges_open l x y)
-      by_is x (OwnOpen k) = own_fits l x (gives_ack k).conn (gives_ack k).pdu h
-      by_is x Asking = none_fits
-      by_is x Refused = none_fits
-      by_is x Leaving = none_fits
-      by_is x Closed = none_fits
-
       by_own : (q : Option OwnState) → AllFit (g.acknowledges_own l q)
       by_own None = none_fits
-      by_own (Some x) = by_is x x.is
+      by_own (Some x) = own_fits l (ack_on x) h
 
   gave_fits : (l : LlcState S) → Fits told c miu l o done → AllFit (gave m l)
   gave_fits l h = go l.queue

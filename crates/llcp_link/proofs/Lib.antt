@@ -23,11 +23,9 @@ pub mod GivesFit
 pub mod UnitsTold
 pub mod OwnPlaces
 pub mod OwnConns
-pub mod OwnTakes
-pub mod OwnGives
 pub mod LookedUp
 pub mod Closes
-pub mod Awaited
+pub mod OwnHeard
 pub mod OwnGiven
 pub mod Asked
 pub mod Waning

@@ -1,15 +1,14 @@
 -- How many PDUs are as many as fit in a payload.
 use Rattle.std.proofs.Common.{◌≡◌, ◌<◌, ◌≤◌, nat_le, ℕ, zero, suc, ◌+◌, ◌-◌, ◌⊎◌, Bool, true, false, List, [], ◌∷◌, length, Option, Some, None, refl, sym, ◌∙◌, ap, subst, inl, inr, arith, if◌then◌else◌}
-use Rattle.std.specs.Prelude.{is_some}
 use Rattle.std.proofs.lemmas.Bool.{cases_lt}
 use Rattle.std.proofs.lemmas.Bool.Decides.{nat_tests}
 use Rattle.llcp_pdu.specs.declared.part.Part.{Part}
 use Rattle.llcp_pdu.specs.Writing.{inner_bytes, part_bytes}
-use Rattle.llcp_conn.specs.Conn.{ConnState, due, queued, gives, gives_ack}
+use Rattle.llcp_conn.specs.Conn.{ConnState, queued, gives, gives_ack}
 use Rattle.llcp_link.specs.Serving.{Serving}
-use Rattle.llcp_link.specs.declared.own.OwnIs.{OwnIs}
-use Rattle.llcp_link.specs.declared.own.OwnIs.TheVariants.{Asking, Open as OwnOpen, Refused, Leaving, Closed}
-use Rattle.llcp_link.specs.State.{LlcState, sap_count, Queued, OwnState, conn_from, own_from}
+use Rattle.llcp_link.specs.Own.{OwnGave, ack_on, unit_on}
+use Rattle.llcp_link.specs.State.{LlcState, Queued, OwnState, conn_from, own_from}
+use Rattle.llcp_pdu.specs.Wire.{sap_count}
 use Rattle.llcp_link.specs.Giving as g
 use Rattle.llcp_link.specs.Giving.{Gave, GaveAll, first_from, gave, gave_first, gave_none, joined, joined_so, given_so, given_parts, others, IsAllowed, may_send, or_else, sap_after}
 use Rattle.llcp_link.specs.Answering.{IsMost, MostLaw}
@@ -42,9 +41,9 @@ module _ {S : Type 0} (m : Serving S) (miu : ℕ) where
   conn_keeps l k None h = none_keeps
   conn_keeps l k (Some p) h = one_keeps _ p h
 
-  own_keeps : (l : LlcState S) (x : OwnState) (k : ConnState) (p : Option Part) → l.far_miu ≡ miu → Keeps (g.gave_own l x k p)
-  own_keeps l x k None h = none_keeps
-  own_keeps l x k (Some p) h = one_keeps _ p h
+  own_keeps : (l : LlcState S) (q : Option OwnGave) → l.far_miu ≡ miu → Keeps (g.gave_own l q)
+  own_keeps l None h = none_keeps
+  own_keeps l (Some x) h = one_keeps _ x.part h
 
   sends_keeps : (l : LlcState S) (k : ConnState) (q : Option (List ℕ)) → l.far_miu ≡ miu → Keeps (g.sends m l k q)
   sends_keeps l k None h = none_keeps
@@ -54,31 +53,17 @@ module _ {S : Type 0} (m : Serving S) (miu : ℕ) where
   served_keeps l None h = none_keeps
   served_keeps l (Some k) h = if_keeps (may_send k) _ _ (sends_keeps l k (m.due l.service k.there k.far_miu) h) none_keeps
 
-  open_keeps : (l : LlcState S) (x : OwnState) (y : OwnIs) → l.far_miu ≡ miu → Keeps (g.informs_open l x y)
-  open_keeps l x (OwnOpen k) h = if_keeps (is_some (due k)) _ _ (own_keeps l x (gives k).conn (gives k).pdu h) none_keeps
-  open_keeps l x Asking h = none_keeps
-  open_keeps l x Refused h = none_keeps
-  open_keeps l x Leaving h = none_keeps
-  open_keeps l x Closed h = none_keeps
-
   own_informs : (l : LlcState S) (q : Option OwnState) → l.far_miu ≡ miu → Keeps (g.informs_own l q)
   own_informs l None h = none_keeps
-  own_informs l (Some x) h = open_keeps l x x.is h
+  own_informs l (Some x) h = own_keeps l (unit_on x) h
 
   acks_served : (l : LlcState S) (q : Option ConnState) → l.far_miu ≡ miu → Keeps (g.acknowledges_served l q)
   acks_served l None h = none_keeps
   acks_served l (Some k) h = conn_keeps l (gives_ack k).conn (gives_ack k).pdu h
 
-  acks_open : (l : LlcState S) (x : OwnState) (y : OwnIs) → l.far_miu ≡ miu → Keeps (g.acknowledges_open l x y)
-  acks_open l x (OwnOpen k) h = own_keeps l x (gives_ack k).conn (gives_ack k).pdu h
-  acks_open l x Asking h = none_keeps
-  acks_open l x Refused h = none_keeps
-  acks_open l x Leaving h = none_keeps
-  acks_open l x Closed h = none_keeps
-
   acks_own : (l : LlcState S) (q : Option OwnState) → l.far_miu ≡ miu → Keeps (g.acknowledges_own l q)
   acks_own l None h = none_keeps
-  acks_own l (Some x) h = acks_open l x x.is h
+  acks_own l (Some x) h = own_keeps l (ack_on x) h
 
   from_keeps : (l : LlcState S) (q : List Queued) → l.far_miu ≡ miu → Keeps (g.gave_from m l q)
   from_keeps l [] h =

@@ -3,7 +3,7 @@ use Rattle.std.proofs.Common.{◌≡◌, ℕ, suc, ◌==◌, Bool, true, false, 
 use Rattle.std.proofs.lemmas.Bool.Decides.{nat_tests}
 use Rattle.llcp_link.specs.State.{OwnState, own_from, with_own}
 use Rattle.llcp_link.specs.Asking.{put_own, without_own}
-use Rattle.llcp_link.specs.Owns.{IsNowhere, PlaceOf, StandsAt, own_place}
+use Rattle.llcp_link.specs.Places.{IsNowhere, PlaceOf, StandsAt, own_place}
 
 no_place : (p : Option ℕ) → option_map suc p ≡ None → p ≡ None
 no_place None e = refl
@@ -14,6 +14,27 @@ is_same m n e = grind (arith, nat_tests)
 
 is_it : (m n : ℕ) → (m == n) ≡ true → m ≡ n
 is_it m n e = grind (arith, nat_tests)
+
+-- the connection from a SAP is from it
+pub here_of : (h : ℕ) (os : List OwnState) (o : OwnState) → own_from h os ≡ Some o → o.here ≡ h
+here_of h [] o e = absurd cc
+here_of h (q ∷ qs) o e = first (q.here == h) refl e (here_of h qs o)
+  where
+    first : (b : Bool) → (q.here == h) ≡ b → (if b then Some q else own_from h qs) ≡ Some o → (own_from h qs ≡ Some o → o.here ≡ h) → o.here ≡ h
+    first true t i more = let same : q ≡ o = cc in ap (λ x. x.here) (sym same) ∙ is_it q.here h t
+    first false t i more = more i
+
+-- what stands there is put back
+pub with_same : (h : ℕ) (os : List OwnState) (o : OwnState) → own_from h os ≡ Some o → with_own o os ≡ os
+with_same h [] o e = absurd cc
+with_same h (p ∷ ps) o e = by_test (p.here == h) refl e (with_same h ps o)
+  where
+    by_test : (b : Bool) → (p.here == h) ≡ b → (if b then Some p else own_from h ps) ≡ Some o → (own_from h ps ≡ Some o → with_own o ps ≡ ps) → with_own o (p ∷ ps) ≡ p ∷ ps
+    by_test true t i more =
+        let same : p ≡ o = cc in
+        ap (λ b. if b then o ∷ ps else p ∷ with_own o ps) (is_same p.here o.here (ap (λ x. x.here) same)) ∙ ap (λ x. x ∷ ps) (sym same)
+    by_test false t i more =
+        ap (λ b. if b then o ∷ ps else p ∷ with_own o ps) (ap (λ x. p.here == x) (here_of h ps o i) ∙ t) ∙ ap (λ xs. p ∷ xs) (more i)
 
 module _ (h : ℕ) where
   nowhere_behind : (o : OwnState) (os : List OwnState) → (o.here == h) ≡ false → IsNowhere h os → IsNowhere h (o ∷ os)

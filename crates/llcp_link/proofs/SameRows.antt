@@ -55,31 +55,6 @@ module _ {S : Type 0} (m : Serving S) (told : S → List (List (List ℕ)) → T
   asked_same l o k (taking.Unit u) = own_same l _
   asked_same l o k (taking.Closed r) = answered_then l _ _ (own_same l _)
 
-  cc_same : (l : LlcState S) (o : OwnState) (ps : List Param) (x : OwnIs) → Same told c miu l (t.heard_cc l o ps x)
-  cc_same l o ps Asking = either (λ z. Same told c miu l z) (rw_of ps == 0) _ _ (λ e. own_same l _) (λ e. own_same l _)
-  cc_same l o ps (Open k) = still told c miu l
-  cc_same l o ps Refused = still told c miu l
-  cc_same l o ps Leaving = still told c miu l
-  cc_same l o ps Closed = still told c miu l
-
-  dm_same : (l : LlcState S) (o : OwnState) (x : OwnIs) → Same told c miu l (t.heard_dm l o x)
-  dm_same l o Asking = own_same l _
-  dm_same l o (Open k) = still told c miu l
-  dm_same l o Refused = still told c miu l
-  dm_same l o Leaving = own_same l _
-  dm_same l o Closed = still told c miu l
-
-  awaited_same : (l : LlcState S) (s : ℕ) (g : OwnState → LlcState S) → ((o : OwnState) → Same told c miu l (g o)) → (q : Option OwnState)
-      → Same told c miu l (t.awaited l s g q)
-  awaited_same l s g h None = still told c miu l
-  awaited_same l s g h (Some o) = either (λ z. Same told c miu l z) (o.there == s) (g o) l (λ e. h o) (λ e. still told c miu l)
-
-  pub cc_awaited : (l : LlcState S) (s : ℕ) (ps : List Param) (q : Option OwnState) → Same told c miu l (t.awaited l s (λ o. t.heard_cc l o ps o.is) q)
-  cc_awaited l s ps q = awaited_same l s (λ o. t.heard_cc l o ps o.is) (λ o. cc_same l o ps o.is) q
-
-  pub dm_awaited : (l : LlcState S) (s : ℕ) (q : Option OwnState) → Same told c miu l (t.awaited l s (λ o. t.heard_dm l o o.is) q)
-  dm_awaited l s q = awaited_same l s (λ o. t.heard_dm l o o.is) (λ o. dm_same l o o.is) q
-
   tells_same : (l : LlcState S) (ps : List Param) → Same told c miu l (t.tells l ps)
   tells_same l [] = still told c miu l
   tells_same l (p ∷ ps) = answered_same l (Snl (p ∷ ps))

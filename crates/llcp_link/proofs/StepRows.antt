@@ -4,13 +4,13 @@ use Rattle.llcp_pdu.specs.declared.part.Part.TheVariants.{Symm, Ui, Connect, Dis
 use Rattle.llcp_pdu.specs.Wire.{rr_type, rnr_type}
 use Rattle.llcp_conn.specs.Conn.{ConnState, takes_nr, takes_unit}
 use Rattle.llcp_link.specs.Serving.{Serving}
-use Rattle.llcp_link.specs.State.{LlcState, conn_from, holder, own_from}
+use Rattle.llcp_link.specs.State.{LlcState, conn_from, holder}
 use Rattle.llcp_link.specs.Taking as t
 use Rattle.llcp_link.specs.Taking.{Item, Good, Broken, step, steps}
 use Rattle.llcp_link.specs.Units.{Ends, Stays, Mark, Open, accepted_item, acknowledges, begun_by, does_by, informs, mark, turn, turn_of, vs_of, vsa_of}
 use Rattle.llcp_link.proofs.Ranged.{IsRanged}
 use Rattle.llcp_link.proofs.Following.{Follows, Fits, FitsBehind, Same, same_stays, still}
-use Rattle.llcp_link.proofs.SameRows.{answered_then, breaks_other, cc_awaited, discovers_same, dm_awaited, ends_other, ends_same, leaves_other, numbered_else, numbered_other}
+use Rattle.llcp_link.proofs.SameRows.{answered_then, breaks_other, discovers_same, ends_other, ends_same, leaves_other, numbered_else, numbered_other, own_same}
 use Rattle.llcp_link.proofs.ByHolder.{after_does, by_holder}
 use Rattle.llcp_link.proofs.NumberedRows.{IsMarked, answered_behind, conn_ends, info_steps, nr_there, ready_steps, unit_there}
 use Rattle.llcp_link.proofs.ConnectRows.{connect_steps}
@@ -75,8 +75,8 @@ module _ {S : Type 0} (m : Serving S) (told : S → List (List (List ℕ)) → T
   pub step_fits : (i : Item) → IsRanged i → (o : Option Open) → Fits told c miu l o done → FitsBehind told c miu (step m l i) (turn c miu o (mark m c l i)) done
   step_fits (Good Symm) w o h = nothing (Good Symm) l (still told c miu l) (λ o. refl) refl o h
   step_fits (Good (Ui d s info)) w o h = nothing (Good (Ui d s info)) l (still told c miu l) (λ o. refl) refl o h
-  step_fits (Good (Cc d s ps)) w o h = nothing (Good (Cc d s ps)) _ (cc_awaited m told c miu f l s ps (own_from d l.own)) (λ o. refl) refl o h
-  step_fits (Good (Dm d s r)) w o h = nothing (Good (Dm d s r)) _ (dm_awaited m told c miu f l s (own_from d l.own)) (λ o. refl) refl o h
+  step_fits (Good (Cc d s ps)) w o h = nothing (Good (Cc d s ps)) _ (own_same m told c miu f l _) (λ o. refl) refl o h
+  step_fits (Good (Dm d s r)) w o h = nothing (Good (Dm d s r)) _ (own_same m told c miu f l _) (λ o. refl) refl o h
   step_fits (Good (Snl ps)) w o h = nothing (Good (Snl ps)) _ (discovers_same m told c miu f l ps) (λ o. refl) refl o h
   step_fits (Good (Connect d s ps)) w None h = connect_steps m told c miu f l done d s ps w.2 None h
   step_fits (Good (Connect d s ps)) w (Some o) h = connect_steps m told c miu f l done d s ps w.2 (Some o) h

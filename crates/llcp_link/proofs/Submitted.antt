@@ -4,7 +4,7 @@ use Rattle.std.proofs.lemmas.Bool.Decides.{nat_tests}
 use Rattle.llcp_link.specs.State.{LlcState, OwnIs, Asking, Open, Refused, Leaving, Closed, OwnState, own_from, with_own}
 use Rattle.llcp_link.specs.Asking.{queued_on, refusal_of, refusal_on, submitted_by}
 use Rattle.llcp_link.specs.Waning.{pending, pending_on}
-use Rattle.llcp_link.proofs.Awaited.{here_of}
+use Rattle.llcp_link.proofs.OwnPlaces.{here_of}
 
 is_same : (m n : ℕ) → m ≡ n → (m == n) ≡ true
 is_same m n e = grind (arith, nat_tests)

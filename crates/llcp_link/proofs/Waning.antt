@@ -9,7 +9,7 @@ use Rattle.llcp_conn.specs.declared.conn.Taken.{Taken}
 use Rattle.llcp_conn.specs.declared.conn.Taken.TheVariants as taking
 use Rattle.llcp_conn.specs.Conn.{ConnState, Gave as GaveConn, Took, queued, acks, count_end, due, fresh, gives, gives_ack, gives_from, is_outside, report, takes, takes_nr, takes_unit}
 use Rattle.llcp_link.specs.Serving.{Serving}
-use Rattle.llcp_link.specs.State.{LlcState, Queued, OwnIs, Asking, Open, Refused, Leaving, Closed, OwnState, Holder, Nobody, Served, Asked, sap_count, conn_from, own_from, own_holder, holds_open, served_holder, holder, with_own, with_conn}
+use Rattle.llcp_link.specs.State.{LlcState, Queued, OwnIs, Asking, Open, Refused, Leaving, Closed, OwnState, Holder, Nobody, Served, Asked, conn_from, own_from, own_holder, holds_open, served_holder, holder, with_own, with_conn}
 use Rattle.llcp_link.specs.Asking.{acked_of, acked_on, is_open, is_open_by, standing_of, standing_on, unit_taken_by}
 use Rattle.llcp_link.specs.declared.standing.Standing.TheVariants as stands
 use Rattle.llcp_link.specs.Names.{rw_of, reached, name_of, miu_of, answers_to, told_all}
@@ -18,8 +18,10 @@ use Rattle.llcp_link.specs.Taking.{Item, Good, Broken, taken_from, brought, step
 use Rattle.llcp_link.specs.Giving as g
 use Rattle.llcp_link.specs.Giving.{Gave, GaveAll, first_from, gave, gave_none, joined, given_so, given_parts, after_giving, or_else, sap_after}
 use Rattle.llcp_link.specs.Waning.{pending, pending_on}
-use Rattle.llcp_pdu.specs.Wire.{rr_type, rnr_type}
-use Rattle.llcp_link.proofs.Awaited.{here_of}
+use Rattle.llcp_pdu.specs.Wire.{rr_type, rnr_type, sap_count}
+use Rattle.llcp_link.specs.Own.{OwnGave, ack_on, ack_so, cc_on, cc_so, dm_on, dm_so, gave_so, if_there, on_own, unit_on, unit_so}
+use Rattle.llcp_link.proofs.OwnHeard.{cc_here, dm_here}
+use Rattle.llcp_link.proofs.OwnPlaces.{here_of}
 use Rattle.llcp_link.proofs.Ranged.{either}
 
 -- by how it stands: an answer is awaited; it is asked for; it is open
@@ -295,29 +297,33 @@ module _ {S : Type 0} (m : Serving S) (h : ℕ) where
   numbered_wane l f took d s (Served c) e = served_wanes l (f c).conn (f c).does
   numbered_wane l f took d s (Asked o c) e = asked_wanes l o c (f c) (f c).does e.0 e.1 (took c)
 
-  cc_wanes : (l : LlcState S) (o : OwnState) (ps : List Param) (i : OwnIs) → own_from o.here l.own ≡ Some o → o.is ≡ i → W l (t.heard_cc l o ps i)
-  cc_wanes l o ps Asking e j =
-      either {X = LlcState S} (W l) (rw_of ps == 0) _ _ (λ k. put_wanes l o Refused o.units e (refused_so o.is))
-      (λ k. put_wanes l o (Open (fresh o.here o.there l.miu (miu_of ps) (rw_of ps))) o.units e (subst (λ z. Wanes z (Open (fresh o.here o.there l.miu (miu_of ps) (rw_of ps)))) (sym j)
-      (opens_so o.here o.there l.miu (miu_of ps) (rw_of ps))))
-  cc_wanes l o ps (Open c) e j = same_own l l refl
-  cc_wanes l o ps Refused e j = same_own l l refl
-  cc_wanes l o ps Leaving e j = same_own l l refl
-  cc_wanes l o ps Closed e j = same_own l l refl
+  cc_wanes : (miu far_miu rw : ℕ) (o : OwnState) (i : OwnIs) → o.is ≡ i → Wanes o.is (cc_so miu far_miu rw o i).is
+  cc_wanes miu far_miu rw o Asking j =
+      let new : ConnState = fresh o.here o.there miu far_miu rw in
+      either {X = OwnIs} (Wanes o.is) (rw == 0) Refused (Open new) (λ k. refused_so o.is) (λ k. subst (λ z. Wanes z (Open new)) (sym j) (opens_so o.here o.there miu far_miu rw))
+  cc_wanes miu far_miu rw o (Open c) j = stays o.is
+  cc_wanes miu far_miu rw o Refused j = stays o.is
+  cc_wanes miu far_miu rw o Leaving j = stays o.is
+  cc_wanes miu far_miu rw o Closed j = stays o.is
 
-  dm_wanes : (l : LlcState S) (o : OwnState) (i : OwnIs) → own_from o.here l.own ≡ Some o → W l (t.heard_dm l o i)
-  dm_wanes l o Asking e = put_wanes l o Refused o.units e (refused_so o.is)
-  dm_wanes l o (Open c) e = same_own l l refl
-  dm_wanes l o Refused e = same_own l l refl
-  dm_wanes l o Leaving e = put_wanes l o Closed o.units e (ends_so o.is)
-  dm_wanes l o Closed e = same_own l l refl
+  dm_wanes : (o : OwnState) (i : OwnIs) → Wanes o.is (dm_so o i).is
+  dm_wanes o Asking = refused_so o.is
+  dm_wanes o (Open c) = stays o.is
+  dm_wanes o Refused = stays o.is
+  dm_wanes o Leaving = ends_so o.is
+  dm_wanes o Closed = stays o.is
 
-  awaited_wanes : (l : LlcState S) (d s : ℕ) (f : OwnState → LlcState S) → ((o : OwnState) → own_from o.here l.own ≡ Some o → W l (f o))
-      → (q : Option OwnState) → own_from d l.own ≡ q → W l (t.awaited l s f q)
-  awaited_wanes l d s f each None e = same_own l l refl
-  awaited_wanes l d s f each (Some o) e =
-      either {X = LlcState S} (W l) (o.there == s) (f o) l
-      (λ k. each o (subst (λ z. own_from z l.own ≡ Some o) (sym (here_of d l.own o e)) e)) (λ k. same_own l l refl)
+  heard_wanes : (l : LlcState S) (d s : ℕ) (f : OwnState → OwnState) → ((o : OwnState) → (f o).here ≡ o.here) → ((o : OwnState) → Wanes o.is (f o).is)
+      → W l (t.heard_own l d s f)
+  heard_wanes l d s f keeps each = go (own_from d l.own) refl
+    where
+      go : (q : Option OwnState) → own_from d l.own ≡ q → WanesIn h l.own (on_own (if_there s f) q l.own)
+      go None e = stays (is_of h (own_from h l.own))
+      go (Some o) e =
+          either {X = OwnState} (λ z. WanesIn h l.own (with_own z l.own)) (o.there == s) (f o) o (λ k. put (f o) (keeps o) (each o)) (λ k. put o refl (stays o.is))
+        where
+          put : (z : OwnState) → z.here ≡ o.here → Wanes o.is z.is → WanesIn h l.own (with_own z l.own)
+          put z i w = wanes_with h z l.own o (subst (λ x. own_from x l.own ≡ Some o) (sym (i ∙ here_of d l.own o e)) e) w
 
   refused_wanes : (l : LlcState S) (d s : ℕ) (q : Option ℕ) → W l (t.refused_at l d s q)
   refused_wanes l d s None = answered_wanes l l (Dm s d t.no_service) (same_own l l refl)
@@ -340,8 +346,9 @@ module _ {S : Type 0} (m : Serving S) (h : ℕ) where
   part_wanes l Symm = same_own l l refl
   part_wanes l (Ui d s info) = same_own l l refl
   part_wanes l (Connect d s ps) = connects_wane l d s ps
-  part_wanes l (Cc d s ps) = awaited_wanes l d s (λ o. t.heard_cc l o ps o.is) (λ o e. cc_wanes l o ps o.is e refl) (own_from d l.own) refl
-  part_wanes l (Dm d s reason) = awaited_wanes l d s (λ o. t.heard_dm l o o.is) (λ o e. dm_wanes l o o.is e) (own_from d l.own) refl
+  part_wanes l (Cc d s ps) =
+      heard_wanes l d s (cc_on l.miu (miu_of ps) (rw_of ps)) (λ o. cc_here l.miu (miu_of ps) (rw_of ps) o o.is) (λ o. cc_wanes l.miu (miu_of ps) (rw_of ps) o o.is refl)
+  part_wanes l (Dm d s reason) = heard_wanes l d s dm_on (λ o. dm_here o o.is) (λ o. dm_wanes o o.is)
   part_wanes l (Disc d s) = leaves_wane l d s (holder l d s) (holder_mine l d s)
   part_wanes l (Frmr d s r) = ends_wane l (holder l d s) (holder_mine l d s)
   part_wanes l (Snl ps) = tells_wane l (record l { lookups = told_all ps l.lookups }) (answers_to l.bound (l.far_miu / 4) ps) refl
@@ -388,12 +395,35 @@ module _ {S : Type 0} (m : Serving S) (h : ℕ) where
   conn_wane l c (Some p) =
       let n : LlcState S = record l { served = with_conn c l.served; last = Some c.there } in one_wane l n p (same_own l n refl)
 
-  own_wane : (l : LlcState S) (o : OwnState) (c d : ConnState) (p : Option Part) → own_from o.here l.own ≡ Some o → o.is ≡ Open c → Wanes (Open c) (Open d)
-      → AllWane l (g.gave_own l o d p)
-  own_wane l o c d None e i w = none_wane l
-  own_wane l o c d (Some p) e i w =
-      one_wane l (record l { own = with_own (record o { is = Open d }) l.own; last = Some o.here }) p
-      (put_wanes l o (Open d) o.units e (subst (λ z. Wanes z (Open d)) (sym i) w))
+  abbrev OwnWanes : OwnState → Option OwnGave → Type 0
+  OwnWanes o None = Unit {0}
+  OwnWanes o (Some x) = (x.own.here ≡ o.here) × Wanes o.is x.own.is
+
+  gave_wanes : (o : OwnState) (c d : ConnState) (p : Option Part) → o.is ≡ Open c → Wanes (Open c) (Open d) → OwnWanes o (gave_so o d p)
+  gave_wanes o c d None i w = tt
+  gave_wanes o c d (Some p) i w = (refl, subst (λ z. Wanes z (Open d)) (sym i) w)
+
+  unit_wanes : (o : OwnState) (i : OwnIs) → o.is ≡ i → OwnWanes o (unit_so o i)
+  unit_wanes o (Open c) j =
+      either {X = Option OwnGave} (OwnWanes o) (is_some (due c)) (gave_so o (gives c).conn (gives c).pdu) None
+      (λ k. gave_wanes o c (gives c).conn (gives c).pdu j (gives_wane c)) (λ k. tt)
+  unit_wanes o Asking j = tt
+  unit_wanes o Refused j = tt
+  unit_wanes o Leaving j = tt
+  unit_wanes o Closed j = tt
+
+  owed_wanes : (o : OwnState) (i : OwnIs) → o.is ≡ i → OwnWanes o (ack_so o i)
+  owed_wanes o (Open c) j = gave_wanes o c (gives_ack c).conn (gives_ack c).pdu j (ack_wanes c)
+  owed_wanes o Asking j = tt
+  owed_wanes o Refused j = tt
+  owed_wanes o Leaving j = tt
+  owed_wanes o Closed j = tt
+
+  own_wane : (l : LlcState S) (s : ℕ) (o : OwnState) (q : Option OwnGave) → own_from s l.own ≡ Some o → OwnWanes o q → AllWane l (g.gave_own l q)
+  own_wane l s o None e w = none_wane l
+  own_wane l s o (Some x) e w =
+      one_wane l (record l { own = with_own x.own l.own; last = Some x.own.here }) x.part
+      (wanes_with h x.own l.own o (subst (λ z. own_from z l.own ≡ Some o) (sym (w.0 ∙ here_of s l.own o e)) e) w.1)
 
   sends_wane : (l : LlcState S) (c : ConnState) (q : Option (List ℕ)) → AllWane l (g.sends m l c q)
   sends_wane l c None = none_wane l
@@ -407,16 +437,9 @@ module _ {S : Type 0} (m : Serving S) (h : ℕ) where
       by_served None = none_wane l
       by_served (Some c) = either (AllWane l) (g.may_send c) _ _ (λ e. sends_wane l c (m.due l.service c.there c.far_miu)) (λ e. none_wane l)
 
-      by_is : (o : OwnState) (i : OwnIs) → own_from o.here l.own ≡ Some o → o.is ≡ i → AllWane l (g.informs_open l o i)
-      by_is o (Open c) e j = either (AllWane l) (is_some (due c)) _ _ (λ k. own_wane l o c (gives c).conn (gives c).pdu e j (gives_wane c)) (λ k. none_wane l)
-      by_is o Asking e j = none_wane l
-      by_is o Refused e j = none_wane l
-      by_is o Leaving e j = none_wane l
-      by_is o Closed e j = none_wane l
-
       by_own : (q : Option OwnState) → own_from s l.own ≡ q → AllWane l (g.informs_own l q)
       by_own None e = none_wane l
-      by_own (Some o) e = by_is o o.is (subst (λ z. own_from z l.own ≡ Some o) (sym (here_of s l.own o e)) e) refl
+      by_own (Some o) e = own_wane l s o (unit_on o) e (unit_wanes o o.is refl)
 
   acks_wane : (l : LlcState S) (s : ℕ) → AllWane l (g.acknowledges l s)
   acks_wane l s = else_wane l _ _ (by_served (conn_from s l.served)) (by_own (own_from s l.own) refl)
@@ -425,16 +448,9 @@ module _ {S : Type 0} (m : Serving S) (h : ℕ) where
       by_served None = none_wane l
       by_served (Some c) = conn_wane l (gives_ack c).conn (gives_ack c).pdu
 
-      by_is : (o : OwnState) (i : OwnIs) → own_from o.here l.own ≡ Some o → o.is ≡ i → AllWane l (g.acknowledges_open l o i)
-      by_is o (Open c) e j = own_wane l o c (gives_ack c).conn (gives_ack c).pdu e j (ack_wanes c)
-      by_is o Asking e j = none_wane l
-      by_is o Refused e j = none_wane l
-      by_is o Leaving e j = none_wane l
-      by_is o Closed e j = none_wane l
-
       by_own : (q : Option OwnState) → own_from s l.own ≡ q → AllWane l (g.acknowledges_own l q)
       by_own None e = none_wane l
-      by_own (Some o) e = by_is o o.is (subst (λ z. own_from z l.own ≡ Some o) (sym (here_of s l.own o e)) e) refl
+      by_own (Some o) e = own_wane l s o (ack_on o) e (owed_wanes o o.is refl)
 
   gave_wane : (l : LlcState S) → AllWane l (gave m l)
   gave_wane l = go l.queue
@@ -467,7 +483,7 @@ module _ {S : Type 0} (m : Serving S) (h : ℕ) where
   drained_wanes l = go (own_from h l.own) refl
     where
       go : (q : Option OwnState) → own_from h l.own ≡ q → W l (unit_taken_by l q)
-      go None e = same_own l l refl
+      go None e = same_own l (unit_taken_by l None) refl
       go (Some o) e = put_wanes l o o.is (drop 1 o.units) (subst (λ z. own_from z l.own ≡ Some o) (sym (here_of h l.own o e)) e) (stays o.is)
 
 pending_is : (i : OwnIs) → pending_on i ≡ waits_on i + under_way i

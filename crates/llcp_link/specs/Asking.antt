@@ -11,7 +11,12 @@ use Rattle.llcp_link.specs.declared.fault.LlcFault.TheVariants.{Busy}
 use Rattle.llcp_link.specs.declared.standing.Standing.{Standing}
 use Rattle.llcp_link.specs.declared.standing.Standing.TheVariants as stands
 use Rattle.llcp_link.specs.State.{Queued, OwnIs, Asking, Open, Refused, Leaving, Closed, OwnState, Lookup, LlcState, own_from, with_own}
+use Rattle.llcp_link.specs.Own.{on_own}
 use Rattle.llcp_link.specs.Names.{own_params}
+
+-- the SAP from which an end connects where no other is named
+abbrev pub first_sap : ℕ
+first_sap = 32
 
 -- one of this end's own requests
 abbrev pub request : Part → Queued
@@ -95,6 +100,9 @@ abbrev pub unit_of : Option OwnState → Option (List ℕ)
 unit_of None = None
 unit_of (Some o) = first o.units
 
+abbrev pub unit_taken_on : OwnState → OwnState
+unit_taken_on o = record o { units = drop 1 o.units }
+
 abbrev pub is_open : OwnIs → Bool
 is_open (Open c) = true
 is_open _ = false
@@ -136,8 +144,7 @@ module _ {S : Type 0} where
 
   -- a unit is submitted on the connection from a SAP
   abbrev pub submitted_by : LlcState S → List ℕ → Option OwnState → LlcState S
-  submitted_by l u None = l
-  submitted_by l u (Some o) = record l { own = with_own (queued_on o u o.is) l.own }
+  submitted_by l u o = record l { own = on_own (λ o. queued_on o u o.is) o l.own }
 
   pub record Submits (old : LlcState S) (here : ℕ) (u : List ℕ) (new : LlcState S) : Type 0 where
     pub free : refusal_of (own_from here old.own) u ≡ None
@@ -145,8 +152,7 @@ module _ {S : Type 0} where
 
   -- the oldest unit is taken away
   abbrev pub unit_taken_by : LlcState S → Option OwnState → LlcState S
-  unit_taken_by l None = l
-  unit_taken_by l (Some o) = record l { own = with_own (record o { units = drop 1 o.units }) l.own }
+  unit_taken_by l o = record l { own = on_own unit_taken_on o l.own }
 
   -- an open connection is given up: its DISC waits, and a DM is awaited
   abbrev pub disconnected_by : LlcState S → Option OwnState → LlcState S

@@ -1,12 +1,14 @@
 -- What an end gives next (NFC Forum LLCP 1.3; the order is this project's own).
-use Rattle.std.specs.Prelude.{◌≡◌, ◌≤◌, ◌⊎◌, ℕ, zero, suc, ◌+◌, ◌%◌, ◌&&◌, nat_le, not, is_some, Bool, List, [], ◌∷◌, length, Option, Some, None, if◌then◌else◌}
+use Rattle.std.specs.Prelude.{◌≡◌, ◌≤◌, ◌⊎◌, ℕ, zero, suc, ◌+◌, ◌%◌, ◌&&◌, nat_le, not, Bool, List, [], ◌∷◌, length, Option, Some, None, if◌then◌else◌}
 use Rattle.llcp_pdu.specs.declared.part.Part.{Part}
 use Rattle.llcp_pdu.specs.declared.part.Part.TheVariants.{Symm}
 use Rattle.llcp_pdu.specs.declared.pdu.Pdu.TheVariants.{Agf, One}
 use Rattle.llcp_pdu.specs.Writing.{inner_bytes, pdu_bytes}
-use Rattle.llcp_conn.specs.Conn.{ConnState, gives, queued, gives_ack, has_room, due}
+use Rattle.llcp_conn.specs.Conn.{ConnState, gives, queued, gives_ack, has_room}
 use Rattle.llcp_link.specs.Serving.{Serving}
-use Rattle.llcp_link.specs.State.{Queued, OwnIs, Open, OwnState, LlcState, sap_count, conn_from, with_conn, own_from, with_own}
+use Rattle.llcp_link.specs.State.{Queued, OwnState, LlcState, conn_from, with_conn, own_from, with_own}
+use Rattle.llcp_pdu.specs.Wire.{sap_count}
+use Rattle.llcp_link.specs.Own.{OwnGave, ack_on, unit_on}
 
 -- a PDU that was given, and the end behind it
 pub record Gave (S : Type 0) : Type 0 where
@@ -43,31 +45,25 @@ module _ {S : Type 0} where
   gave_conn l c None = None
   gave_conn l c (Some p) = Some (record { llc = record l { served = with_conn c l.served; last = Some c.there }; part = p })
 
-  abbrev pub gave_own : LlcState S → OwnState → ConnState → Option Part → Option (Gave S)
-  gave_own l o c None = None
-  gave_own l o c (Some p) = Some (record { llc = record l { own = with_own (record o { is = Open c }) l.own; last = Some o.here }; part = p })
+  -- one that this end asked for gave a PDU, and its SAP is marked
+  abbrev pub gave_own : LlcState S → Option OwnGave → Option (Gave S)
+  gave_own l None = None
+  gave_own l (Some g) =
+      Some (record { llc = record l { own = with_own g.own l.own; last = Some g.own.here }; part = g.part })
 
-  -- a unit that was submitted on a connection that this end asked for
-  abbrev pub informs_open : LlcState S → OwnState → OwnIs → Option (Gave S)
-  informs_open l o (Open c) = if is_some (due c) then gave_own l o (gives c).conn (gives c).pdu else None
-  informs_open l o _ = None
-
+  -- a unit that was submitted on it
   abbrev pub informs_own : LlcState S → Option OwnState → Option (Gave S)
   informs_own l None = None
-  informs_own l (Some o) = informs_open l o o.is
+  informs_own l (Some o) = gave_own l (unit_on o)
 
   -- an acknowledgement that is owed
   abbrev pub acknowledges_served : LlcState S → Option ConnState → Option (Gave S)
   acknowledges_served l None = None
   acknowledges_served l (Some c) = gave_conn l (gives_ack c).conn (gives_ack c).pdu
 
-  abbrev pub acknowledges_open : LlcState S → OwnState → OwnIs → Option (Gave S)
-  acknowledges_open l o (Open c) = gave_own l o (gives_ack c).conn (gives_ack c).pdu
-  acknowledges_open l o _ = None
-
   abbrev pub acknowledges_own : LlcState S → Option OwnState → Option (Gave S)
   acknowledges_own l None = None
-  acknowledges_own l (Some o) = acknowledges_open l o o.is
+  acknowledges_own l (Some o) = gave_own l (ack_on o)
 
   abbrev pub acknowledges : LlcState S → ℕ → Option (Gave S)
   acknowledges l s = or_else (acknowledges_served l (conn_from s l.served)) (acknowledges_own l (own_from s l.own))

@@ -1,5 +1,6 @@
 pub mod Serving
 pub mod State
+pub mod Own
 pub mod Names
 pub mod Taking
 pub mod Giving
@@ -19,9 +20,6 @@ pub mod Fronts
 pub mod Answering
 pub mod Counting
 pub mod Asking
-pub mod Owning
-pub mod OwnGiving
-pub mod Owns
 pub mod Closing
 pub mod Waning
 pub mod Opened

@@ -1,10 +1,11 @@
 -- What is given of an end, where its length is within what is left.
-use Rattle.std.specs.Prelude.{◌≡◌, ◌<◌, ◌≤◌, ◌⊎◌, ℕ, ◌+◌, List, [], ◌∷◌, ◌++◌, length, true, false, Option, Some, None, if◌then◌else◌}
+use Rattle.std.specs.Prelude.{◌≡◌, ◌<◌, ◌≤◌, ◌⊎◌, ℕ, ◌+◌, List, [], ◌∷◌, ◌++◌, length, true, false, Option, Some, None, option_map, if◌then◌else◌}
 use Rattle.llcp_pdu.specs.declared.part.Part.{Part}
 use Rattle.llcp_pdu.specs.declared.part.Part.TheVariants.{Info, Rr}
 use Rattle.llcp_pdu.specs.Writing.{inner_bytes}
 use Rattle.llcp_conn.specs.Conn.{ConnState, vs}
-use Rattle.llcp_link.specs.State.{LlcState, Queued, conn_from, with_conn}
+use Rattle.llcp_link.specs.State.{LlcState, OwnState, Queued, conn_from, with_conn}
+use Rattle.llcp_link.specs.Own.{OwnGave}
 use Rattle.llcp_link.specs.Kept.{IsSent, IsServed}
 use Rattle.llcp_link.specs.Giving.{Gave, may_send}
 use Rattle.llcp_link.specs.Halting.{Leaves}
@@ -23,14 +24,20 @@ IsLonger room None = ⊥
 IsLonger room (Some p) = (room < length (inner_bytes p)) × (length (inner_bytes p) ≤ most_inner)
 
 abbrev pub part_of : {S : Type 0} → Option (Gave S) → Option Part
-part_of None = None
-part_of (Some g) = Some g.part
+part_of due = option_map (λ g. g.part) due
 
--- This PDU is due, or none, and so it was given; or it is longer than what is left, and nothing was done.
+-- This PDU is due, or none, and so it was given; or it is longer than what is left, and nothing was done. It is told with what is left
+-- behind it: of an end, or of one connection.
+abbrev pub TriedBy : {A : Type 0} → {G : Type 0} → (A → Part → G) → (G → Part) → ℕ → Option G → A → A → Next → Type 0
+TriedBy gave part room due old new Nothing = (due ≡ None) × (new ≡ old)
+TriedBy gave part room due old new (Given p) = (due ≡ Some (gave new p)) × IsSent p × (length (inner_bytes p) ≤ room)
+TriedBy gave part room due old new TooLong = (new ≡ old) × IsLonger room (option_map part due)
+
 abbrev pub Tried : {S : Type 0} → ℕ → Option (Gave S) → LlcState S → LlcState S → Next → Type 0
-Tried room due old new Nothing = (due ≡ None) × (new ≡ old)
-Tried room due old new (Given p) = (due ≡ Some (record { llc = new; part = p })) × IsSent p × (length (inner_bytes p) ≤ room)
-Tried room due old new TooLong = (new ≡ old) × IsLonger room (part_of due)
+Tried room due old new next = TriedBy (λ l p. record { llc = l; part = p }) (λ g. g.part) room due old new next
+
+abbrev pub OwnTried : ℕ → Option OwnGave → OwnState → OwnState → Next → Type 0
+OwnTried room due old new next = TriedBy (λ o p. record { own = o; part = p }) (λ g. g.part) room due old new next
 
 -- a connection that was asked of this end, once it gave a unit as an I PDU
 abbrev pub sent_on : ConnState → List ℕ → ConnState

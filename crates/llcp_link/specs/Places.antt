@@ -1,5 +1,5 @@
 -- Where a connection stands among those of an end, for private calls.
-use Rattle.std.specs.Prelude.{◌≡◌, ◌<◌, ◌==◌, ℕ, suc, List, [], ◌∷◌, ◌++◌, length, Option, Some, None, option_map, if◌then◌else◌}
+use Rattle.std.specs.Prelude.{◌≡◌, ◌<◌, ◌==◌, ℕ, suc, List, [], ◌∷◌, ◌++◌, length, remove, slice_index_or, slice_set, Option, Some, None, option_map, if◌then◌else◌}
 use Rattle.llcp_pdu.specs.declared.pdu_view.PduView.{PduView}
 use Rattle.llcp_pdu.specs.declared.pdu_view.PduView.TheVariants as view
 use Rattle.llcp_pdu.specs.Spelling.{IsReport}
@@ -7,7 +7,8 @@ use Rattle.llcp_conn.specs.declared.conn.ConnNumbers.{ConnNumbers}
 use Rattle.llcp_conn.specs.declared.conn.Taken.{Taken}
 use Rattle.llcp_conn.specs.declared.conn.Taken.TheVariants as taking
 use Rattle.llcp_conn.specs.Conn.{ConnState, modulus, numbers, takes_view}
-use Rattle.llcp_link.specs.State.{conn_from, with_conn, without_conn, Nobody, served_holder}
+use Rattle.llcp_link.specs.State.{conn_from, with_conn, without_conn, Nobody, OwnState, own_from, served_holder, with_own}
+use Rattle.llcp_link.specs.Asking.{put_own, without_own}
 use Rattle.llcp_link.specs.Kept.{IsServed}
 
 -- the place of the first of a number
@@ -77,3 +78,29 @@ IsNumbered d s (view.Info e t ns nr info) = (e ≡ d) × (t ≡ s) × (ns < modu
 IsNumbered d s (view.Rr e t nr) = (e ≡ d) × (t ≡ s) × (nr < modulus)
 IsNumbered d s (view.Rnr e t nr) = (e ≡ d) × (t ≡ s) × (nr < modulus)
 IsNumbered d s _ = ⊥
+
+-- the place of the connection that this end asked for from a SAP
+abbrev pub own_place : ℕ → List OwnState → Option ℕ
+own_place h os = place_by (λ (o : OwnState). o.here) h os
+
+-- The connection from a SAP stands at this place: there it is read, changed, replaced and taken away.
+pub record StandsAt (h : ℕ) (os : List OwnState) (place : ℕ) : Type 0 where
+  pub own : OwnState
+  pub low : place < length os
+  pub found : own_from h os ≡ Some own
+  pub here : own.here ≡ h
+  pub read : (d : OwnState) → slice_index_or os place d ≡ own
+  pub changed : (o : OwnState) → o.here ≡ h → slice_set os place o ≡ with_own o os
+  pub unchanged : slice_set os place own ≡ os
+  pub replaced : (o : OwnState) → o.here ≡ h → slice_set os place o ≡ put_own o os
+  pub gone : remove os place ≡ without_own h os
+
+-- there is none
+pub record IsNowhere (h : ℕ) (os : List OwnState) : Type 0 where
+  pub found : own_from h os ≡ None
+  pub put : (o : OwnState) → o.here ≡ h → put_own o os ≡ os ++ o ∷ []
+  pub gone : without_own h os ≡ os
+
+abbrev pub PlaceOf : ℕ → List OwnState → Option ℕ → Type 0
+PlaceOf h os None = IsNowhere h os
+PlaceOf h os (Some place) = StandsAt h os place

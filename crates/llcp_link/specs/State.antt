@@ -18,10 +18,6 @@ most_answers = 16
 abbrev pub most_connections : ℕ
 most_connections = 8
 
--- how many SAPs there are
-abbrev pub sap_count : ℕ
-sap_count = 64
-
 -- a name and the SAP that it is bound to
 pub record Bound : Type 0 where
   pub name : List ℕ

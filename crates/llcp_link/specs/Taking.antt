@@ -15,7 +15,8 @@ use Rattle.llcp_conn.specs.declared.conn.Taken.{Taken}
 use Rattle.llcp_conn.specs.declared.conn.Taken.TheVariants as taking
 use Rattle.llcp_conn.specs.Conn.{ConnState, fresh, takes, Took, report}
 use Rattle.llcp_link.specs.Serving.{Serving}
-use Rattle.llcp_link.specs.State.{Queued, answer, OwnIs, Asking, Open, Refused, Leaving, Closed, OwnState, LlcState, most_answers, most_connections, conn_from, with_conn, without_conn, own_from, with_own, Holder, Nobody, Served, Asked, holder}
+use Rattle.llcp_link.specs.State.{Queued, answer, OwnState, LlcState, most_answers, most_connections, conn_from, with_conn, without_conn, own_from, with_own, Holder, Nobody, Served, Asked, holder}
+use Rattle.llcp_link.specs.Own.{cc_on, closed_on, dm_on, if_there, on_own, took_on}
 use Rattle.llcp_link.specs.Names.{reached, name_of, miu_of, rw_of, own_params, answers_to, told_all}
 
 -- the flag of a FRMR for a malformed PDU
@@ -105,34 +106,24 @@ module _ {S : Type 0} where
   abbrev pub ends : LlcState S → Holder → LlcState S
   ends l Nobody = l
   ends l (Served c) = record l { served = without_conn c.there l.served }
-  ends l (Asked o c) = record l { own = with_own (record o { is = Closed }) l.own }
+  ends l (Asked o c) = record l { own = with_own (closed_on o) l.own }
 
   abbrev pub leaves : LlcState S → ℕ → ℕ → Holder → LlcState S
   leaves l d s Nobody = answered l (Dm s d not_connected)
   leaves l d s h = answered (ends l h) (Dm s d disconnected)
 
-  -- what a PDU of a connection that this end asked for did to it
+  -- a fault of a PDU is told by a FRMR
+  abbrev pub told_so : LlcState S → ConnState → Taken → LlcState S
+  told_so l c (taking.Closed r) = answered l (Frmr c.there c.here r)
+  told_so l c _ = l
+
+  -- a PDU came of a connection that this end asked for
   abbrev pub asked_so : LlcState S → OwnState → ConnState → Taken → LlcState S
-  asked_so l o c taking.Nothing = record l { own = with_own (record o { is = Open c }) l.own }
-  asked_so l o c (taking.Unit u) = record l { own = with_own (record o { is = Open c; units = o.units ++ u ∷ [] }) l.own }
-  asked_so l o c (taking.Closed r) = answered (ends l (Asked o c)) (Frmr c.there c.here r)
+  asked_so l o c t = told_so (record l { own = with_own (took_on o c t) l.own }) c t
 
-  -- an answer that such a connection awaits
-  abbrev pub heard_cc : LlcState S → OwnState → List Param → OwnIs → LlcState S
-  heard_cc l o ps Asking =
-      if rw_of ps == 0 then record l { own = with_own (record o { is = Refused }) l.own }
-      else record l { own = with_own (record o { is = Open (fresh o.here o.there l.miu (miu_of ps) (rw_of ps)) }) l.own }
-  heard_cc l o ps _ = l
-
-  abbrev pub heard_dm : LlcState S → OwnState → OwnIs → LlcState S
-  heard_dm l o Asking = record l { own = with_own (record o { is = Refused }) l.own }
-  heard_dm l o Leaving = record l { own = with_own (record o { is = Closed }) l.own }
-  heard_dm l o _ = l
-
-  -- from the SAP that was asked
-  abbrev pub awaited : LlcState S → ℕ → (OwnState → LlcState S) → Option OwnState → LlcState S
-  awaited l s f None = l
-  awaited l s f (Some o) = if o.there == s then f o else l
+  -- an answer came to the one between two SAPs
+  abbrev pub heard_own : LlcState S → ℕ → ℕ → (OwnState → OwnState) → LlcState S
+  heard_own l d s f = record l { own = on_own (if_there s f) (own_from d l.own) l.own }
 
   -- service discovery: what was asked is answered in one SNL, and what is told is kept
   abbrev pub tells : LlcState S → List Param → LlcState S
@@ -185,8 +176,8 @@ module _ {S : Type 0} (m : Serving S) where
   steps_part l Symm = l
   steps_part l (Ui d s info) = l
   steps_part l (Connect d s ps) = connects l d s ps
-  steps_part l (Cc d s ps) = awaited l s (λ o. heard_cc l o ps o.is) (own_from d l.own)
-  steps_part l (Dm d s reason) = awaited l s (λ o. heard_dm l o o.is) (own_from d l.own)
+  steps_part l (Cc d s ps) = heard_own l d s (cc_on l.miu (miu_of ps) (rw_of ps))
+  steps_part l (Dm d s reason) = heard_own l d s dm_on
   steps_part l (Disc d s) = leaves l d s (holder l d s)
   steps_part l (Frmr d s r) = ends l (holder l d s)
   steps_part l (Snl ps) = discovers l ps

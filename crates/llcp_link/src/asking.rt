@@ -3,7 +3,7 @@
 ghost use Rattle.std.specs.Prelude.{◌≡◌, ◌≤◌, ◌⊎◌, None, Some, true, length, IfErr, IfOk, OnOk, OnErr};
 ghost use Rattle.llcp_conn.specs.Conn.{IsSap};
 ghost use Rattle.llcp_conn.specs.declared.fault.ConnFault.{ConnFault};
-ghost use Rattle.llcp_link.specs.Asking.{Connects, Submits, acked_of, connecting_refusal, disconnected_by, forgotten, found_in, has_waiting_of, is_open_by, looked_up, refusal_of, standing_of, unit_of, unit_taken_by};
+ghost use Rattle.llcp_link.specs.Asking.{Connects, Submits, acked_of, connecting_refusal, disconnected_by, first_sap, forgotten, found_in, has_waiting_of, is_open_by, looked_up, refusal_of, standing_of, unit_of, unit_taken_by};
 ghost use Rattle.llcp_link.specs.State.{own_from};
 ghost use Rattle.llcp_link.specs.declared.fault.LlcFault.{LlcFault};
 
@@ -19,16 +19,16 @@ use nfc_base::Items;
 use std::alloc::AllocError;
 
 /// The SAP of this end from which it connects where no other is named.
-const FIRST_SAP: u8 = 32;
+pub const FIRST_SAP: u8 = 32;
 
 impl<S> Llc<S> {
     /// Asks for a connection from SAP 32.
     pub fn connect(&mut self, dsap: u8) -> Result<(), LlcFault>
         requires { IsSap dsap }
-        ensures ok { OnOk result (Connects self.old 32 dsap self.new) }
+        ensures ok { OnOk result (Connects self.old first_sap dsap self.new) }
         ensures err { IfErr result (λ e.
-            ((e ≡ LlcFault.Memory) × (connecting_refusal self.old 32 ≡ None))
-            ⊎ (connecting_refusal self.old 32 ≡ Some e)) }
+            ((e ≡ LlcFault.Memory) × (connecting_refusal self.old first_sap ≡ None))
+            ⊎ (connecting_refusal self.old first_sap ≡ Some e)) }
         ensures same { OnErr result (self.new ≡ self.old) }
     {
         self.connect_from(FIRST_SAP, dsap)
@@ -119,7 +119,6 @@ impl<S> Llc<S> {
     }
 
     /// The oldest unit that was handed up on the connection from a SAP and not yet given here. It takes no memory.
-    #[tactic(auto, using(crate::proofs::Asked::unit_taken_so))]
     pub fn unit(&mut self, ssap: u8) -> Option<Items<u8>>
         ensures unit { result ≡ unit_of (own_from ssap self.old.own) }
         ensures step { self.new ≡ unit_taken_by self.old (own_from ssap self.old.own) }
@@ -135,9 +134,10 @@ impl<S> Llc<S> {
         ensures err { IfErr result (λ e. e ≡ LlcFault.Memory) }
         ensures same { OnErr result (self.new ≡ self.old) }
     {
-        let Some((place, disc)) = owns::leaving(&self.own, ssap) else {
+        let Some(place) = owns::place_of(&self.own, ssap) else {
             unreachable!()
         };
+        let disc = self.own[place].disc();
         queue::push(&mut self.queue, true, disc)?;
         self.own[place].leave();
         Ok(())

@@ -6,8 +6,9 @@ ghost use Rattle.llcp_pdu.specs.Ranges.{AreParams};
 ghost use Rattle.llcp_pdu.specs.Views.{HoldsParams, params_in};
 ghost use Rattle.llcp_conn.specs.Conn.{IsSap, IsWindow};
 ghost use Rattle.llcp_link.specs.Halting.{IsSame};
-ghost use Rattle.llcp_link.specs.State.{own_from};
-ghost use Rattle.llcp_link.specs.Taking.{awaited, connects, heard_cc, opens, is_free as has_room_for};
+ghost use Rattle.llcp_link.specs.Names.{miu_of, rw_of};
+ghost use Rattle.llcp_link.specs.Own.{cc_on};
+ghost use Rattle.llcp_link.specs.Taking.{connects, heard_own, opens, is_free as has_room_for};
 
 use crate::llc::Llc;
 use crate::names::reached;
@@ -62,22 +63,22 @@ impl<S: Service> Llc<S> {
     }
 
     /// A CC.
-    #[tactic(auto, using(crate::proofs::Ranges::miux_below, crate::proofs::Ranges::rw_below, crate::proofs::Awaited::cc_awaited, crate::proofs::Awaited::cc_other))]
+    #[tactic(auto, using(crate::proofs::Ranges::miux_below, crate::proofs::Ranges::rw_below, crate::proofs::OwnHeard::cc_heard, crate::proofs::OwnHeard::none_hears))]
     pub(crate) fn take_cc(&mut self, dsap: u8, ssap: u8, params: &[u8]) -> Result<(), AllocError>
         requires holds { HoldsParams params.now }
         requires range { AreParams (params_in params.now) }
-        ensures ok { OnOk result (self.new ≡ awaited self.old ssap
-            (λ o. heard_cc self.old o (params_in params.now) o.is) (own_from dsap self.old.own)) }
+        ensures ok { OnOk result (self.new ≡ heard_own self.old dsap ssap
+            (cc_on self.old.miu (miu_of (params_in params.now)) (rw_of (params_in params.now)))) }
         ensures same { IsSame self.old self.new }
         ensures service { self.new.service ≡ self.old.service }
     {
-        let Some(place) = owns::awaiting(&self.own, dsap, ssap) else {
+        let Some(place) = owns::place_of(&self.own, dsap) else {
             return Ok(());
         };
         let said = ConnectParams::new(params);
         let far_miu = miu_said(said.miux);
         let rw = window_said(said.rw);
-        self.own[place].hear_cc(self.alloc, self.miu, self.window, far_miu, rw)
+        self.own[place].hear_cc(self.alloc, ssap, self.miu, self.window, far_miu, rw)
     }
 
     /// The client has no connection here, and there are fewer than may be.

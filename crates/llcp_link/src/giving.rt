@@ -7,13 +7,12 @@ ghost use Rattle.llcp_link.specs.Halting.{IsSame};
 ghost use Rattle.llcp_link.specs.Offering.{LeavesNext, Tried, queued_first};
 ghost use Rattle.llcp_link.specs.State.{conn_from, own_from};
 
-use crate::lengths::part_len;
 use crate::llc::Llc;
-use crate::own_giving;
+use crate::owns;
 use crate::queue::Queued;
 use crate::sending::{acknowledge, ower, send, sender};
 use crate::service::Service;
-use llcp_pdu::Part;
+use llcp_pdu::{Part, part_len};
 use std::alloc::AllocError;
 
 /// How many SAPs there are.
@@ -98,7 +97,7 @@ impl<S: Service> Llc<S> {
     }
 
     /// The next unit that was submitted on the connection that this end asked for from a SAP.
-    #[tactic(auto, using(crate::proofs::OwnGiven::unit_given))]
+    #[tactic(auto, using(crate::proofs::OwnGiven::unit_given, crate::proofs::OwnGiven::none_informs))]
     fn give_own_unit(&mut self, here: u8, room: usize) -> Result<Next, AllocError>
         requires { IsSap here }
         ensures next { IfOk result
@@ -106,7 +105,10 @@ impl<S: Service> Llc<S> {
         ensures same { IsSame self.old self.new }
         ensures service { self.new.service ≡ self.old.service }
     {
-        match own_giving::give_unit(&mut self.own, here, room) {
+        let Some(place) = owns::place_of(&self.own, here) else {
+            return Ok(Next::Nothing);
+        };
+        match self.own[place].give_unit(room) {
             Err(_) => Err(AllocError),
             Ok(Next::Nothing) => Ok(Next::Nothing),
             Ok(Next::TooLong) => Ok(Next::TooLong),
@@ -157,7 +159,7 @@ impl<S: Service> Llc<S> {
     }
 
     /// An acknowledgement that is owed on the connection that this end asked for from a SAP.
-    #[tactic(auto, using(crate::proofs::OwnGiven::ack_given))]
+    #[tactic(auto, using(crate::proofs::OwnGiven::ack_given, crate::proofs::OwnGiven::none_acknowledges))]
     fn give_own_ack(&mut self, here: u8, room: usize) -> Next
         requires { IsSap here }
         ensures next { Tried room (acknowledges_own self.old (own_from here self.old.own))
@@ -165,7 +167,10 @@ impl<S: Service> Llc<S> {
         ensures same { IsSame self.old self.new }
         ensures service { self.new.service ≡ self.old.service }
     {
-        match own_giving::give_ack(&mut self.own, here, room) {
+        let Some(place) = owns::place_of(&self.own, here) else {
+            return Next::Nothing;
+        };
+        match self.own[place].give_ack(room) {
             Next::Nothing => Next::Nothing,
             Next::TooLong => Next::TooLong,
             Next::Given(part) => {

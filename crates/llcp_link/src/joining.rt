@@ -5,10 +5,9 @@ ghost use Rattle.llcp_link.specs.Halting.{IsSame};
 ghost use Rattle.llcp_link.specs.Joining.{HaltsJoining, Joins};
 
 use crate::giving::Next;
-use crate::lengths::part_len;
 use crate::llc::Llc;
 use crate::service::Service;
-use llcp_pdu::Part;
+use llcp_pdu::{Part, part_len};
 use std::alloc::AllocError;
 
 /// The bytes in an AGF before a PDU, its length.

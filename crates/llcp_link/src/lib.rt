@@ -6,8 +6,8 @@
 //! `counting` one whose payloads have given numbers of PDUs. `asking` is what an end asks of the other: connections, of
 //! which `standing` tells how they stand, and lookups. `served` keeps the connections that the other end asked for,
 //! `sending` is what they give; `own`, `owns` and `own_giving` are the same of those that this end asked for, `lookups`
-//! what it looked up. `queue` are the PDUs that wait, `numbered` says where something stands in a list; `parts`,
-//! `params` and `lengths` are about single PDUs. `fault` says why a call is refused.
+//! what it looked up. `queue` are the PDUs that wait, `numbered` says where something stands in a list; `parts`
+//! and `params` are about single PDUs. `fault` says why a call is refused.
 #![tactic(auto)]
 
 mod answering;
@@ -19,7 +19,6 @@ mod fault;
 mod giving;
 mod joining;
 mod law;
-mod lengths;
 mod link;
 mod llc;
 mod lookups;
@@ -39,6 +38,7 @@ mod standing;
 mod taking;
 mod writing;
 
+pub use asking::FIRST_SAP;
 pub use counting::{Counted, Counts};
 pub use fault::LlcFault;
 pub use law::units;

@@ -5,9 +5,9 @@ ghost use Rattle.llcp_link.specs.Halting.{IsStuck};
 ghost use Rattle.llcp_link.specs.State.{restarted};
 ghost use Rattle.llcp_link.specs.Taking.{brought, taken_from};
 
-use crate::llc::{LEAST_MIU, Llc};
+use crate::llc::Llc;
 use crate::service::Service;
-use llcp_pdu::general_read;
+use llcp_pdu::{LEAST_MIU, general_read};
 use std::alloc::AllocError;
 
 impl<S: Service> Llc<S> {

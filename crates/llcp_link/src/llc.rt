@@ -15,13 +15,10 @@ use crate::names::{Bound, DISCOVERY_NAME, bind, is_bound, sap_named};
 use crate::own::Own;
 use crate::queue::Queued;
 use llcp_conn::Conn;
-use llcp_pdu::LinkParams;
+use llcp_pdu::{LEAST_MIU, LinkParams};
 use nfc_base::Items;
 use std::alloc::{AllocError, Global};
 use std::marker::Model;
-
-/// The MIU of an end that says none.
-pub(crate) const LEAST_MIU: u16 = 128;
 
 /// One end of a link (NFC Forum LLCP 1.3), with the service that other ends connect to.
 #[derive(Debug, Drop)]

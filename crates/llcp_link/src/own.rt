@@ -1,12 +1,13 @@
 //! A connection that an end asked for.
 
-ghost use Rattle.std.specs.Prelude.{◌≡◌, ◌<◌, ◌≤◌, ◌⊎◌, ℕ, [], drop, length, Some, IfOk, IfSome, IfErr, OnOk, OnErr};
+ghost use Rattle.std.specs.Prelude.{◌≡◌, ◌<◌, ◌≤◌, ◌⊎◌, ℕ, [], length, Some, IfOk, IfSome, IfErr, OnOk, OnErr};
 ghost use Rattle.llcp_pdu.specs.General.{IsMiu};
 ghost use Rattle.llcp_pdu.specs.Wire.{rw_end};
 ghost use Rattle.llcp_conn.specs.Conn.{IsSap, IsWindow, first};
 ghost use Rattle.llcp_conn.specs.declared.fault.ConnFault.{ConnFault};
-ghost use Rattle.llcp_link.specs.Asking.{asked_from, is_there, is_open, acked_on as acked_of, has_waiting_on, refusal_on, standing_on, SubmitsOn};
-ghost use Rattle.llcp_link.specs.Owning.{awaits_cc as is_awaiting, cc_on, dm_on, ClosesOwn, TakesOwn};
+ghost use Rattle.llcp_link.specs.Asking.{asked_from, is_there, is_open, acked_on as acked_of, has_waiting_on, refusal_on, standing_on, unit_taken_on, SubmitsOn};
+ghost use Rattle.llcp_link.specs.Closing.{ClosesOwn, TakesOwn};
+ghost use Rattle.llcp_link.specs.Own.{cc_on, dm_on, if_there};
 ghost use Rattle.llcp_link.specs.Places.{IsNumbered};
 ghost use Rattle.llcp_link.specs.Kept.{IsSent};
 ghost use Rattle.llcp_pdu.specs.declared.part.Part.{Part};
@@ -108,20 +109,11 @@ impl Own {
         }
     }
 
-    /// A CC from this SAP is awaited.
-    pub(crate) fn awaits_cc(&self, from: u8) -> bool
-        ensures { result ≡ is_awaiting from self.now }
-    {
-        match &self.is {
-            OwnIs::Asking => self.there == from,
-            _ => false,
-        }
-    }
-
-    /// A CC that is awaited, with the other end's MIU and window.
+    /// A CC from this SAP, with the other end's MIU and window.
     pub(crate) fn hear_cc(
         &mut self,
         alloc: Global,
+        from: u8,
         miu: u16,
         window: u8,
         far_miu: u16,
@@ -131,8 +123,14 @@ impl Own {
         requires window { IsWindow window }
         requires far_miu { IsMiu far_miu }
         requires rw { rw < rw_end }
-        ensures ok { OnOk result (self.new ≡ cc_on self.old miu far_miu rw) }
+        ensures ok { OnOk result (self.new ≡ if_there from (cc_on miu far_miu rw) self.old) }
     {
+        if self.there != from {
+            return Ok(());
+        }
+        let OwnIs::Asking = &self.is else {
+            return Ok(());
+        };
         if rw == 0 {
             self.is = OwnIs::Refused;
             return Ok(());
@@ -144,7 +142,7 @@ impl Own {
 
     /// A DM from this SAP.
     pub(crate) fn hear_dm(&mut self, from: u8)
-        ensures { self.new ≡ dm_on from self.old }
+        ensures { self.new ≡ if_there from dm_on self.old }
     {
         if self.there != from {
             return;
@@ -236,7 +234,7 @@ impl Own {
     /// The oldest unit that was handed up on it and not yet taken away.
     pub(crate) fn unit(&mut self) -> Option<Items<u8>>
         ensures unit { result ≡ first self.old.units }
-        ensures left { self.new ≡ record self.old { units = drop 1 self.old.units } }
+        ensures left { self.new ≡ unit_taken_on self.old }
     {
         self.units.pop_front()
     }

@@ -1,20 +1,16 @@
 //! The connections that an end asked for, each named by its own SAP.
 
-ghost use Rattle.std.specs.Prelude.{◌≡◌, ◌<◌, ◌⊎◌, true, IfOk, IfErr, OnOk, OnErr};
-ghost use Rattle.llcp_pdu.specs.General.{IsMiu};
-ghost use Rattle.llcp_pdu.specs.Wire.{rw_end};
-ghost use Rattle.llcp_conn.specs.Conn.{IsWindow};
+ghost use Rattle.std.specs.Prelude.{◌≡◌, ◌⊎◌, IfErr, OnOk, OnErr};
 ghost use Rattle.llcp_conn.specs.declared.fault.ConnFault.{ConnFault};
-ghost use Rattle.llcp_link.specs.Asking.{acked_of, has_waiting_of, is_busy_by, is_open_by, put_own, refusal_of, standing_of, unit_of, without_own};
-ghost use Rattle.llcp_link.specs.Owns.{AwaitsAt, ClosesAsked, LeavesAt, PlaceOf, TakesAsked, dm_in, queued_in, unit_taken_in};
-ghost use Rattle.llcp_link.specs.Places.{IsNumbered};
+ghost use Rattle.llcp_link.specs.Asking.{acked_of, has_waiting_of, is_busy_by, put_own, queued_on, refusal_of, standing_of, unit_of, unit_taken_on, without_own};
+ghost use Rattle.llcp_link.specs.Own.{on_own};
+ghost use Rattle.llcp_link.specs.Places.{PlaceOf};
 ghost use Rattle.llcp_link.specs.State.{own_from};
 
 use crate::numbered;
-use crate::own::{Heard, Own};
+use crate::own::Own;
 use crate::standing::Standing;
-use llcp_conn::{ConnFault, ConnNumbers};
-use llcp_pdu::{Part, PduView};
+use llcp_conn::ConnFault;
 use nfc_base::Items;
 use std::alloc::AllocError;
 
@@ -66,17 +62,6 @@ pub(crate) fn has_waiting(own: &[Own], here: u8) -> bool
     }
 }
 
-/// The place of the one from a SAP, where a CC from the other end's SAP is awaited.
-pub(crate) fn awaiting(own: &[Own], here: u8, there: u8) -> Option<usize>
-    ensures { AwaitsAt here there own.now result }
-{
-    let place = place_of(own, here)?;
-    if !own[place].awaits_cc(there) {
-        return None;
-    }
-    Some(place)
-}
-
 /// One more is asked for, in the place of an earlier one from its SAP.
 pub(crate) fn put(own: &mut Vec<Own>, one: Own) -> Result<(), AllocError>
     ensures ok { OnOk result (own.new.items ≡ put_own one own.old.items) }
@@ -98,47 +83,11 @@ pub(crate) fn forget(own: &mut Vec<Own>, here: u8)
     }
 }
 
-/// A DM to a SAP.
-pub(crate) fn hear_dm(own: &mut Vec<Own>, here: u8, there: u8)
-    ensures { own.new.items ≡ dm_in there own.old.items (own_from here own.old.items) }
-{
-    if let Some(place) = place_of(own, here) {
-        own[place].hear_dm(there);
-    }
-}
-
-/// The other end's SAP closes the one from a SAP, where it is open to that; its numbers then.
-pub(crate) fn close(own: &mut Vec<Own>, here: u8, there: u8) -> Option<ConnNumbers>
-    ensures { ClosesAsked here there own.old.items result own.new.items }
-{
-    let place = place_of(own, here)?;
-    own[place].close(there)
-}
-
-/// What an I, RR or RNR comes to on the one between its SAPs, where it is open.
-#[tactic(auto, using(crate::proofs::OwnTakes::takes_there))]
-pub(crate) fn take_view(
-    own: &mut Vec<Own>,
-    here: u8,
-    there: u8,
-    pdu: &PduView<'_>,
-) -> Result<Heard, AllocError>
-    requires pdu { IsNumbered here there pdu.now }
-    ensures taken { IfOk result (λ h. TakesAsked here there pdu.now own.old.items h own.new.items) }
-{
-    match place_of(own, here) {
-        None => Ok(Heard::Nothing),
-        Some(place) => match own[place].take_view(there, pdu) {
-            Err(_) => Err(AllocError),
-            Ok(heard) => Ok(heard),
-        },
-    }
-}
-
 /// Takes in a unit on the one from a SAP.
 pub(crate) fn submit(own: &mut Vec<Own>, here: u8, unit: &[u8]) -> Result<(), ConnFault>
     ensures free { OnOk result (refusal_of (own_from here own.old.items) unit.now ≡ None) }
-    ensures ok { OnOk result (own.new.items ≡ queued_in unit.now own.old.items (own_from here own.old.items)) }
+    ensures ok { OnOk result (own.new.items ≡
+        on_own (λ o. queued_on o unit.now o.is) (own_from here own.old.items) own.old.items) }
     ensures err { IfErr result (λ e.
         ((e ≡ ConnFault.Memory) × (refusal_of (own_from here own.old.items) unit.now ≡ None))
         ⊎ (refusal_of (own_from here own.old.items) unit.now ≡ Some e)) }
@@ -153,16 +102,8 @@ pub(crate) fn submit(own: &mut Vec<Own>, here: u8, unit: &[u8]) -> Result<(), Co
 /// The oldest unit that was handed up on it and not yet taken away.
 pub(crate) fn unit(own: &mut Vec<Own>, here: u8) -> Option<Items<u8>>
     ensures unit { result ≡ unit_of (own_from here own.old.items) }
-    ensures left { own.new.items ≡ unit_taken_in own.old.items (own_from here own.old.items) }
+    ensures left { own.new.items ≡ on_own unit_taken_on (own_from here own.old.items) own.old.items }
 {
     let place = place_of(own, here)?;
     own[place].unit()
-}
-
-/// The place of the one from a SAP, and its DISC.
-pub(crate) fn leaving(own: &[Own], here: u8) -> Option<(usize, Part)>
-    ensures { LeavesAt here own.now result }
-{
-    let place = place_of(own, here)?;
-    Some((place, own[place].disc()))
 }

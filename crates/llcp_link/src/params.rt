@@ -8,8 +8,7 @@ ghost use Rattle.llcp_pdu.specs.Writing.{params_bytes};
 ghost use Rattle.llcp_conn.specs.Conn.{IsWindow};
 ghost use Rattle.llcp_link.specs.Names.{own_params as said_of};
 
-use crate::llc::LEAST_MIU;
-use llcp_pdu::Param;
+use llcp_pdu::{LEAST_MIU, Param};
 use nfc_base::Items;
 use std::alloc::{AllocError, Global};
 

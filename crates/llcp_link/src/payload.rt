@@ -11,17 +11,8 @@ ghost use Rattle.llcp_link.specs.Stepping.{stepped};
 
 use crate::llc::Llc;
 use crate::service::Service;
-use llcp_pdu::{InnerWalk, PduView, raw_header, view};
+use llcp_pdu::{DISC, INFO, InnerWalk, PduView, RNR, RR, raw_header, view};
 use std::alloc::AllocError;
-
-/// The types of PDU that a connection minds where they are malformed.
-const DISC: u8 = 5;
-
-const INFO: u8 = 12;
-
-const RR: u8 = 13;
-
-const RNR: u8 = 14;
 
 impl<S: Service> Llc<S> {
     /// Handles the bytes of a payload.

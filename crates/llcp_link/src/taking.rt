@@ -6,8 +6,9 @@ ghost use Rattle.llcp_link.specs.Halting.{IsSame, Leaves};
 ghost use Rattle.llcp_link.specs.Kept.{IsSent};
 ghost use Rattle.llcp_link.specs.Places.{IsNumbered};
 ghost use Rattle.llcp_link.specs.Closing.{ClosesHeld};
+ghost use Rattle.llcp_link.specs.Own.{dm_on};
 ghost use Rattle.llcp_link.specs.State.{holder, own_from, own_holder};
-ghost use Rattle.llcp_link.specs.Taking.{answered, awaited, breaks, ends, heard_dm, is_full as has_all_answers, leaves, numbered};
+ghost use Rattle.llcp_link.specs.Taking.{answered, breaks, ends, heard_own, is_full as has_all_answers, leaves, numbered};
 
 use crate::llc::Llc;
 use crate::own::Heard;
@@ -46,7 +47,7 @@ impl<S: Service> Llc<S> {
     }
 
     /// Closes the connection between a SAP of this end and one of the other, and tells its numbers.
-    #[tactic(auto, using(crate::proofs::Closes::closes_served, crate::proofs::Closes::closes_asked))]
+    #[tactic(auto, using(crate::proofs::Closes::closes_served, crate::proofs::Closes::closes_asked, crate::proofs::Closes::closes_none))]
     fn close_between(&mut self, here: u8, there: u8) -> Option<ConnNumbers>
         ensures closed { ClosesHeld self.old here there result self.new }
         ensures same { IsSame self.old self.new }
@@ -54,7 +55,10 @@ impl<S: Service> Llc<S> {
     {
         match served::close(&mut self.served, here, there) {
             Some(numbers) => Some(numbers),
-            None => owns::close(&mut self.own, here, there),
+            None => {
+                let place = owns::place_of(&self.own, here)?;
+                self.own[place].close(there)
+            }
         }
     }
 
@@ -84,13 +88,15 @@ impl<S: Service> Llc<S> {
     }
 
     /// A DM.
-    #[tactic(auto, using(crate::proofs::Awaited::dm_awaited))]
+    #[tactic(auto, using(crate::proofs::OwnHeard::dm_heard, crate::proofs::OwnHeard::none_hears))]
     pub(crate) fn take_dm(&mut self, dsap: u8, ssap: u8)
-        ensures ok { self.new ≡ awaited self.old ssap (λ o. heard_dm self.old o o.is) (own_from dsap self.old.own) }
+        ensures ok { self.new ≡ heard_own self.old dsap ssap dm_on }
         ensures same { IsSame self.old self.new }
         ensures service { self.new.service ≡ self.old.service }
     {
-        owns::hear_dm(&mut self.own, dsap, ssap);
+        if let Some(place) = owns::place_of(&self.own, dsap) {
+            self.own[place].hear_dm(ssap);
+        }
     }
 
     /// A malformed PDU of this type and sequence byte.
@@ -147,8 +153,9 @@ impl<S: Service> Llc<S> {
             Ok(Some(Taken::Closed(report))) => self.answer_with(frmr(ssap, dsap, report)),
         }
     }
+
     /// An I, RR or RNR of no connection that was asked of this end.
-    #[tactic(auto, using(crate::proofs::Closes::asked_kept, crate::proofs::Closes::asked_closed, crate::proofs::Closes::asked_none))]
+    #[tactic(auto, using(crate::proofs::Closes::asked_kept, crate::proofs::Closes::asked_closed, crate::proofs::Closes::asked_other, crate::proofs::Closes::asked_none))]
     fn take_asked(&mut self, pdu: &PduView<'_>, dsap: u8, ssap: u8) -> Result<(), AllocError>
         requires dsap { IsSap dsap }
         requires ssap { IsSap ssap }
@@ -158,7 +165,10 @@ impl<S: Service> Llc<S> {
         ensures same { IsSame self.old self.new }
         ensures service { self.new.service ≡ self.old.service }
     {
-        match owns::take_view(&mut self.own, dsap, ssap, pdu) {
+        let Some(place) = owns::place_of(&self.own, dsap) else {
+            return self.answer_with(dm(ssap, dsap, NOT_CONNECTED));
+        };
+        match self.own[place].take_view(ssap, pdu) {
             Err(_) => Err(AllocError),
             Ok(Heard::Nothing) => self.answer_with(dm(ssap, dsap, NOT_CONNECTED)),
             Ok(Heard::Taken) => Ok(()),

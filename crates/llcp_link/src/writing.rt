@@ -11,10 +11,9 @@ ghost use Rattle.llcp_link.specs.Kept.{IsSent};
 
 use crate::giving::Next;
 use crate::joining::LENGTH;
-use crate::lengths::part_len;
 use crate::llc::Llc;
 use crate::service::Service;
-use llcp_pdu::{Part, Pdu};
+use llcp_pdu::{Part, Pdu, part_len};
 use nfc_base::Items;
 use std::alloc::AllocError;
 
@@ -28,7 +27,7 @@ fn write_one(part: Part, target: &mut Vec<u8>) -> Result<(), AllocError>
     ensures size { OnOk result (length target.new.items ≤ 2178) }
 {
     target.clear();
-    Pdu::One(part).write_to(target)
+    Pdu::One(part).append_to(target)
 }
 
 /// Replaces `target` by the payload of one PDU and others that are joined to it.
@@ -48,7 +47,7 @@ fn write_parts(first: Part, mut others: Vec<Part>, target: &mut Vec<u8>) -> Resu
         Err(_) => return Err(AllocError),
         Ok(()) => {}
     }
-    Pdu::Agf(Items::new(others)).write_to(target)
+    Pdu::Agf(Items::new(others)).append_to(target)
 }
 
 impl<S: Service> Llc<S> {

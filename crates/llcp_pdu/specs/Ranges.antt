@@ -6,7 +6,7 @@ use Rattle.llcp_pdu.specs.declared.part.Part.{Part}
 use Rattle.llcp_pdu.specs.declared.part.Part.TheVariants.{Symm, Ui, Connect, Disc, Cc, Dm, Frmr, Snl, Info, Rr, Rnr}
 use Rattle.llcp_pdu.specs.declared.pdu.Pdu.{Pdu}
 use Rattle.llcp_pdu.specs.declared.pdu.Pdu.TheVariants.{Agf, One}
-use Rattle.llcp_pdu.specs.Wire.{miux_end, rw_end}
+use Rattle.llcp_pdu.specs.Wire.{miux_end, rw_end, sap_count}
 use Rattle.llcp_pdu.specs.Spelling.{IsReport}
 use Rattle.llcp_pdu.specs.Writing.{part_bytes}
 
@@ -29,16 +29,16 @@ AreParams (p ∷ ps) = IsParam p × AreParams ps
 -- SAPs of six bits, sequence numbers of four
 abbrev pub IsPart : Part → Type 0
 IsPart Symm = Unit {0}
-IsPart (Ui d s info) = (d < 64) × (s < 64)
-IsPart (Connect d s ps) = (d < 64) × (s < 64) × AreParams ps
-IsPart (Disc d s) = (d < 64) × (s < 64)
-IsPart (Cc d s ps) = (d < 64) × (s < 64) × AreParams ps
-IsPart (Dm d s reason) = (d < 64) × (s < 64)
-IsPart (Frmr d s r) = (d < 64) × (s < 64) × IsReport r
+IsPart (Ui d s info) = (d < sap_count) × (s < sap_count)
+IsPart (Connect d s ps) = (d < sap_count) × (s < sap_count) × AreParams ps
+IsPart (Disc d s) = (d < sap_count) × (s < sap_count)
+IsPart (Cc d s ps) = (d < sap_count) × (s < sap_count) × AreParams ps
+IsPart (Dm d s reason) = (d < sap_count) × (s < sap_count)
+IsPart (Frmr d s r) = (d < sap_count) × (s < sap_count) × IsReport r
 IsPart (Snl ps) = AreParams ps
-IsPart (Info d s ns nr info) = (d < 64) × (s < 64) × (ns < 16) × (nr < 16)
-IsPart (Rr d s nr) = (d < 64) × (s < 64) × (nr < 16)
-IsPart (Rnr d s nr) = (d < 64) × (s < 64) × (nr < 16)
+IsPart (Info d s ns nr info) = (d < sap_count) × (s < sap_count) × (ns < 16) × (nr < 16)
+IsPart (Rr d s nr) = (d < sap_count) × (s < sap_count) × (nr < 16)
+IsPart (Rnr d s nr) = (d < sap_count) × (s < sap_count) × (nr < 16)
 
 -- the length of a PDU in an AGF has two bytes
 abbrev pub AreParts : List Part → Type 0

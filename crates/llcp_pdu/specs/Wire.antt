@@ -54,6 +54,10 @@ ptype_number Info = info_type
 ptype_number Rr = rr_type
 ptype_number Rnr = rnr_type
 
+-- how many SAPs there are
+abbrev pub sap_count : ℕ
+sap_count = 64
+
 -- the SAP of service discovery, from and to which an SNL goes
 abbrev pub discovery_sap : ℕ
 discovery_sap = 1

@@ -9,15 +9,12 @@ ghost use Rattle.llcp_pdu.specs.Wire.{least_miu};
 ghost use Rattle.llcp_pdu.specs.Writing.{params_bytes};
 
 use crate::param_walk::{one, split_param, two, word};
-use crate::wire::{MIUX, MIUX_END, VERSION, WKS};
+use crate::wire::{LEAST_MIU, MIUX, MIUX_END, VERSION, WKS};
 use arrayvec::ArrayVec;
 use thiserror::Error;
 
 /// The first three bytes.
 const MAGIC: [u8; 3] = *b"Ffm";
-
-/// The MIU of an end that sends no MIUX.
-const LEAST_MIU: u16 = 128;
 
 /// The major number of the version that is spoken here.
 const MAJOR: u8 = 1;

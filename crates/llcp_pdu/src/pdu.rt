@@ -12,6 +12,7 @@ ghost use Rattle.llcp_pdu.specs.declared.fault.PduFault.TheVariants.{Memory};
 use crate::fault::PduFault;
 use crate::header::Ptype;
 use crate::inner_walk::InnerWalk;
+use crate::lengths::part_len;
 use crate::part::{Part, append_head};
 use crate::pdu_view::{PduView, view};
 use nfc_base::Items;
@@ -61,8 +62,8 @@ impl Pdu {
         target.extend_from_slice(&bytes)
     }
 
-    /// Adds its bytes.
-    fn append_to(&self, target: &mut Vec<u8>) -> Result<(), AllocError>
+    /// Adds its bytes where `target` ends. After an `Err` some of them may stand there.
+    pub fn append_to(&self, target: &mut Vec<u8>) -> Result<(), AllocError>
         requires { IsPdu self.now }
         ensures { OnOk result (target.new.items ≡ target.old.items ++ pdu_bytes self.now) }
     {
@@ -94,10 +95,8 @@ fn append_part(target: &mut Vec<u8>, part: &Part) -> Result<(), AllocError>
     requires short { length (part_bytes part.now) < 65536 }
     ensures { OnOk result (target.new.items ≡ target.old.items ++ inner_bytes part.now) }
 {
-    let mut bytes = Vec::new(*target.allocator());
-    part.append_to(&mut bytes)?;
-    target.extend_from_slice(&(bytes.len() as u16).to_be_bytes())?;
-    target.extend_from_slice(&bytes)
+    target.extend_from_slice(&(part_len(part) as u16).to_be_bytes())?;
+    part.append_to(target)
 }
 
 /// Adds PDUs, each behind its length.

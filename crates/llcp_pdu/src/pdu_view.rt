@@ -8,7 +8,7 @@ ghost use Rattle.llcp_pdu.specs.Ranges.{IsPdu};
 ghost use Rattle.llcp_pdu.specs.Reading.{gives};
 ghost use Rattle.llcp_pdu.specs.Spelling.{LlcpSpelling};
 ghost use Rattle.llcp_pdu.specs.Views.{IsViewOf, Shows, seen, shown, told_by};
-ghost use Rattle.llcp_pdu.specs.declared.header.Ptype.TheVariants.{Symm as SymmType, Snl as SnlType};
+ghost use Rattle.llcp_pdu.specs.declared.header.Ptype.TheVariants.{Cc as CcType, Connect as ConnectType, Symm as SymmType, Snl as SnlType};
 ghost use Rattle.llcp_pdu.specs.declared.pdu.Pdu.{Pdu};
 
 use crate::fault::{PduKind, PduRefusal, Refusal};
@@ -129,23 +129,9 @@ pub(crate) fn view_part(header: Header, rest: &[u8], at: usize) -> Result<PduVie
             ssap,
             info: rest,
         }),
-        Ptype::Connect => {
-            check_params(rest, behind)?;
-            Ok(PduView::Connect {
-                dsap,
-                ssap,
-                params: rest,
-            })
-        }
+        Ptype::Connect => view_connect(header, rest, at),
         Ptype::Disc => ended(rest, behind, PduView::Disc { dsap, ssap }),
-        Ptype::Cc => {
-            check_params(rest, behind)?;
-            Ok(PduView::Cc {
-                dsap,
-                ssap,
-                params: rest,
-            })
-        }
+        Ptype::Cc => view_cc(header, rest, at),
         Ptype::Dm => Ok(PduView::Dm {
             dsap,
             ssap,
@@ -180,6 +166,32 @@ fn view_symm(header: Header, rest: &[u8], at: usize) -> Result<PduView<'_>, Refu
         return Err(Refusal::at(at, PduKind::Sap));
     }
     ended(rest, at + HEADER, PduView::Symm)
+}
+
+fn view_connect(header: Header, rest: &[u8], at: usize) -> Result<PduView<'_>, Refusal>
+    requires { at + 2 + length rest.now < 2 ^ 64 }
+    ensures reads { seen result ≡ gives (body ConnectType header.dsap header.ssap rest.now at) Pdu.One }
+    ensures slices { IfOk result (λ v. IsViewOf v rest.now) }
+{
+    check_params(rest, at + HEADER)?;
+    Ok(PduView::Connect {
+        dsap: header.dsap,
+        ssap: header.ssap,
+        params: rest,
+    })
+}
+
+fn view_cc(header: Header, rest: &[u8], at: usize) -> Result<PduView<'_>, Refusal>
+    requires { at + 2 + length rest.now < 2 ^ 64 }
+    ensures reads { seen result ≡ gives (body CcType header.dsap header.ssap rest.now at) Pdu.One }
+    ensures slices { IfOk result (λ v. IsViewOf v rest.now) }
+{
+    check_params(rest, at + HEADER)?;
+    Ok(PduView::Cc {
+        dsap: header.dsap,
+        ssap: header.ssap,
+        params: rest,
+    })
 }
 
 fn view_snl(header: Header, rest: &[u8], at: usize) -> Result<PduView<'_>, Refusal>

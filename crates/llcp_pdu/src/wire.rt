@@ -15,7 +15,8 @@ pub(crate) const UI: u8 = 3;
 
 pub(crate) const CONNECT: u8 = 4;
 
-pub(crate) const DISC: u8 = 5;
+/// The type of a DISC.
+pub const DISC: u8 = 5;
 
 pub(crate) const CC: u8 = 6;
 
@@ -25,11 +26,14 @@ pub(crate) const FRMR: u8 = 8;
 
 pub(crate) const SNL: u8 = 9;
 
-pub(crate) const INFO: u8 = 12;
+/// The type of an I PDU.
+pub const INFO: u8 = 12;
 
-pub(crate) const RR: u8 = 13;
+/// The type of a RR.
+pub const RR: u8 = 13;
 
-pub(crate) const RNR: u8 = 14;
+/// The type of a RNR.
+pub const RNR: u8 = 14;
 
 /// The SAP of service discovery, from and to which an SNL goes.
 pub(crate) const DISCOVERY: u8 = 1;
@@ -57,3 +61,6 @@ pub(crate) const SDRES: u8 = 9;
 pub(crate) const MIUX_END: u16 = 2048;
 
 pub(crate) const RW_END: u8 = 16;
+
+/// The MIU of an end that sends no MIUX.
+pub const LEAST_MIU: u16 = 128;

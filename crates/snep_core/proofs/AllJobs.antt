@@ -4,7 +4,7 @@ use Rattle.std.proofs.lemmas.Bool.{eqb-true}
 use Rattle.std.specs.List.{IsDistinct}
 use Rattle.llcp_link.specs.State.{OwnState}
 use Rattle.llcp_link.specs.Asking.{forgotten, found_in, has_waiting_of, standing_of, without_own}
-use Rattle.llcp_link.proofs.Awaited.{here_of}
+use Rattle.llcp_link.proofs.OwnPlaces.{here_of}
 use Rattle.llcp_link.proofs.Submitted.{own_with}
 use Rattle.snep_core.specs.declared.job.Awaiting.{Awaiting}
 use Rattle.snep_core.specs.Jobs.{Job, Begins, Waits, Sends, Asks, Collects, Looks, Closes, Over, Done, has_byte, told_in}

@@ -1,10 +1,10 @@
 -- A client and a peer between two calls, as PDUs go from one to the other that are of no request: acknowledgements, beside what waits in the
 -- queues of both.
-use Rattle.std.proofs.Common.{◌≡◌, ◌<◌, ◌≤◌, ◌⊎◌, ℕ, ◌+◌, Bool, false, List, [], ◌∷◌, length, Option, Some, None, IfSome, is_some, refl, sym, ◌∙◌, ap, subst, inl, inr, arith, append-nil}
+use Rattle.std.proofs.Common.{◌≡◌, ◌<◌, ◌≤◌, ◌⊎◌, ℕ, ◌+◌, Bool, List, [], ◌∷◌, length, Option, Some, None, IfSome, is_some, refl, sym, ◌∙◌, ap, subst, inl, inr, arith, append-nil}
 use Rattle.llcp_conn.specs.Conn.{ConnState, IsSap, first}
 use Rattle.llcp_link.specs.State.{Bound, Lookup, OwnState, Queued, conn_from, own_from, with_conn, with_own}
-use Rattle.llcp_link.specs.Asking.{is_there, unit_of}
-use Rattle.llcp_link.specs.Giving.{Gave, acknowledges, acknowledges_open, acknowledges_own, first_of_all, gave, gave_from, informs, informs_open, informs_own, or_else}
+use Rattle.llcp_link.specs.Asking.{unit_of}
+use Rattle.llcp_link.specs.Giving.{Gave, acknowledges, acknowledges_own, first_of_all, gave, gave_from, gave_own, informs, informs_own, or_else}
 use Rattle.snep_core.specs.declared.silent.NoService.{NoService}
 use Rattle.snep_core.specs.Accord.{Accords, IsApart, IsClientSap, IsJoined, IsOver, IsPaired, Numbers, PeerState, server_conn}
 use Rattle.snep_core.specs.Server.{Received, ServerState, serving, session_of}
@@ -15,7 +15,7 @@ use Rattle.snep_core.proofs.Carrying.{HopSo}
 use Rattle.snep_core.proofs.Ends.{sizes_of}
 use Rattle.snep_core.proofs.OnConnection.{conn_at}
 use Rattle.snep_core.proofs.Owned.{emptied_none}
-use Rattle.snep_core.proofs.Pairs.{bare_acks, bare_informs, client_ack, client_acks, client_gave, client_hears, client_quiet, client_settled, informs_is, acks_is, server_ack, server_acks, server_gave, server_hears, server_quiet, server_settled}
+use Rattle.snep_core.proofs.Pairs.{ack_over, bare_acks, bare_informs, client_ack, client_acks, client_gave, client_hears, client_quiet, client_settled, informs_is, acks_is, server_ack, server_acks, server_gave, server_hears, server_quiet, server_settled, unit_over}
 use Rattle.snep_core.proofs.Places.{below, paired_client_acks, paired_server_acks}
 use Rattle.snep_core.proofs.Sides.{Place, Sides, Sizes, leaves_same, sides_on, some_still}
 
@@ -23,15 +23,9 @@ use Rattle.snep_core.proofs.Sides.{Place, Sides, Sizes, leaves_same, sides_on, s
 abbrev pub IsStill : Option OwnState → Type 0
 IsStill o = (l : EndState) → (informs_own l o ≡ None) × (acknowledges_own l o ≡ None)
 
-informs_over : (l : EndState) (o : OwnState) → is_there o.is ≡ false → informs_open l o o.is ≡ None
-informs_over l o h = grind arith
-
-acks_over : (l : EndState) (o : OwnState) → is_there o.is ≡ false → acknowledges_open l o o.is ≡ None
-acks_over l o h = grind arith
-
 pub over_still : (o : Option OwnState) → IsOver o → IsStill o
 over_still None h l = (refl, refl)
-over_still (Some o) h l = (informs_over l o h.0, acks_over l o h.0)
+over_still (Some o) h l = (ap (gave_own l) (unit_over o o.is h.0), ap (gave_own l) (ack_over o o.is h.0))
 
 -- nothing is under way on the connection from a SAP, whose session is as at first
 pub record Quiet (s : ServerState) (sap : ℕ) (o : Option OwnState) (c : Option ConnState) : Type 0 where

@@ -13,7 +13,7 @@ use Rattle.llcp_link.specs.Asking.{acked_of, acked_on, asked_from, disconnected_
 use Rattle.llcp_link.specs.Giving.{after_giving}
 use Rattle.llcp_link.specs.Taking.{taken_from}
 use Rattle.llcp_link.specs.Waning.{pending, pending_on}
-use Rattle.llcp_link.proofs.Awaited.{here_of}
+use Rattle.llcp_link.proofs.OwnPlaces.{here_of}
 use Rattle.llcp_link.proofs.Ranged.{either}
 use Rattle.llcp_link.proofs.Submitted.{own_with}
 use Rattle.llcp_link.proofs.Waning.{Wanes, is_of, given_wanes, pending_wanes, taken_wanes}

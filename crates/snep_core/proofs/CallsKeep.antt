@@ -1,5 +1,5 @@
 -- What the calls of a service keep, an end keeps with whatever PDUs it takes and gives.
-use Rattle.std.proofs.Common.{nat_le, ℕ, zero, suc, ◌+◌, ◌/◌, ◌==◌, List, [], ◌∷◌, length, Option, Some, None, ◌≡◌, refl, sym, subst, arith}
+use Rattle.std.proofs.Common.{nat_le, ℕ, zero, suc, ◌+◌, ◌/◌, ◌==◌, List, [], ◌∷◌, length, Option, Some, None, ◌≡◌, refl, sym, subst}
 use Rattle.llcp_pdu.specs.declared.param.Param.{Param}
 use Rattle.llcp_pdu.specs.declared.part.Part.{Part}
 use Rattle.llcp_pdu.specs.declared.part.Part.TheVariants.{Symm, Ui, Connect, Disc, Cc, Dm, Frmr, Snl, Info, Rr, Rnr}
@@ -8,35 +8,25 @@ use Rattle.llcp_conn.specs.declared.conn.Taken.{Taken}
 use Rattle.llcp_conn.specs.declared.conn.Taken.TheVariants as taking
 use Rattle.llcp_conn.specs.Conn.{ConnState, Took, gives, gives_ack, queued, takes}
 use Rattle.llcp_link.specs.Serving.{Serving}
-use Rattle.llcp_link.specs.State.{LlcState, sap_count, Queued, OwnState, Holder, Nobody, Served, Asked, conn_from, holder, own_from}
+use Rattle.llcp_link.specs.State.{LlcState, Queued, OwnState, Holder, Nobody, Served, Asked, conn_from, holder, own_from}
+use Rattle.llcp_pdu.specs.Wire.{sap_count}
 use Rattle.llcp_link.specs.Names.{rw_of, reached, name_of, answers_to, told_all}
 use Rattle.llcp_link.specs.Taking as t
 use Rattle.llcp_link.specs.Taking.{Item, Good, Broken, step, steps}
+use Rattle.llcp_link.specs.Own.{OwnGave, ack_on, unit_on}
 use Rattle.llcp_link.specs.Giving as g
 use Rattle.llcp_link.specs.Giving.{Gave, GaveAll, first_from, gave, given_parts, after_giving, joined, may_send, or_else, sap_after}
 use Rattle.llcp_link.proofs.Ranged.{either}
 
 module _ {S : Type 0} where
-  cc_same : (l : LlcState S) (o : OwnState) (ps : List Param) → (t.heard_cc l o ps o.is).service ≡ l.service
-  cc_same l o ps = grind arith
-
-  dm_same : (l : LlcState S) (o : OwnState) → (t.heard_dm l o o.is).service ≡ l.service
-  dm_same l o = grind arith
-
   -- the service that is left
   abbrev left : LlcState S → Option (Gave S) → S
   left l None = l.service
   left l (Some x) = x.llc.service
 
-  own_left : (l : LlcState S) (o : OwnState) (k : ConnState) (p : Option Part) → left l (g.gave_own l o k p) ≡ l.service
-  own_left l o k None = refl
-  own_left l o k (Some p) = refl
-
-  informs_left : (l : LlcState S) (o : OwnState) → left l (g.informs_open l o o.is) ≡ l.service
-  informs_left l o = grind (arith, own_left)
-
-  acks_left : (l : LlcState S) (o : OwnState) → left l (g.acknowledges_open l o o.is) ≡ l.service
-  acks_left l o = grind (arith, own_left)
+  own_left : (l : LlcState S) (q : Option OwnGave) → left l (g.gave_own l q) ≡ l.service
+  own_left l None = refl
+  own_left l (Some x) = refl
 
 module _ {S : Type 0} (m : Serving S) (P : S → Type 0) (begun : (s : S) (c : ℕ) → P s → P (m.begun s c)) (brought : (s : S) (c : ℕ) (u : List ℕ) → P s → P (m.brought s c u)) where
   answered_keeps : (l : LlcState S) (p : Part) → P l.service → P (t.answered l p).service
@@ -46,16 +36,6 @@ module _ {S : Type 0} (m : Serving S) (P : S → Type 0) (begun : (s : S) (c : �
   asked_keeps l o k taking.Nothing h = h
   asked_keeps l o k (taking.Unit u) h = h
   asked_keeps l o k (taking.Closed r) h = answered_keeps (t.ends l (Asked o k)) _ h
-
-  cc_keeps : (l : LlcState S) (o : OwnState) (ps : List Param) → P l.service → P (t.heard_cc l o ps o.is).service
-  cc_keeps l o ps h = subst P (sym (cc_same l o ps)) h
-
-  dm_keeps : (l : LlcState S) (o : OwnState) → P l.service → P (t.heard_dm l o o.is).service
-  dm_keeps l o h = subst P (sym (dm_same l o)) h
-
-  awaited_keeps : (l : LlcState S) (s : ℕ) (f : OwnState → LlcState S) (q : Option OwnState) → ((o : OwnState) → P (f o).service) → P l.service → P (t.awaited l s f q).service
-  awaited_keeps l s f None k h = h
-  awaited_keeps l s f (Some o) k h = either {X = LlcState S} (λ z. P z.service) (o.there == s) (f o) l (λ e. k o) (λ e. h)
 
   tells_keeps : (l : LlcState S) (ps : List Param) → P l.service → P (t.tells l ps).service
   tells_keeps l [] h = h
@@ -101,8 +81,8 @@ module _ {S : Type 0} (m : Serving S) (P : S → Type 0) (begun : (s : S) (c : �
   step_keeps l (Good (Ui d s info)) h = h
   step_keeps l (Good (Connect d s ps)) h =
       either {X = LlcState S} (λ z. P z.service) (t.is_full l) l (t.connects_to m l d s ps (t.accepted l d s ps)) (λ e. h) (λ e. connects_keeps l d s ps (t.accepted l d s ps) h)
-  step_keeps l (Good (Cc d s ps)) h = awaited_keeps l s (λ o. t.heard_cc l o ps o.is) (own_from d l.own) (λ o. cc_keeps l o ps h) h
-  step_keeps l (Good (Dm d s r)) h = awaited_keeps l s (λ o. t.heard_dm l o o.is) (own_from d l.own) (λ o. dm_keeps l o h) h
+  step_keeps l (Good (Cc d s ps)) h = h
+  step_keeps l (Good (Dm d s r)) h = h
   step_keeps l (Good (Disc d s)) h = leaves_keeps l d s (holder l d s) h
   step_keeps l (Good (Frmr d s r)) h = ends_keeps l (holder l d s) h
   step_keeps l (Good (Snl ps)) h = tells_keeps (record l { lookups = told_all ps l.lookups }) (answers_to l.bound (l.far_miu / 4) ps) h
@@ -150,7 +130,7 @@ module _ {S : Type 0} (m : Serving S) (P : S → Type 0) (sent : (s : S) (c miu 
 
       by_own : (q : Option OwnState) → Keeps (g.informs_own l q)
       by_own None = tt
-      by_own (Some o) = left_keeps l (g.informs_open l o o.is) (informs_left l o) h
+      by_own (Some o) = left_keeps l (g.gave_own l (unit_on o)) (own_left l (unit_on o)) h
 
   acks_keep : (l : LlcState S) (s : ℕ) → P l.service → Keeps (g.acknowledges l s)
   acks_keep l s h = else_keeps _ _ (by_served (conn_from s l.served)) (by_own (own_from s l.own))
@@ -161,7 +141,7 @@ module _ {S : Type 0} (m : Serving S) (P : S → Type 0) (sent : (s : S) (c miu 
 
       by_own : (q : Option OwnState) → Keeps (g.acknowledges_own l q)
       by_own None = tt
-      by_own (Some o) = left_keeps l (g.acknowledges_open l o o.is) (acks_left l o) h
+      by_own (Some o) = left_keeps l (g.gave_own l (ack_on o)) (own_left l (ack_on o)) h
 
   pub gave_keeps : (l : LlcState S) → P l.service → Keeps (gave m l)
   gave_keeps l h = go l.queue

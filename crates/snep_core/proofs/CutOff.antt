@@ -7,7 +7,8 @@ use Rattle.llcp_link.specs.Halting.{Leaves, IsStuck}
 use Rattle.llcp_link.specs.Offering.{LeavesNext, LeftBy}
 use Rattle.llcp_link.specs.Answering.{Answers, IsStuckGiving}
 use Rattle.llcp_link.proofs.StepsSoFar.{steps_more}
-use Rattle.snep_core.specs.Payloads.{CutOffAccepts, IsFront}
+use Rattle.snep_core.specs.Payloads.{CutOffAccepts}
+use Rattle.llcp_conn.specs.Window.{IsFront}
 use Rattle.snep_core.specs.Server.{Received, ServerState, received, serving, session_of}
 use Rattle.snep_core.specs.Session.{did}
 use Rattle.snep_core.proofs.PayloadLaw.{front_more}

@@ -4,7 +4,8 @@ use Rattle.llcp_pdu.specs.General.{IsMiu}
 use Rattle.llcp_pdu.specs.declared.part.Part.{Part}
 use Rattle.llcp_pdu.specs.declared.part.Part.TheVariants.{Cc, Connect}
 use Rattle.llcp_conn.specs.Conn.{ConnState, IsSap}
-use Rattle.llcp_link.specs.State.{Bound, OwnState, Queued, answer, conn_from, own_from, sap_count, with_conn, with_own}
+use Rattle.llcp_link.specs.State.{Bound, OwnState, Queued, answer, conn_from, own_from, with_conn, with_own}
+use Rattle.llcp_pdu.specs.Wire.{sap_count}
 use Rattle.llcp_link.specs.Asking.{request}
 use Rattle.llcp_link.specs.Giving.{Gave, acknowledges, first_of_all, gave, gave_behind, gave_from, informs, or_else}
 use Rattle.llcp_link.specs.Names.{own_params}

@@ -5,7 +5,7 @@ use Rattle.llcp_link.specs.declared.own.OwnIs.TheVariants.{Asking, Open, Refused
 use Rattle.llcp_link.specs.State.{OwnState, with_own}
 use Rattle.llcp_link.specs.Asking.{queued_on, refusal_of, refusal_on, standing_of, submitted_by}
 use Rattle.llcp_link.specs.Opened.{opened}
-use Rattle.llcp_link.proofs.Awaited.{here_of, with_same}
+use Rattle.llcp_link.proofs.OwnPlaces.{here_of, with_same}
 use Rattle.llcp_link.proofs.Ranged.{either}
 use Rattle.llcp_link.proofs.Submitted.{own_with}
 use Rattle.snep_core.specs.Accord.{Numbers, client_conn}

@@ -16,8 +16,9 @@ use Rattle.llcp_link.specs.State.{Bound, OwnState, Queued, answer, conn_from, mo
 use Rattle.llcp_link.specs.declared.own.OwnIs.{OwnIs}
 use Rattle.llcp_link.specs.declared.own.OwnIs.TheVariants.{Open, Refused}
 use Rattle.llcp_link.specs.Asking.{asked_from}
+use Rattle.llcp_link.specs.Own.{cc_on, if_there, on_own}
 use Rattle.llcp_link.specs.Opened.{opened}
-use Rattle.llcp_link.specs.Taking.{accepted, accepted_at, answers_in, awaited, connects_to, heard_cc, is_free, is_full, opens, steps_part}
+use Rattle.llcp_link.specs.Taking.{accepted, accepted_at, answers_in, connects_to, is_free, is_full, opens, steps_part}
 use Rattle.llcp_link.proofs.Clients.{conn_more, conn_more_other, is_self}
 use Rattle.llcp_link.proofs.Submitted.{own_with}
 use Rattle.snep_core.specs.Accord.{IsPaired, PeerState, clients_in, most_clients}
@@ -287,9 +288,9 @@ module _ (limit : ℕ) (table : List Offer) (names : List Bound) (old : List Rec
 
     pub opens_ : steps_part silent l (cc_part limit table names old z plan s) ≡ record l { own = with_own (now_own z.client_miu) l.own }
     opens_ =
-        ap (awaited l server_sap (λ o. heard_cc l o qs o.is)) waits.own
-        ∙ ap (λ x. if x == 0 then record l { own = with_own (opened_so Refused) l.own } else record l { own = with_own (opened_so (Open (fresh s server_sap l.miu (miu_of qs) x))) l.own }) told_.1
-        ∙ ap (λ b. if b then record l { own = with_own (opened_so Refused) l.own } else record l { own = with_own (opened_so (Open (fresh s server_sap l.miu (miu_of qs) z.server_window))) l.own }) (some_window z.server_window window_.0)
+        ap (λ o. record l { own = on_own (if_there server_sap (cc_on l.miu (miu_of qs) (rw_of qs))) o l.own }) waits.own
+        ∙ ap (λ x. record l { own = with_own (opened_so (if x == 0 then Refused else Open (fresh s server_sap l.miu (miu_of qs) x))) l.own }) told_.1
+        ∙ ap (λ b. record l { own = with_own (opened_so (if b then Refused else Open (fresh s server_sap l.miu (miu_of qs) z.server_window))) l.own }) (some_window z.server_window window_.0)
         ∙ ap (λ x. record l { own = with_own (opened_so (Open (fresh s server_sap l.miu x z.server_window))) l.own }) told_.0
         ∙ ap (λ x. record l { own = with_own (opened_so (Open (fresh s server_sap x z.server_miu z.server_window))) l.own }) h.sides.client_miu
       where

@@ -5,7 +5,7 @@ use Rattle.llcp_conn.specs.Conn.{first}
 use Rattle.llcp_link.specs.State.{OwnState, with_own}
 use Rattle.llcp_link.specs.Asking.{forgotten, unit_of, unit_taken_by, without_own}
 use Rattle.llcp_link.specs.Waning.{pending}
-use Rattle.llcp_link.proofs.Awaited.{here_of, with_same}
+use Rattle.llcp_link.proofs.OwnPlaces.{here_of, with_same}
 use Rattle.llcp_link.proofs.Submitted.{own_with}
 use Rattle.snep_core.specs.Jobs.{Job, has_byte, told, told_all, told_in, told_on}
 use Rattle.snep_core.specs.Talk.{EndState, emptied, emptied_by, finished, heard, heard_so, is_lost, own_of, units_of}

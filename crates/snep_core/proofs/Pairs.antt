@@ -9,7 +9,10 @@ use Rattle.llcp_link.specs.State.{LlcState, OwnState, conn_from, own_from, own_h
 use Rattle.llcp_link.specs.Asking.{asked_from, is_there}
 use Rattle.llcp_link.specs.Opened.{opened}
 use Rattle.llcp_link.specs.Taking.{numbered, steps_part}
-use Rattle.llcp_link.specs.Giving.{acknowledges, acknowledges_open, acknowledges_own, acknowledges_served, informs, informs_open, informs_own, informs_served, or_else, sends}
+use Rattle.llcp_link.specs.Giving.{acknowledges, acknowledges_own, acknowledges_served, gave_own, informs, informs_own, informs_served, or_else, sends}
+use Rattle.llcp_link.specs.Own.{ack_so, unit_so}
+use Rattle.llcp_link.specs.declared.own.OwnIs.{OwnIs}
+use Rattle.llcp_link.specs.declared.own.OwnIs.TheVariants.{Asking, Open, Refused, Leaving, Closed}
 use Rattle.snep_core.specs.Accord.{IsOver, Numbers, client_conn, is_some_of, server_conn}
 use Rattle.snep_core.specs.Talk.{EndState, server_sap, silent}
 use Rattle.snep_core.proofs.OnConnection.{conn_at}
@@ -68,6 +71,21 @@ server_took p c s = record p { served = with_conn c p.served; service = s }
 again : (a : ℕ) → (a % 16 + 0) % 16 ≡ a % 16
 again a = omega arith
 
+-- one that is over, and one that is asked for, give nothing
+pub unit_over : (o : OwnState) (i : OwnIs) → is_there i ≡ false → unit_so o i ≡ None
+unit_over o Asking h = refl
+unit_over o (Open c) h = absurd cc
+unit_over o Refused h = refl
+unit_over o Leaving h = refl
+unit_over o Closed h = refl
+
+pub ack_over : (o : OwnState) (i : OwnIs) → is_there i ≡ false → ack_so o i ≡ None
+ack_over o Asking h = refl
+ack_over o (Open c) h = absurd cc
+ack_over o Refused h = refl
+ack_over o Leaving h = refl
+ack_over o Closed h = refl
+
 -- the client gives
 module _ (l : EndState) (none : l.served ≡ []) (sap : ℕ) where
   pub informs_is : (q : Option OwnState) → own_from sap l.own ≡ q → informs silent l sap ≡ informs_own l q
@@ -78,20 +96,13 @@ module _ (l : EndState) (none : l.served ≡ []) (sap : ℕ) where
   acks_is q e =
       ap (λ cs. or_else (acknowledges_served l (conn_from sap cs)) (acknowledges_own l (own_from sap l.own))) none ∙ ap (acknowledges_own l) e
 
-  -- one that is over, and one that is asked for, give nothing
-  informs_over : (o : OwnState) → is_there o.is ≡ false → informs_open l o o.is ≡ None
-  informs_over o h = grind arith
-
-  acks_over : (o : OwnState) → is_there o.is ≡ false → acknowledges_open l o o.is ≡ None
-  acks_over o h = grind arith
-
   over_informs : (q : Option OwnState) → own_from sap l.own ≡ q → IsOver q → informs silent l sap ≡ None
   over_informs None e h = informs_is None e
-  over_informs (Some o) e h = informs_is (Some o) e ∙ informs_over o h.0
+  over_informs (Some o) e h = informs_is (Some o) e ∙ ap (gave_own l) (unit_over o o.is h.0)
 
   over_acks : (q : Option OwnState) → own_from sap l.own ≡ q → IsOver q → acknowledges l sap ≡ None
   over_acks None e h = acks_is None e
-  over_acks (Some o) e h = acks_is (Some o) e ∙ acks_over o h.0
+  over_acks (Some o) e h = acks_is (Some o) e ∙ ap (gave_own l) (ack_over o o.is h.0)
 
   pub apart_informs : IsOver (own_from sap l.own) → informs silent l sap ≡ None
   apart_informs h = over_informs (own_from sap l.own) refl h

@@ -5,11 +5,12 @@ use Rattle.std.proofs.lemmas.List.{map-append}
 use Rattle.llcp_pdu.specs.declared.part.Part.TheVariants.{Disc, Dm}
 use Rattle.llcp_conn.specs.Conn.{ConnState}
 use Rattle.llcp_link.specs.Asking.{request}
+use Rattle.llcp_link.specs.Own.{dm_on, if_there, on_own}
 use Rattle.llcp_link.specs.Giving.{acknowledges, first_of_all, gave, gave_from, informs, or_else}
 use Rattle.llcp_link.specs.State.{Bound, OwnState, Queued, answer, conn_from, most_answers, own_from, own_holder, served_holder, with_own, without_conn}
 use Rattle.llcp_link.specs.declared.own.OwnIs.{OwnIs}
 use Rattle.llcp_link.specs.declared.own.OwnIs.TheVariants.{Closed, Leaving}
-use Rattle.llcp_link.specs.Taking.{answers_in, awaited, disconnected, heard_dm, leaves, steps_part}
+use Rattle.llcp_link.specs.Taking.{answers_in, disconnected, leaves, steps_part}
 use Rattle.llcp_link.proofs.Clients.{conn_without_other}
 use Rattle.snep_core.specs.Accord.{IsClientSap, IsOver, Numbers, PeerState, is_in, most_clients, server_conn}
 use Rattle.snep_core.specs.Server.{ServerState, serving, session_of}
@@ -167,7 +168,7 @@ module _ (names : List Bound) (s : ServerState) (z : Sizes) where
     low_ = let r = given.range.1 in omega arith
 
     dm_taken : steps_part silent l (Dm sap server_sap disconnected) ≡ record l { own = with_own (given_up sap Closed) l.own }
-    dm_taken = ap (awaited l server_sap (λ o. heard_dm l o o.is)) given.own
+    dm_taken = ap (λ o. record l { own = on_own (if_there server_sap dm_on) o l.own }) given.own
 
     others_ : (t : ℕ) → (sap == t) ≡ false → (o : Option OwnState) (k : Option ConnState) → Parting (sap ∷ told) waits t o k p.service → Parting told waits t o k p.service
     others_ t n o k a = subst (λ b. ByQueues b (is_in t waits) t o k p.service) (in_other sap t told n) a

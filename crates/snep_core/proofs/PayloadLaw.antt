@@ -8,8 +8,10 @@ use Rattle.llcp_link.specs.Running.{Acted, end_of, marks_of}
 use Rattle.llcp_link.proofs.Ranged.{AreRanged, brought_ranged}
 use Rattle.llcp_link.proofs.Following.{Follows}
 use Rattle.llcp_link.proofs.UnitsTold.{FitsAt, at_first, items_fit, run_fits, turns, turns_more, turns_units}
-use Rattle.snep_core.specs.Payloads.{AcceptedInOrder, AcceptsPuts, AllPut, IsFront, IsServerRun, OffersElse, PayloadsAccepted, Place, accepted_from, end_there, marks_there}
-use Rattle.snep_core.specs.Server.{Received, ServerState, received, sap_count, serving, session_of}
+use Rattle.snep_core.specs.Payloads.{AcceptedInOrder, AcceptsPuts, AllPut, IsServerRun, OffersElse, PayloadsAccepted, Place, accepted_from, end_there, marks_there}
+use Rattle.llcp_conn.specs.Window.{IsFront}
+use Rattle.snep_core.specs.Server.{Received, ServerState, received, serving, session_of}
+use Rattle.llcp_pdu.specs.Wire.{sap_count}
 use Rattle.snep_core.specs.Session.{did, fresh_session}
 use Rattle.snep_core.proofs.SourcesTold.{ServerTells, server_changed, server_follows, told_puts}
 

@@ -4,7 +4,8 @@ use Rattle.std.proofs.lemmas.Bool.{eqb-true, lt-ltb}
 use Rattle.std.proofs.lemmas.Bool.Decides.{nat_tests}
 use Rattle.llcp_conn.specs.Conn.{ConnState, IsSap}
 use Rattle.llcp_link.specs.Serving.{Serving}
-use Rattle.llcp_link.specs.State.{Bound, LlcState, Queued, conn_from, sap_count}
+use Rattle.llcp_link.specs.State.{Bound, LlcState, Queued, conn_from}
+use Rattle.llcp_pdu.specs.Wire.{sap_count}
 use Rattle.llcp_link.specs.Giving.{acknowledges, after_giving, first_of_all, gave, gave_from, given, informs}
 use Rattle.llcp_link.specs.Taking.{taken_from}
 use Rattle.llcp_link.proofs.Clients.{conn_more_other}

@@ -7,7 +7,7 @@ use Rattle.llcp_link.specs.State.{OwnState, own_from, with_own}
 use Rattle.llcp_link.specs.declared.standing.Standing.{Standing}
 use Rattle.llcp_link.specs.declared.standing.Standing.TheVariants as stands
 use Rattle.llcp_link.specs.Asking.{acked_of, acked_on, queued_on, refusal_of, refusal_on, standing_of, submitted_by}
-use Rattle.llcp_link.proofs.Awaited.{here_of}
+use Rattle.llcp_link.proofs.OwnPlaces.{here_of}
 use Rattle.llcp_link.proofs.Ranged.{either}
 use Rattle.llcp_link.proofs.Submitted.{own_with, pending_submits}
 use Rattle.snep_core.specs.Jobs.{Job, Begins, Waits, Sends, Asks, Collects, Looks, Closes, Over}

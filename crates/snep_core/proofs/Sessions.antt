@@ -2,7 +2,8 @@
 use Rattle.std.proofs.Common.{◌≡◌, ◌<◌, ◌≤◌, ℕ, zero, suc, ◌+◌, ◌-◌, List, [], ◌∷◌, ◌++◌, length, replicate, set, get_or, refl, sym, ◌∙◌, ap, append_assoc, arith}
 use Rattle.std.proofs.lemmas.List.{length-append, length-set, set-append_left, set-append_right, get_or_append_left, get_or-append_right, get_or-replicate}
 use Rattle.snep_core.specs.Session.{Session, fresh_session}
-use Rattle.snep_core.specs.Server.{sap_count, padded, from_sources, messages_of, sources_of}
+use Rattle.snep_core.specs.Server.{padded, from_sources, messages_of, sources_of}
+use Rattle.llcp_pdu.specs.Wire.{sap_count}
 
 -- one more that is as at first
 pub padded_more : (xs : List Session) → length xs < sap_count → padded (xs ++ fresh_session ∷ []) ≡ padded xs

@@ -6,7 +6,7 @@ use Rattle.llcp_conn.specs.Conn.{ConnState}
 use Rattle.llcp_link.specs.Asking.{asked_from, has_waiting_of, standing_of}
 use Rattle.llcp_link.specs.Taking.{taken_from}
 use Rattle.llcp_link.specs.Giving.{after_giving, given}
-use Rattle.llcp_link.proofs.Awaited.{with_same}
+use Rattle.llcp_link.proofs.OwnPlaces.{with_same}
 use Rattle.llcp_link.proofs.Clients.{is_self}
 use Rattle.llcp_link.proofs.Ranged.{either}
 use Rattle.llcp_link.specs.State.{Bound, OwnState, conn_from, own_from, with_own}

@@ -1,5 +1,6 @@
 -- What a client of a server put on a link and was told, and what the server accepted there from its SAP.
 use Rattle.std.specs.Prelude.{◌≡◌, ◌⊎◌, ℕ, nat_lt, List, [], ◌∷◌, ◌++◌, length, if◌then◌else◌}
+use Rattle.llcp_conn.specs.Window.{IsFront}
 use Rattle.snep_core.specs.Cuts.{Job, AreJobs, IsJob, units_of}
 use Rattle.snep_core.specs.Puts.{Puts}
 
@@ -29,9 +30,6 @@ told_taken limit [] = []
 told_taken limit (p ∷ ps) =
     if nat_lt limit (length p.message) then told_taken limit ps else put_before p.message p.told (told_taken limit ps)
 
-abbrev pub IsFirst : List (List ℕ) → List (List ℕ) → Type 0
-IsFirst xs ys = (rest : List (List ℕ)) × (ys ≡ xs ++ rest)
-
 -- The last put wasn't answered, and its message is the one more that was accepted.
 pub record OneMore (limit : ℕ) (puts : List Put) (accepted : List (List ℕ)) : Type 0 where
   pub before : List Put
@@ -42,8 +40,8 @@ pub record OneMore (limit : ℕ) (puts : List Put) (accepted : List (List ℕ)) 
 -- What is accepted is the first of the messages that were put and are within the limit, and covers all that were told to be
 -- taken, by at most one more.
 pub record LinkAccepts (limit : ℕ) (puts : List Put) (accepted : List (List ℕ)) : Type 0 where
-  pub fits : IsFirst accepted (fitting limit puts)
-  pub covers : IsFirst (told_taken limit puts) accepted
+  pub fits : IsFront accepted (fitting limit puts)
+  pub covers : IsFront (told_taken limit puts) accepted
   pub exact : (accepted ≡ told_taken limit puts) ⊎ OneMore limit puts accepted
 
 -- a put with the units that the client submitted for it, and how it was told

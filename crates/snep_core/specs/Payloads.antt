@@ -1,12 +1,14 @@
 -- What a server accepts on a link, by the payloads alone.
 use Rattle.std.specs.Prelude.{◌≡◌, ◌<◌, ℕ, ◌==◌, List, [], ◌∷◌, ◌++◌, None, if◌then◌else◌}
+use Rattle.llcp_conn.specs.Window.{IsFront}
 use Rattle.llcp_link.specs.State.{LlcState, restarted}
 use Rattle.llcp_link.specs.Taking.{Item, brought, steps, taken_from}
 use Rattle.llcp_link.specs.Units.{Mark, marks, units}
 use Rattle.llcp_link.specs.Running.{Acted, AreBytes, IsRun, end_of, marks_of}
 use Rattle.llcp_link.specs.Answering.{Answers, Stops}
 use Rattle.snep_core.specs.Puts.{Puts}
-use Rattle.snep_core.specs.Server.{Received, ServerState, sap_count, serving}
+use Rattle.snep_core.specs.Server.{Received, ServerState, serving}
+use Rattle.llcp_pdu.specs.Wire.{sap_count}
 use Rattle.snep_core.specs.Session.{Offer}
 
 -- the units of connections, one after the other, put these messages
@@ -59,10 +61,6 @@ end_there begin p = steps serving (end_of begin p.before) p.came
 
 abbrev pub marks_there : ℕ → (begin : LlcState ServerState) → Place begin → List Mark
 marks_there c begin p = marks_of serving c begin p.before ++ marks serving c (end_of begin p.before) p.came
-
--- these are the first of those
-abbrev pub IsFront : List Received → List Received → Type 0
-IsFront front all = (rest : List Received) × (all ≡ front ++ rest)
 
 -- At each PDU of the payloads, what is accepted until there is what the PDUs until there put, and the first of what is
 -- accepted until the payload's end and whatever is done then. So messages are accepted in the order in which the units

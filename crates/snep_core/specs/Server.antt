@@ -1,6 +1,7 @@
 -- A SNEP server as the service of an end (NFC Forum SNEP 1.0; its limit and its table for get are this project's own).
 use Rattle.std.specs.Prelude.{◌≡◌, ◌≤◌, ℕ, ◌-◌, List, [], ◌∷◌, ◌++◌, length, map, replicate, set, get_or, nat_eq, Option, Some, None, option_map, suc, if◌then◌else◌}
 use Rattle.std.specs.Cmp.Lexicographic.{pointwise}
+use Rattle.llcp_pdu.specs.Wire.{sap_count}
 use Rattle.llcp_link.specs.Serving.{Serving}
 use Rattle.snep_core.specs.Session.{Session, fresh_session, Offer, Did, did, sent}
 
@@ -15,10 +16,6 @@ pub record ServerState : Type 0 where
   pub table : List Offer
   pub accepted : List Received
   pub sessions : List Session
-
--- how many SAPs there are
-abbrev pub sap_count : ℕ
-sap_count = 64
 
 -- the limits that a server may have
 abbrev pub IsLimit : ℕ → Type 0

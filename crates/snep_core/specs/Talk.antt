@@ -10,7 +10,7 @@ use Rattle.llcp_link.specs.Names.{own_params}
 use Rattle.llcp_link.specs.State.{LlcState, OwnState, own_from, with_own}
 use Rattle.llcp_link.specs.declared.standing.Standing.{Standing}
 use Rattle.llcp_link.specs.declared.standing.Standing.TheVariants as stands
-use Rattle.llcp_link.specs.Asking.{acked_of, asked_from, disconnected_by, forgotten, found_in, has_waiting_of, is_busy_by, is_open_by, looked_up, put_own, refusal_of, request, standing_of, submitted_by}
+use Rattle.llcp_link.specs.Asking.{first_sap, acked_of, asked_from, disconnected_by, forgotten, found_in, has_waiting_of, is_busy_by, is_open_by, looked_up, put_own, refusal_of, request, standing_of, submitted_by}
 use Rattle.llcp_link.specs.Taking.{taken_from}
 use Rattle.llcp_link.specs.Giving.{given, after_giving}
 use Rattle.snep_core.specs.declared.silent.NoService.{NoService}
@@ -35,7 +35,7 @@ EndState = LlcState NoService
 
 -- the SAP of a client's end, and that of a server
 abbrev pub client_sap : ℕ
-client_sap = 32
+client_sap = first_sap
 
 abbrev pub server_sap : ℕ
 server_sap = 4

@@ -19,13 +19,13 @@ use crate::server::SNEP_SAP;
 use crate::silent::NoService;
 use crate::slot::Slots;
 use bytes::Bytes;
-use llcp_link::{Counts, Llc, LlcFault, Standing};
+use llcp_link::{Counts, FIRST_SAP, Llc, LlcFault, Standing};
 use nfc_base::{Answerer, Carrier, Items};
 use std::alloc::Global;
 use std::marker::Model;
 
 /// The SAP of this end from which a client connects.
-pub const CLIENT_SAP: u8 = 32;
+pub const CLIENT_SAP: u8 = FIRST_SAP;
 
 /// The SAPs of its slots.
 const CLIENT_SAPS: [u8; 8] = [32, 33, 34, 35, 36, 37, 38, 39];

@@ -1,6 +1,7 @@
 //! The server: its table for get, what it accepted, and its sessions.
 
 ghost use Rattle.std.specs.Prelude.{◌≡◌, ◌<◌, ◌≤◌, ◌^◌, length, OnOk, OnErr, [], ◌∷◌, ◌++◌};
+ghost use Rattle.llcp_pdu.specs.Wire.{sap_count};
 ghost use Rattle.snep_core.specs.Session.{AreShort};
 ghost use Rattle.snep_core.specs.Server.{IsLimit, fresh_server, offered, padded, place_of as place_under, messages_of, sources_of};
 
@@ -30,7 +31,8 @@ pub struct Server {
 impl Model for Server {
     ghost use Rattle.std.specs.Prelude.{◌≡◌, ◌≤◌, length};
     ghost use Rattle.snep_core.specs.Session.{AreShort};
-    ghost use Rattle.snep_core.specs.Server.{ServerState, sap_count, padded, from_sources};
+    ghost use Rattle.snep_core.specs.Server.{ServerState, padded, from_sources};
+    ghost use Rattle.llcp_pdu.specs.Wire.{sap_count};
 
     ghost Value = { ServerState };
 
@@ -169,10 +171,10 @@ fn place_of(table: &[Offer], key: &[u8]) -> Option<usize>
 
 /// Sessions up to this place: those that weren't there are as at first.
 fn make_room(alloc: Global, sessions: &mut Vec<Session>, place: usize) -> Result<(), AllocError>
-    requires place { place < 64 }
-    requires few { length sessions.old.items ≤ 64 }
+    requires place { place < sap_count }
+    requires few { length sessions.old.items ≤ sap_count }
     ensures same { padded sessions.new.items ≡ padded sessions.old.items }
-    ensures few { length sessions.new.items ≤ 64 }
+    ensures few { length sessions.new.items ≤ sap_count }
     ensures room { OnOk result (place < length sessions.new.items) }
 {
     while sessions.len() <= place {

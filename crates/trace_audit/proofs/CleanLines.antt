@@ -23,7 +23,8 @@ use Rattle.bench_world.specs.declared.entry.RawHeard.{RawHeard}
 use Rattle.bench_world.specs.declared.entry.RawHeard.TheVariants as heard
 use Rattle.bench_world.specs.declared.entry.SlotDone.{SlotDone}
 use Rattle.bench_world.specs.declared.entry.Seen.{Seen}
-use Rattle.bench_world.specs.Report.{access_text, answer_text, client_sap, code_text, event_text, fate_text, found_text, heard_text, inbox_text, kind_text, loss_text, outcome_text, received_text, reply_text, seen_text, sent_text, slot_done_text, source_text, tag_text, tags_text}
+use Rattle.bench_world.specs.Report.{access_text, answer_text, code_text, event_text, fate_text, found_text, heard_text, inbox_text, kind_text, loss_text, outcome_text, received_text, reply_text, seen_text, sent_text, slot_done_text, source_text, tag_text, tags_text}
+use Rattle.snep_core.specs.Talk.{client_sap}
 
 -- whether no LF is in the text
 abbrev is_clean : List ℕ → Bool

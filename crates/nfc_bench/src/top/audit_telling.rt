@@ -15,12 +15,10 @@ use arrayvec::ArrayVec;
 use bench_world::Bench;
 use nfc_base::Items;
 use nfc_io::{Failed, Sink, write_all};
+use snep_core::CLIENT_SAP;
 
 /// How many bytes one piece brings the digits of at most.
 const MOST_BYTES: usize = 320;
-
-/// The SAP from which a reader's client connects, which a line leaves out.
-const CLIENT_SAP: u8 = 32;
 
 const DIGITS: &[u8; 16] = b"0123456789ABCDEF";
 

@@ -1,7 +1,8 @@
 use Rattle.std.proofs.Common.{rules, ◌≡◌, ◌<◌, ◌+◌, List, [], ◌∷◌, ◌++◌, length, ◌∙◌, ap, arith}
 use Rattle.std.proofs.lemmas.List.{length-append}
 use Rattle.snep_core.specs.Session.{Session, fresh_session}
-use Rattle.snep_core.specs.Server.{padded, sap_count}
+use Rattle.snep_core.specs.Server.{padded}
+use Rattle.llcp_pdu.specs.Wire.{sap_count}
 use Rattle.snep_core.proofs.Sessions.{padded_more}
 use Rattle.snep_core.proofs.server.make_room.Goals as goal
 

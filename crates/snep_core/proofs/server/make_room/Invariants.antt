@@ -1,5 +1,6 @@
 use Rattle.std.proofs.Common.{◌≡◌, ◌≤◌, ◌-◌, length}
-use Rattle.snep_core.specs.Server.{padded, sap_count}
+use Rattle.snep_core.specs.Server.{padded}
+use Rattle.llcp_pdu.specs.Wire.{sap_count}
 use Rattle.snep_core.proofs.server.make_room.Given as goal
 
 abbrev pub invariant-loop-alloc : goal.invariant-loop-alloc

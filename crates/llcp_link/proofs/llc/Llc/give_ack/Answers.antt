@@ -1,7 +1,7 @@
 use Rattle.std.proofs.Common.{rules, ◌≡◌, ◌<◌, ◌≤◌, ◌-◌, ◌+◌, Some, None, sym, ap, subst, ◌∙◌, arith}
 use Rattle.llcp_link.specs.Giving.{first_from, first_of_all, acknowledges}
 use Rattle.llcp_link.specs.Offering.{IsLonger, part_of}
-use Rattle.llcp_link.specs.State.{sap_count}
+use Rattle.llcp_pdu.specs.Wire.{sap_count}
 use Rattle.llcp_link.proofs.Circle.{ends_at, found_here, goes_round, longer_here}
 use Rattle.llcp_link.proofs.llc.Llc.give_ack.Goals as goal
 

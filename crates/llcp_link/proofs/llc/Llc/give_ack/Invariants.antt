@@ -1,7 +1,7 @@
 use Rattle.std.proofs.Common.{◌≡◌, ◌-◌}
 use Rattle.llcp_conn.specs.Conn.{IsSap}
 use Rattle.llcp_link.specs.Giving.{acknowledges, first_from, first_of_all}
-use Rattle.llcp_link.specs.State.{sap_count}
+use Rattle.llcp_pdu.specs.Wire.{sap_count}
 use Rattle.llcp_link.proofs.llc.Llc.give_ack.Given as goal
 
 abbrev pub invariant-clients : goal.invariant-clients

@@ -2,7 +2,7 @@ use Rattle.std.proofs.Common.{rules, ◌≡◌, ◌<◌, ◌≤◌, ◌-◌, ◌
 use Rattle.llcp_link.specs.Giving.{first_from, first_of_all, informs}
 use Rattle.llcp_link.specs.Offering.{IsLonger, LeavesNext, Tried, part_of}
 use Rattle.llcp_link.specs.declared.giving.Next.TheVariants.{Given, Nothing, TooLong}
-use Rattle.llcp_link.specs.State.{sap_count}
+use Rattle.llcp_pdu.specs.Wire.{sap_count}
 use Rattle.llcp_link.proofs.Circle.{ends_at, found_here, goes_round, longer_here, next_left}
 use Rattle.llcp_link.proofs.llc.Llc.give_unit.Goals as goal
 

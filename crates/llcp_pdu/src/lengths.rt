@@ -1,14 +1,14 @@
 //! How many bytes PDUs have.
 
-ghost use Rattle.std.specs.Prelude.{◌≡◌, ◌≤◌, length};
+ghost use Rattle.std.specs.Prelude.{◌≡◌, ◌<◌, length};
 ghost use Rattle.llcp_pdu.specs.Writing.{tlv_of, params_bytes, part_bytes};
-ghost use Rattle.llcp_link.specs.Kept.{IsSent};
 
-use llcp_pdu::{Param, Part};
+use crate::param::Param;
+use crate::part::Part;
 
 /// The bytes of a parameter's value.
 fn value_len(param: &Param) -> usize
-    requires { length (tlv_of param.now).value ≤ 2178 }
+    requires { length (tlv_of param.now).value < 65536 }
     ensures { result ≡ length (tlv_of param.now).value }
 {
     match param {
@@ -21,7 +21,7 @@ fn value_len(param: &Param) -> usize
 
 /// The bytes of parameters.
 fn params_len(params: &[Param]) -> usize
-    requires { length (params_bytes params.now) ≤ 2178 }
+    requires { length (params_bytes params.now) < 65536 }
     ensures { result ≡ length (params_bytes params.now) }
 {
     let mut total = 0;
@@ -31,9 +31,9 @@ fn params_len(params: &[Param]) -> usize
     total
 }
 
-/// The bytes of a PDU that goes alone.
-pub(crate) fn part_len(part: &Part) -> usize
-    requires { IsSent part.now }
+/// How many bytes a PDU has, of which none is written.
+pub fn part_len(part: &Part) -> usize
+    requires { length (part_bytes part.now) < 65536 }
     ensures { result ≡ length (part_bytes part.now) }
 {
     match part {
