@@ -3,7 +3,7 @@
 ghost use Rattle.std.specs.Prelude.{◌≡◌, IfOk};
 ghost use Rattle.tag_reader.specs.Heard.{IsOf};
 ghost use Rattle.tag_writer.specs.declared.phase.Phase.TheVariants as phases;
-ghost use Rattle.tag_writer.specs.Commands.{IsFit};
+ghost use Rattle.tag_writer.specs.Commands.{IsFit, IsFit-prop};
 ghost use Rattle.tag_writer.specs.Ends.{EndsPhase};
 ghost use Rattle.tag_writer.specs.Phases.{how_of};
 
@@ -33,21 +33,21 @@ pub struct Stopped {
 #[derive(Debug, Drop)]
 pub struct Prepared {
     pub(crate) work: Work,
-    ghost fit: { IsFit work },
+    ghost fit: { IsFit work } by { IsFit-prop work },
 }
 
 /// The tag holds the empty message.
 #[derive(Debug, Drop)]
 pub struct Emptied {
     pub(crate) work: Work,
-    ghost fit: { IsFit work },
+    ghost fit: { IsFit work } by { IsFit-prop work },
 }
 
 /// All but the length's block or field is new.
 #[derive(Debug, Drop)]
 pub struct Filled {
     pub(crate) work: Work,
-    ghost fit: { IsFit work },
+    ghost fit: { IsFit work } by { IsFit-prop work },
 }
 
 /// The tag holds the new message.
