@@ -17,13 +17,11 @@ use crate::fault::ReadFault;
 use arrayvec::ArrayVec;
 use nfc_base::{Frame, Tech};
 use t2t_tag::T2Answer;
+use t4t_tag::DONE;
 use t5t_tag::{NO_BLOCK, T5Answer};
 
-/// The status bytes of a Type 4 tag that obeyed a command (ISO/IEC 7816-4).
-const DONE: [u8; 2] = [0x90, 0x00];
-
 /// How many bytes a block has at least, so that a container of four bytes lies in the first.
-const CONTAINER_SIZE: usize = 4;
+const LEAST_BLOCK: usize = 4;
 
 /// What the answer of a Type 2 tag tells: the four blocks that a READ asks for. It may refuse too, and no such tag answers
 /// anything else.
@@ -56,7 +54,7 @@ fn is_blocks(ask: &Ask, size: usize, content: usize) -> bool
     ensures { (bytes : List ℕ) → length bytes ≡ content → (result ≡ true) ↔ IsBlocks size ask.now bytes }
 {
     if size == 0 {
-        return CONTAINER_SIZE <= content;
+        return LEAST_BLOCK <= content;
     }
     match ask {
         Ask::One { block: _ } => content == size,

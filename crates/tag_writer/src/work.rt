@@ -17,16 +17,10 @@ use crate::phase::Phase;
 use arrayvec::ArrayVec;
 use nfc_base::{Frame, Items, Tech};
 use t2t_tag::T2Command;
-use t4t_tag::T4Command;
-use t5t_tag::T5Command;
+use t4t_tag::{NLEN_SIZE, T4Command};
+use t5t_tag::{SHORT_NUMBERS, T5Command};
 use tag_reader::How;
 use tlv_area::{Plan, Step};
-
-/// How many blocks numbers of one byte can name.
-const SHORT_NUMBERS: u16 = 256;
-
-/// How many bytes of a file say how long its message is; the message stands behind them.
-pub const LENGTH_SIZE: u16 = 2;
 
 /// What is written to a tag.
 #[derive(Debug, Drop)]
@@ -36,8 +30,8 @@ pub enum Work {
         how: How,
         plan: Plan,
     },
-    /// To the file of a Type 4 tag: the message, the most bytes of it that one update brings, and whether the length has
-    /// to become 0 first.
+    /// To the file of a Type 4 tag: the message, the most bytes of it that one update brings, as MLc allows, and whether
+    /// NLEN has to become 0 first.
     File {
         message: Items<u8>,
         most: u16,
@@ -135,7 +129,7 @@ fn piece_frame(message: &[u8], most: u16, index: usize) -> Frame
 {
     let taken = most as usize * index;
     let end = message.len().min(taken + most as usize);
-    update_frame(LENGTH_SIZE + taken as u16, &message[taken..end])
+    update_frame(NLEN_SIZE + taken as u16, &message[taken..end])
 }
 
 /// The update that is the `index`-th behind a phase.
