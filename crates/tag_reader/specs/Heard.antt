@@ -9,7 +9,7 @@ use Rattle.nfc_base.specs.declared.tag_link.AskFault.TheVariants as ask
 use Rattle.t2t_tag.specs.Spelling as t2
 use Rattle.t2t_tag.specs.declared.command.T2Command.TheVariants as t2_command
 use Rattle.t2t_tag.specs.declared.answer.T2Answer.TheVariants as t2_says
-use Rattle.t4t_tag.specs.Store.{most_read, file_id, container_id}
+use Rattle.t4t_tag.specs.Store.{file_id, container_id}
 use Rattle.t4t_tag.specs.Step.{done}
 use Rattle.t4t_tag.specs.declared.command.T4Command.{T4Command}
 use Rattle.t4t_tag.specs.declared.command.T4Command.TheVariants.{SelectApplication, SelectFile, ReadBinary, UpdateBinary}
@@ -33,7 +33,7 @@ use Rattle.tag_reader.specs.declared.found.Site.TheVariants.{File}
 use Rattle.tag_reader.specs.declared.found.Found.{Found}
 use Rattle.tag_reader.specs.declared.ask.Ask.{Ask}
 use Rattle.tag_reader.specs.Blocks.{ask_frame, ask_count, next_ask, IsOne, IsMany}
-use Rattle.tag_reader.specs.Files.{message_length, file_frame}
+use Rattle.tag_reader.specs.Files.{most_of, message_length, file_frame}
 use Rattle.tag_reader.specs.Kinds.{area_of, kind_of, IsNamed}
 use Rattle.tag_reader.specs.Calls.{ByLink}
 use Rattle.tag_reader.specs.Reading.{IsSite}
@@ -45,10 +45,7 @@ pub record IsOf (how : How) (v : LinkView) : Type 0 where
 
 -- The command of a Type 4 tag that follows some pieces: SELECT of the application and of the container, a read of the
 -- container, SELECT of the NDEF file that it names, a read of the message's length, and then reads of the message, each of
--- as many bytes as the container allows (MLe), but at most 255, or of those that are left.
-abbrev pub most_of : List ℕ → ℕ
-most_of head = min (most_read head) 255
-
+-- as many bytes as a read may ask for, or of those that are left.
 abbrev pub file_next : List (List ℕ) → T4Command
 file_next [] = SelectApplication
 file_next (a ∷ []) = SelectFile container_id

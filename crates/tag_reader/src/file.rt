@@ -7,7 +7,7 @@ ghost use Rattle.tlv_area.specs.Containers.{t4_container};
 ghost use Rattle.tag_reader.specs.declared.how.How.TheVariants as hows;
 ghost use Rattle.tag_reader.specs.Asked.{Aim, ToRead, IsNextFor};
 ghost use Rattle.tag_reader.specs.Files.{file_command, message_length, most_asked};
-ghost use Rattle.t4t_tag.specs.Spelling.{IsT4Command};
+ghost use Rattle.t4t_tag.specs.Spelling.{IsT4Command, most_per_command};
 ghost use Rattle.tag_reader.specs.Heard.{IsOf, HasSize, IsToldBy, file_next};
 ghost use Rattle.tag_reader.specs.HeardSteps.{IsCut, Under, OrFault, HasSelected, Opened, Measured, ReadAll};
 ghost use Rattle.tag_reader.specs.Kinds.{OfTag};
@@ -194,8 +194,8 @@ fn read_message<T: TagLink>(
 ) -> Result<Vec<u8>, ReadFault>
     requires ready { T.ready link.old }
     requires of { IsOf hows.T4 (T.seen link.old) }
-    requires measured { (a : LinkView) × (m : Map) × Measured a (T.seen link.old) m length × (most ≡ min m.mle 255) }
-    ensures brings { (a : LinkView) (m : Map) → Measured a (T.seen link.old) m length → most ≡ min m.mle 255 →
+    requires measured { (a : LinkView) × (m : Map) × Measured a (T.seen link.old) m length × (most ≡ min m.mle most_per_command) }
+    ensures brings { (a : LinkView) (m : Map) → Measured a (T.seen link.old) m length → most ≡ min m.mle most_per_command →
         OrFault (λ message. ReadAll a (T.seen link.new) m length message.items) hows.T4 a (T.seen link.new) result }
     ensures whole { (size : ℕ) (a : LinkView) (m : Map) → IsMeasured ToRead size a (T.seen link.old) m length →
         most ≡ most_asked a.state.store →

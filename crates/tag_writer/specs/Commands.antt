@@ -4,7 +4,7 @@ use Rattle.std.specs.Int.{div_ceil}
 use Rattle.std.specs.List.{range_with_len, AllByRecursion, AllByRecursion-prop}
 use Rattle.std.specs.Coded.{×_prop, Unit-prop, le_prop, Coded-set, coded_ℕ}
 use Rattle.nfc_base.specs.Signal.{Signal, whole_a}
-use Rattle.t4t_tag.specs.Spelling.{high_first, offset_end}
+use Rattle.t4t_tag.specs.Spelling.{high_first, most_per_command, offset_end}
 use Rattle.t4t_tag.specs.declared.command.T4Command.TheVariants.{UpdateBinary}
 use Rattle.tlv_area.specs.declared.step.Step.{Step}
 use Rattle.tlv_area.specs.Writing.{steps_of}
@@ -49,7 +49,7 @@ command_at (c ∷ cs) (suc k) = command_at cs k
 -- Each of them can be spelled.
 abbrev pub IsFit : Work → Type 0
 IsFit (Blocks how plan) = AllByRecursion (IsStepFor how) (steps_of plan)
-IsFit (File message most close) = (1 ≤ most) × ((most ≤ 255) × (2 + length message ≤ offset_end))
+IsFit (File message most close) = (1 ≤ most) × ((most ≤ most_per_command) × (2 + length message ≤ offset_end))
 
 -- A phase keeps it as a fact, which has one proof at most.
 IsStepFor-prop : (how : How) (s : Step) → IsProp (IsStepFor how s)

@@ -2,7 +2,7 @@
 
 ghost use Rattle.std.specs.Prelude.{◌≡◌, ◌+◌, ◌*◌, ◌<◌, ◌≤◌, ℕ, Bool, length};
 ghost use Rattle.std.specs.List.{AllByRecursion};
-ghost use Rattle.t4t_tag.specs.Spelling.{offset_end};
+ghost use Rattle.t4t_tag.specs.Spelling.{most_per_command, offset_end};
 ghost use Rattle.t4t_tag.specs.declared.command.T4Command.TheVariants as t4;
 ghost use Rattle.tag_reader.specs.declared.how.How.{How};
 ghost use Rattle.tag_reader.specs.declared.how.How.TheVariants as hows;
@@ -113,7 +113,7 @@ fn step_count(plan: &Plan, phase: Phase) -> usize
 fn update_frame(offset: u16, bytes: &[u8]) -> Frame
     requires offset { offset < offset_end }
     requires some { 1 ≤ length bytes.now }
-    requires most { length bytes.now ≤ 255 }
+    requires most { length bytes.now ≤ most_per_command }
     ensures { result ≡ file_frame (t4.UpdateBinary offset (record { items = bytes.now })) }
 {
     let mut content = ArrayVec::new();
@@ -135,7 +135,7 @@ fn piece_frame(message: &[u8], most: u16, index: usize) -> Frame
 /// The update that is the `index`-th behind a phase.
 fn update_at(message: &[u8], most: u16, phase: Phase, index: usize) -> Frame
     requires some { 1 ≤ most }
-    requires few { most ≤ 255 }
+    requires few { most ≤ most_per_command }
     requires small { 2 + length message.now ≤ offset_end }
     requires low { (close : Bool) × (index < length (updates_in phase message.now most close)) }
     ensures { (close : Bool) → index < length (updates_in phase message.now most close) →
