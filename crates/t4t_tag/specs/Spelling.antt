@@ -35,6 +35,10 @@ offset_end = 0x8000
 abbrev pub high_first : ℕ → List ℕ
 high_first word = word / 256 ∷ word % 256 ∷ []
 
+-- the most bytes that one command asks for or brings, by a number of one byte, Le or Lc; Le 00h stands for 256
+abbrev pub most_per_command : ℕ
+most_per_command = 255
+
 -- Which commands are in range.
 abbrev pub IsT4Command : T4Command → Type 0
 IsT4Command SelectApplication = Unit {0}

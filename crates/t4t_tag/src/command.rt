@@ -17,6 +17,9 @@ pub(crate) const UPDATE_BINARY: u8 = 0xD6;
 /// The name of the NDEF application.
 pub(crate) const APPLICATION: [u8; 7] = [0xD2, 0x76, 0x00, 0x00, 0x85, 0x01, 0x01];
 
+/// The most bytes that one command asks for or brings: their number, Le or Lc, is one byte, and Le 00h stands for 256.
+pub const MOST_PER_COMMAND: u16 = 255;
+
 /// A command (NFC Forum Type 4 Tag; ISO/IEC 7816-4). Offsets are below 8000h. A read asks for at least one byte, and an
 /// update brings at least one.
 #[derive(Clone, Debug, Drop, PartialEq, Eq)]

@@ -9,6 +9,6 @@ mod command;
 mod current;
 mod tag;
 
-pub use command::T4Command;
+pub use command::{MOST_PER_COMMAND, T4Command};
 pub use current::CurrentFile;
-pub use tag::{CONTAINER_ID, MOST_CODE, StoreFault, T4Tag, named_size};
+pub use tag::{CONTAINER_ID, DONE, MOST_CODE, NLEN_SIZE, StoreFault, T4Tag, named_size};

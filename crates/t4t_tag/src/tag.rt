@@ -46,8 +46,11 @@ const EVERYONE: u8 = 0x00;
 /// The first offset that isn't allowed: its highest bit would name a file.
 const OFFSET_END: usize = 0x8000;
 
-/// The status bytes that end an answer (ISO/IEC 7816-4).
-const DONE: [u8; 2] = [0x90, 0x00];
+/// How many bytes of an NDEF file are NLEN, which says how long the message is that stands behind them.
+pub const NLEN_SIZE: u16 = 2;
+
+/// The status bytes that end the answer to a command that was obeyed (ISO/IEC 7816-4), and to one that wasn't.
+pub const DONE: [u8; 2] = [0x90, 0x00];
 
 const WRONG_LENGTH: [u8; 2] = [0x67, 0x00];
 

@@ -46,6 +46,10 @@ read_wide_code = 0x30
 abbrev pub write_wide_code : ℕ
 write_wide_code = 0x31
 
+-- how many blocks numbers of one byte can name
+abbrev pub short_numbers : ℕ
+short_numbers = 256
+
 -- a block number of two bytes, low byte first
 abbrev pub wide : ℕ → List ℕ
 wide block = block % 256 ∷ block / 256 ∷ []

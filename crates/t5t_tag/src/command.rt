@@ -35,6 +35,9 @@ pub(crate) const READ_WIDE: u8 = 0x30;
 
 pub(crate) const WRITE_WIDE: u8 = 0x31;
 
+/// How many blocks numbers of one byte can name: READ SINGLE BLOCK and WRITE SINGLE BLOCK name each further one by two.
+pub const SHORT_NUMBERS: u16 = 256;
+
 /// A command (NFC Forum Type 5 Tag; ISO/IEC 15693-3). Identifiers have their high byte first; a command with one is
 /// addressed to that tag alone.
 #[derive(Clone, Debug, Drop, PartialEq, Eq)]

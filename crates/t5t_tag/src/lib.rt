@@ -12,6 +12,6 @@ mod round;
 mod tag;
 
 pub use answer::T5Answer;
-pub use command::T5Command;
+pub use command::{SHORT_NUMBERS, T5Command};
 pub use round::Round;
 pub use tag::{NO_BLOCK, StoreFault, T5Tag};

@@ -21,6 +21,7 @@ use Rattle.tag_reader.specs.HeardSteps.{Under}
 use Rattle.tag_reader.specs.BlockSteps.{TellsBlocks, IsKnown, GainsBlocks, EndsBlocks, Grows}
 use Rattle.tag_reader.proofs.Bringing.{under_brings, under_stops, memory_ends, under_left}
 use Rattle.tag_reader.proofs.OneForm.{five_least}
+use Rattle.tag_reader.proofs.Refusals.{error_refuses, refuses_t5}
 use Rattle.tag_reader.proofs.BlockLists.{many_single}
 
 -- what is asked
@@ -47,7 +48,7 @@ blocks_fault id a b c ps f r (fault.Refused code) u is answer tells = record {
   ps = ps;
   r = r;
   stopped = under_stops (T5 id) a b c ps f r u is answer;
-  refuses = tells.1;
+  refuses = error_refuses id r code tells.1;
   last = tells.0;
   ends = λ ends. (let least = five_least id a.step a.state ps u.brought.pieces ends.0 in tells.2 (omega (arith, least)) (one_error r code no_block tells.1 ends.2));
 }
@@ -55,7 +56,7 @@ blocks_fault id a b c ps f r fault.Protocol u is answer tells = inl (record {
   ps = ps;
   r = r;
   stopped = under_stops (T5 id) a b c ps f r u is answer;
-  odd = record { no_piece = λ p brings. none p brings; no_refusal = tells.1 };
+  odd = record { no_piece = λ p brings. none p brings; no_refusal = λ code refuses. tells.1 code (refuses_t5 id r code refuses) };
 })
   where
     none : (p : List ℕ) → Brings (T5 id) ps r p → ⊥

@@ -1,7 +1,6 @@
 -- The pieces that a tag brings, whatever it does, and how a reading of it ends.
 use Rattle.std.proofs.Common.{◌≡◌, ◌⊎◌, ℕ, ◌<◌, inl, inr, List, [], ◌∷◌, ◌++◌, length, drop, true, None, Some, Err, refl, sym, ◌∙◌, ap, subst, append_assoc, append-nil, arith}
-use Rattle.std.proofs.lemmas.List.{append_cancel_right, length-append}
-use Rattle.std.proofs.Math.Seq.{drop-append_seam}
+use Rattle.std.proofs.lemmas.List.{append_cancel_right}
 use Rattle.nfc_base.specs.Signal.{Signal}
 use Rattle.nfc_base.specs.declared.tag_link.AskFault.{AskFault}
 use Rattle.nfc_base.specs.declared.tag_link.AskFault.TheVariants as ask
@@ -21,6 +20,7 @@ use Rattle.tag_reader.specs.Heard.{ask_behind, BringsPiece, EndsTag, IsLast, nex
 use Rattle.tag_reader.specs.HeardSteps.{HasNoForm, Went, Under}
 use Rattle.tag_reader.specs.SurveyHeard.{surveyed_by, IsLeftBy}
 use Rattle.tag_reader.proofs.Links.{began, began_by}
+use Rattle.tag_reader.proofs.Refusals.{refuses_t2, told_t4, error_refuses, refuses_t5}
 
 -- one piece more
 pub before_more : (before : List (List ℕ)) (q : List ℕ) (qs : List (List ℕ)) → (before ++ q ∷ []) ++ qs ≡ before ++ (q ∷ qs)
@@ -157,24 +157,16 @@ under_none how a = record {
 }
 
 -- an answer has one content, and none that has content refuses
-pub front_cut : (p q xs ys : List ℕ) → p ++ xs ≡ q ++ ys → length xs ≡ length ys → xs ≡ ys
-front_cut p q xs ys e same =
-    let long : length p ≡ length q = omega (arith, ap length e, length-append p xs, length-append q ys, same) in
-    sym (drop-append_seam p xs) ∙ ap (λ zs. drop (length p) zs) e ∙ ap (λ n. drop n (q ++ ys)) long ∙ drop-append_seam q ys
-
 pub content_one : (how : How) (r : Signal) (p q : List ℕ) → HasContent how r p → HasContent how r q → q ≡ p
 content_one T2 r p q is other = ap (λ f. f.bytes) (sym other.1 ∙ is.1)
 content_one T4 r p q is other = append_cancel_right q p done (ap (λ f. f.bytes) (sym other.0 ∙ is.0))
 content_one (T5 id) r p q is other = ap (λ f. drop 1 f.bytes) (sym other.frame ∙ is.frame)
 
 pub content_free : (how : How) (r : Signal) (p : List ℕ) (code : ℕ) → HasContent how r p → Refuses how r code → ⊥
-content_free T2 r p code is refuses = (let clash : 0 ≡ 4 = ap (λ f. f.tail) (sym is.1 ∙ refuses.0) in omega (arith, clash))
-content_free T4 r p code is refuses =
-    let both : p ++ done ≡ refuses.0 ++ refuses.1 ∷ refuses.2 ∷ [] = ap (λ f. f.bytes) (sym is.0 ∙ refuses.3) in
-    let last : done ≡ refuses.1 ∷ refuses.2 ∷ [] = front_cut p refuses.0 done (refuses.1 ∷ refuses.2 ∷ []) both refl in
-    refuses.4 (cc, cc)
+content_free T2 r p code is refuses = (let clash : 0 ≡ 4 = ap (λ f. f.tail) (sym is.1 ∙ (refuses_t2 r code refuses).0) in omega (arith, clash))
+content_free T4 r p code is refuses = (let none : None ≡ Some code = sym (told_t4 r p 0x90 0x00 is.0) ∙ refuses in cc)
 content_free (T5 id) r p code is refuses =
-    (let clash : 0 ∷ p ≡ 1 ∷ code ∷ [] = ap (λ f. f.bytes) (sym is.frame ∙ refuses) in cc)
+    (let clash : 0 ∷ p ≡ 1 ∷ code ∷ [] = ap (λ f. f.bytes) (sym is.frame ∙ refuses_t5 id r code refuses) in cc)
 
 -- an answer that is no piece
 pub no_piece : (how : How) (ps : List (List ℕ)) (r : Signal) (p : List ℕ) → HasContent how r p → (IsPiece how ps p → ⊥) → IsOdd how ps r
@@ -187,7 +179,7 @@ no_piece how ps r p is none = record { no_piece = λ q brings. by_kind how is no
     by_kind T2 has free q brings = other T2 has free q brings
     by_kind T4 has free q brings = other T4 has free q brings
     by_kind (T5 id) has free q (inl brings) = other (T5 id) has free q brings
-    by_kind (T5 id) has free q (inr falls) = content_free (T5 id) r p falls.code has falls.error
+    by_kind (T5 id) has free q (inr falls) = content_free (T5 id) r p falls.code has (error_refuses id r falls.code falls.error)
 
 pub no_form : (how : How) (ps : List (List ℕ)) (r : Signal) → HasNoForm how r → IsOdd how ps r
 no_form how ps r is = record { no_piece = λ p brings. by_kind how is p brings; no_refusal = is.no_refusal }
@@ -196,7 +188,7 @@ no_form how ps r is = record { no_piece = λ p brings. by_kind how is p brings; 
     by_kind T2 none q brings = none.no_content q brings.content
     by_kind T4 none q brings = none.no_content q brings.content
     by_kind (T5 id) none q (inl brings) = none.no_content q brings.content
-    by_kind (T5 id) none q (inr falls) = none.no_refusal falls.code falls.error
+    by_kind (T5 id) none q (inr falls) = none.no_refusal falls.code (error_refuses id r falls.code falls.error)
 
 pub piece_brings : (how : How) (ps : List (List ℕ)) (r : Signal) (p : List ℕ) → HasContent how r p → IsPiece how ps p → Brings how ps r p
 piece_brings T2 ps r p content piece = record { content = content; piece = piece }
@@ -208,8 +200,8 @@ pub brings_one : (how : How) (ps : List (List ℕ)) (r : Signal) (p q : List ℕ
 brings_one T2 ps r p q is other = content_one T2 r p q is.content other.content
 brings_one T4 ps r p q is other = content_one T4 r p q is.content other.content
 brings_one (T5 id) ps r p q (inl is) (inl other) = content_one (T5 id) r p q is.content other.content
-brings_one (T5 id) ps r p q (inl is) (inr other) = absurd (content_free (T5 id) r p other.code is.content other.error)
-brings_one (T5 id) ps r p q (inr is) (inl other) = absurd (content_free (T5 id) r q is.code other.content is.error)
+brings_one (T5 id) ps r p q (inl is) (inr other) = absurd (content_free (T5 id) r p other.code is.content (error_refuses id r other.code other.error))
+brings_one (T5 id) ps r p q (inr is) (inl other) = absurd (content_free (T5 id) r q is.code other.content (error_refuses id r is.code is.error))
 brings_one (T5 id) ps r p q (inr is) (inr other) = other.none ∙ sym is.none
 
 not_both : (a : Ask) → IsOne a → IsMany a → ⊥
@@ -225,5 +217,5 @@ brings_free (T5 id) ps r p code (inr is) last refuses = not_both (ask_behind ps)
 pub brings_ends : (how : How) (ps : List (List ℕ)) (r : Signal) (p : List ℕ) → Brings how ps r p → EndsTag how ps r → ⊥
 brings_ends T2 ps r p is ends = ends
 brings_ends T4 ps r p is ends = ends
-brings_ends (T5 id) ps r p (inl is) ends = content_free (T5 id) r p no_block is.content ends.2
+brings_ends (T5 id) ps r p (inl is) ends = content_free (T5 id) r p no_block is.content (error_refuses id r no_block ends.2)
 brings_ends (T5 id) ps r p (inr is) ends = not_both (ask_behind ps) ends.1 is.many

@@ -15,7 +15,8 @@ use Rattle.tag_reader.specs.declared.fault.ReadFault.TheVariants as fault
 use Rattle.tag_reader.specs.declared.found.Found.{Found}
 use Rattle.tag_reader.specs.Steps.{of_link}
 use Rattle.tag_reader.specs.Heard.{next_command, asked_for, Brings, Refuses, EndsTag, IsOdd, IsBroughtBy, IsBrought, IsStopped, IsNone, IsRefused, IsOddly, IsToldBy, TellsExactly}
-use Rattle.tag_reader.proofs.Bringing.{before_more, front_cut, brings_one, brings_free}
+use Rattle.tag_reader.proofs.Bringing.{before_more, brings_one, brings_free}
+use Rattle.tag_reader.proofs.Refusals.{error_refuses}
 
 -- an answer is one
 some_one : (o : Option Signal) (r q : Signal) → o ≡ Some r → o ≡ Some q → q ≡ r
@@ -90,20 +91,13 @@ two_stopped how a b ps qs r t is other =
 
 -- an answer refuses with one code
 one_code : (how : How) (r : Signal) (c d : ℕ) → Refuses how r c → Refuses how r d → c ≡ d
-one_code T2 r c d is other = is.1 ∙ sym other.1
-one_code T4 r c d is other =
-    let both : is.0 ++ is.1 ∷ is.2 ∷ [] ≡ other.0 ++ other.1 ∷ other.2 ∷ [] = ap (λ f. f.bytes) (sym is.3 ∙ other.3) in
-    let last : is.1 ∷ is.2 ∷ [] ≡ other.1 ∷ other.2 ∷ [] = front_cut is.0 other.0 (is.1 ∷ is.2 ∷ []) (other.1 ∷ other.2 ∷ []) both refl in
-    let high : is.1 ≡ other.1 = cc in
-    let low : is.2 ≡ other.2 = cc in
-    omega (arith, is.5, other.5, high, low)
-one_code (T5 id) r c d is other = (let both : 1 ∷ c ∷ [] ≡ 1 ∷ d ∷ [] = ap (λ f. f.bytes) (sym is ∙ other) in cc)
+one_code how r c d is other = (let both : Some c ≡ Some d = sym is ∙ other in cc)
 
 -- the error that ends a tag has a code
 pub ends_code : (how : How) (ps : List (List ℕ)) (r : Signal) → EndsTag how ps r → (code : ℕ) × Refuses how r code
 ends_code T2 ps r ends = absurd ends
 ends_code T4 ps r ends = absurd ends
-ends_code (T5 id) ps r ends = (no_block, ends.2)
+ends_code (T5 id) ps r ends = (no_block, error_refuses id r no_block ends.2)
 
 -- what a reading told where the last answer brings no piece
 abbrev Last : How → List (List ℕ) → Signal → Result Found ReadFault → Type 0

@@ -2,6 +2,7 @@ pub mod Walking
 pub mod Bytes
 pub mod Areas
 pub mod Links
+pub mod Refusals
 pub mod Bringing
 pub mod Pieces
 pub mod Looking

@@ -6,6 +6,7 @@ use Rattle.nfc_base.specs.Blocks.{block_of}
 use Rattle.t5t_tag.specs.Store.{blocks_in}
 use Rattle.t5t_tag.specs.Step.{no_block, blocks_of}
 use Rattle.t5t_tag.specs.Spelling as t5
+use Rattle.t5t_tag.specs.Spelling.{short_numbers}
 use Rattle.t5t_tag.specs.declared.command.T5Command.{T5Command}
 use Rattle.t5t_tag.specs.declared.command.T5Command.TheVariants as t5_command
 use Rattle.t5t_tag.specs.declared.answer.T5Answer.{T5Answer}
@@ -22,7 +23,7 @@ use Rattle.tag_reader.specs.declared.ask.Ask.TheVariants.{One, Many}
 
 -- The command: READ SINGLE BLOCK, from block 256 on with a number of two bytes, or READ MULTIPLE BLOCKS.
 abbrev pub ask_command : List ℕ → Ask → T5Command
-ask_command id (One block) = if nat_lt block 256 then t5_command.Read (Some id) block else t5_command.ReadWide (Some id) block
+ask_command id (One block) = if nat_lt block short_numbers then t5_command.Read (Some id) block else t5_command.ReadWide (Some id) block
 ask_command id (Many block more) = t5_command.ReadMany (Some id) block more
 
 abbrev pub ask_frame : List ℕ → Ask → Signal
@@ -44,12 +45,12 @@ IsMany (Many block more) = Unit {0}
 -- How many blocks one command may read from a block on, of an area with this end: as many as have 256 bytes, none past the
 -- area's last block, and none past block 255.
 abbrev pub most_blocks : ℕ → ℕ → ℕ → ℕ
-most_blocks size end block = min (256 / size) (min (blocks_below size end - block) (256 - block))
+most_blocks size end block = min (t5.most_content / size) (min (blocks_below size end - block) (short_numbers - block))
 
 -- What is asked from a block on, by what the container tells. `single` says that the tag refused to give several blocks at once.
 abbrev pub ask_by : ℕ → Bool → ℕ → Result T5Container ContainerFault → Ask
 ask_by size single block (Ok (Ready space wide many)) =
-    if many && not single && nat_lt block 256 then Many block (most_blocks size space.end block - 1) else One block
+    if many && not single && nat_lt block short_numbers then Many block (most_blocks size space.end block - 1) else One block
 ask_by size single block (Ok More) = One block
 ask_by size single block (Err fault) = One block
 

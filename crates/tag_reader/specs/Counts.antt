@@ -5,6 +5,7 @@ use Rattle.std.specs.Int.{div_ceil}
 use Rattle.nfc_base.specs.TagLinks.{LinkView}
 use Rattle.t5t_tag.specs.Store.{blocks_in}
 use Rattle.tlv_area.specs.Containers.{t5_is_open}
+use Rattle.t5t_tag.specs.Spelling.{short_numbers, most_content}
 use Rattle.tag_reader.specs.declared.how.How.{How}
 use Rattle.tag_reader.specs.declared.how.How.TheVariants.{T2, T4, T5}
 use Rattle.tag_reader.specs.declared.ask.Ask.{Ask}
@@ -48,8 +49,8 @@ pub record IsFew (id : List ℕ) (size : ℕ) (store : List ℕ) (n : ℕ) : Typ
   pub once : ((k : ℕ) → k < n → IsRefusedAt size store k → ⊥) → blocks_asked (first_asks size store n) ≡ (progress_at size store n).blocks
   pub singles : slice_index store 3 % 2 ≡ 1 → ((k : ℕ) → k < n → IsRefusedAt size store k → ⊥) →
       (k : ℕ) → k < n → IsOne (ask_at size store (progress_at size store k)) →
-      (t5_is_open (known_at size store (progress_at size store k)) ≡ true) ⊎ (256 ≤ (progress_at size store k).blocks)
-  pub seldom : length (several (first_asks size store n)) ≤ div_ceil (blocks_asked (several (first_asks size store n))) (256 / size)
+      (t5_is_open (known_at size store (progress_at size store k)) ≡ true) ⊎ (short_numbers ≤ (progress_at size store k).blocks)
+  pub seldom : length (several (first_asks size store n)) ≤ div_ceil (blocks_asked (several (first_asks size store n))) (most_content / size)
 
 abbrev pub IsFewOf : How → ℕ → List ℕ → ℕ → Type 0
 IsFewOf T2 size store n = Unit {0}

@@ -5,7 +5,7 @@ use Rattle.nfc_base.specs.Words.{word}
 use Rattle.nfc_base.specs.Signal.{Signal, whole_a}
 use Rattle.nfc_base.specs.TagLinks.{TagFile, NoFile, ContainerFile, NdefFile, TagState, TagStep}
 use Rattle.t4t_tag.specs.Store.{IsT4Store, T4State, store_of, most_read, file_id, file_size, container_id}
-use Rattle.t4t_tag.specs.Spelling.{command_bytes}
+use Rattle.t4t_tag.specs.Spelling.{command_bytes, most_per_command}
 use Rattle.t4t_tag.specs.Step.{t4_answer, t4_after}
 use Rattle.t4t_tag.specs.declared.command.T4Command.{T4Command}
 use Rattle.t4t_tag.specs.declared.command.T4Command.TheVariants.{SelectApplication, SelectFile, ReadBinary}
@@ -45,9 +45,12 @@ file_form (Ok map') file = if nat_lt (map'.size - 2) (message_length file) then 
 abbrev pub t4_form : List ℕ → Form
 t4_form store = file_form (t4_container (container_in store)) (file_in store)
 
--- the most bytes that one read of the message asks for: at most 255, and no more than the container allows (MLe)
+-- the most bytes that one read of the message asks for: no more than one command may, and than the container allows (MLe)
+abbrev pub most_of : List ℕ → ℕ
+most_of container = min (most_read container) most_per_command
+
 abbrev pub most_asked : List ℕ → ℕ
-most_asked store = min (most_read (container_in store)) 255
+most_asked store = most_of (container_in store)
 
 -- the read that is the k-th of the message, counted from 0: the last one asks for what is left
 abbrev pub piece_size : List ℕ → ℕ → ℕ

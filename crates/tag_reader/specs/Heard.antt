@@ -1,20 +1,24 @@
 -- What the answers of a tag tell a reader, whatever the tag does (NFC Forum Type 2, Type 4 and Type 5 Tag): the pieces that
 -- they bring, one a command, which command follows them, and what they say of the message.
-use Rattle.std.specs.Prelude.{◌≡◌, ℕ, zero, suc, ◌+◌, ◌-◌, ◌*◌, ◌<◌, ◌≤◌, ◌⊎◌, ◌↔◌, ◌==◌, min, false, List, [], ◌∷◌, ◌++◌, length, Bool, Some, None, Result, Ok, Err, IsErrOf, IsOkAnd}
+use Rattle.std.specs.Prelude.{◌≡◌, ℕ, zero, suc, ◌+◌, ◌-◌, ◌*◌, ◌<◌, ◌≤◌, ◌⊎◌, ◌↔◌, ◌==◌, ◌&&◌, nat_eq, if◌then◌else◌, min, false, List, [], ◌∷◌, ◌++◌, length, Bool, Option, Some, None, Result, Ok, Err, IsErrOf, IsOkAnd}
+use Rattle.std.specs.Cmp.Lexicographic.{pointwise}
 use Rattle.std.specs.List.{flat_map, list_any}
-use Rattle.nfc_base.specs.Signal.{Signal, whole_a}
+use Rattle.nfc_base.specs.Signal.{Signal, whole_a, is_nfc_a, is_whole_a}
 use Rattle.nfc_base.specs.TagLinks.{TagState, TagStep, LinkView, after_all}
 use Rattle.nfc_base.specs.declared.tag_link.AskFault.TheVariants as ask
 use Rattle.t2t_tag.specs.Spelling as t2
 use Rattle.t2t_tag.specs.declared.command.T2Command.TheVariants as t2_command
 use Rattle.t2t_tag.specs.declared.answer.T2Answer.TheVariants as t2_says
-use Rattle.t4t_tag.specs.Store.{most_read, file_id, container_id}
+use Rattle.t4t_tag.specs.Store.{file_id, container_id}
 use Rattle.t4t_tag.specs.Step.{done}
 use Rattle.t4t_tag.specs.declared.command.T4Command.{T4Command}
 use Rattle.t4t_tag.specs.declared.command.T4Command.TheVariants.{SelectApplication, SelectFile, ReadBinary, UpdateBinary}
 use Rattle.t5t_tag.specs.Spelling as t5
+use Rattle.t5t_tag.specs.Reading.{spelled_answer}
 use Rattle.t5t_tag.specs.Step.{no_block}
+use Rattle.t5t_tag.specs.declared.answer.T5Answer.{T5Answer}
 use Rattle.t5t_tag.specs.declared.answer.T5Answer.TheVariants as t5_says
+use Rattle.t5t_tag.specs.declared.answer.T5Answer.TheVariants.{Error}
 use Rattle.tlv_area.specs.declared.container.ContainerFault.TheVariants as container
 use Rattle.tlv_area.specs.declared.container.FileMap.{FileMap}
 use Rattle.tlv_area.specs.Containers.{t4_container, t5_is_open}
@@ -29,7 +33,7 @@ use Rattle.tag_reader.specs.declared.found.Site.TheVariants.{File}
 use Rattle.tag_reader.specs.declared.found.Found.{Found}
 use Rattle.tag_reader.specs.declared.ask.Ask.{Ask}
 use Rattle.tag_reader.specs.Blocks.{ask_frame, ask_count, next_ask, IsOne, IsMany}
-use Rattle.tag_reader.specs.Files.{message_length, file_frame}
+use Rattle.tag_reader.specs.Files.{most_of, message_length, file_frame}
 use Rattle.tag_reader.specs.Kinds.{area_of, kind_of, IsNamed}
 use Rattle.tag_reader.specs.Calls.{ByLink}
 use Rattle.tag_reader.specs.Reading.{IsSite}
@@ -41,10 +45,7 @@ pub record IsOf (how : How) (v : LinkView) : Type 0 where
 
 -- The command of a Type 4 tag that follows some pieces: SELECT of the application and of the container, a read of the
 -- container, SELECT of the NDEF file that it names, a read of the message's length, and then reads of the message, each of
--- as many bytes as the container allows (MLe), but at most 255, or of those that are left.
-abbrev pub most_of : List ℕ → ℕ
-most_of head = min (most_read head) 255
-
+-- as many bytes as a read may ask for, or of those that are left.
 abbrev pub file_next : List (List ℕ) → T4Command
 file_next [] = SelectApplication
 file_next (a ∷ []) = SelectFile container_id
@@ -124,16 +125,25 @@ Brings T2 ps r p = BringsPiece T2 ps r p
 Brings T4 ps r p = BringsPiece T4 ps r p
 Brings (T5 id) ps r p = BringsPiece (T5 id) ps r p ⊎ FallsBack ps r p
 
--- the status bytes of an answer that refuses: any but 9000h
-abbrev pub IsRefusal : ℕ → ℕ → Type 0
-IsRefusal high low = ((high ≡ 0x90) × (low ≡ 0x00)) → ⊥
+-- The code by which an answer refuses its command, where it does: 0 for the four bits 0h of a Type 2 tag, the status bytes that
+-- end the answer of a Type 4 tag, unless they are 9000h, and the code of an error of a Type 5 tag.
+abbrev pub t4_code : List ℕ → Option ℕ
+t4_code [] = None
+t4_code (byte ∷ []) = None
+t4_code (high ∷ low ∷ []) = if pointwise nat_eq (high ∷ low ∷ []) done then None else Some (high * 256 + low)
+t4_code (byte ∷ bytes) = t4_code bytes
 
--- An answer refuses its command with this code: 0 for the four bits 0h of a Type 2 tag, the code of an error of a Type 5 tag,
--- the status bytes of a Type 4 tag.
+abbrev pub t5_code : Option T5Answer → Option ℕ
+t5_code (Some (Error code)) = Some code
+t5_code answer = None
+
+abbrev pub refusal_of : How → Signal → Option ℕ
+refusal_of T2 r = if is_nfc_a r.tech && (pointwise nat_eq r.bytes (t2.nak ∷ []) && (r.tail == 4)) then Some 0 else None
+refusal_of T4 r = if is_whole_a r then t4_code r.bytes else None
+refusal_of (T5 id) r = t5_code (spelled_answer r)
+
 abbrev pub Refuses : How → Signal → ℕ → Type 0
-Refuses T2 r code = (r ≡ t2.answer_frame t2_says.Refused) × (code ≡ 0)
-Refuses T4 r code = (content : List ℕ) × (high : ℕ) × (low : ℕ) × (r ≡ whole_a (content ++ high ∷ low ∷ [])) × IsRefusal high low × (code ≡ high * 256 + low)
-Refuses (T5 id) r code = r ≡ t5.answer_frame (t5_says.Error code)
+Refuses how r code = refusal_of how r ≡ Some code
 
 -- the error of a block that isn't there, behind the first block: the tag has ended, and refuses nothing
 abbrev pub EndsTag : How → List (List ℕ) → Signal → Type 0

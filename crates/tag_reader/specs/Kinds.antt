@@ -1,7 +1,7 @@
 -- The kinds of tags that a reader knows (NFC Forum Type 2, Type 4 and Type 5 Tag): which stores they have, which area a store
 -- names and what it holds, and which commands ask for its bytes in their order. Files.antt says it of a Type 4 tag.
 use Rattle.std.specs.Prelude.{◌≡◌, ℕ, zero, suc, ◌*◌, List, [], ◌∷◌, ◌++◌, length, Bool, None, Result, Err, ◌<◌, ◌≤◌, slice_index}
-use Rattle.nfc_base.specs.Signal.{Signal, whole_a}
+use Rattle.nfc_base.specs.Signal.{Signal}
 use Rattle.nfc_base.specs.TagLinks.{TagKind, Type2, Type4, Type5, TagState, TagStep, LinkView, MayAsk}
 use Rattle.t2t_tag.specs.Store.{IsT2Store, T2Memory}
 use Rattle.t2t_tag.specs.Step.{four_blocks, t2_answer, t2_after}

@@ -6,14 +6,11 @@ ghost use Rattle.tag_reader.specs.BlockSteps.{CanAsk};
 
 use crate::known::Known;
 use nfc_base::Frame;
-use t5t_tag::T5Command;
+use t5t_tag::{SHORT_NUMBERS, T5Command};
 use tlv_area::{T5Container, container_t5};
 
 /// How many bytes of content an answer has at most.
 const MOST_BYTES: usize = 256;
-
-/// How many blocks numbers of one byte can name.
-const SHORT_NUMBERS: usize = 256;
 
 /// One block, or several from one on: that one and as many more.
 #[derive(Clone, Copy, Debug, PartialEq, Eq)]
@@ -30,7 +27,7 @@ impl Ask {
         let id = Some(id);
         let command = match *self {
             Ask::One { block } => {
-                if block < 256 {
+                if block < SHORT_NUMBERS {
                     T5Command::Read {
                         id,
                         block: block as u8,
@@ -59,7 +56,7 @@ fn most_blocks(size: usize, end: u32, block: usize) -> usize
 {
     let below = (end as usize + size - 1) / size;
     let left = below.saturating_sub(block);
-    (MOST_BYTES / size).min(left.min(SHORT_NUMBERS - block))
+    (MOST_BYTES / size).min(left.min(SHORT_NUMBERS as usize - block))
 }
 
 /// What is asked behind what is known: several blocks at once where the container allows it and the tag didn't refuse it.
@@ -79,7 +76,7 @@ pub fn next_ask(known: &Known) -> Ask
         },
     ) = container_t5(known.bytes.as_slice())
     {
-        if many && !known.single && block < SHORT_NUMBERS {
+        if many && !known.single && block < SHORT_NUMBERS as usize {
             let most = most_blocks(known.size, space.end, block);
             return Ask::Many {
                 block: block as u8,

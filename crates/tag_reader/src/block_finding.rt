@@ -1,10 +1,9 @@
 //! Where the message of a Type 5 tag lies, by as few commands as its container allows.
 
-ghost use Rattle.std.specs.Prelude.{◌≡◌, ◌<◌, ◌≤◌, Bool, [], length, false, IfOk, OnErr};
-ghost use Rattle.tlv_area.specs.Containers.{T5Area, t5_is_open};
+ghost use Rattle.std.specs.Prelude.{◌≡◌, ◌<◌, ◌≤◌, [], length, false, IfOk, OnErr};
+ghost use Rattle.tlv_area.specs.Containers.{t5_is_open};
 ghost use Rattle.tlv_area.specs.Form.{NeedsMore};
 ghost use Rattle.tlv_area.specs.Layout.{IsArea};
-ghost use Rattle.tlv_area.specs.Stores.{t5_reach};
 ghost use Rattle.tag_reader.specs.declared.how.How.TheVariants as hows;
 ghost use Rattle.tag_reader.specs.Asked.{Aim};
 ghost use Rattle.tag_reader.specs.Heard.{IsOf};
@@ -19,28 +18,13 @@ use crate::finding::front;
 use crate::known::Known;
 use nfc_base::TagLink;
 use std::alloc::Global;
-use tlv_area::{AreaMap, Space, T5Container, Walk, Walker, container_t5, find_message};
-
-/// How many blocks numbers of one byte can name, and of two.
-const NAMED_BY_ONE: u32 = 256;
-
-const NAMED_BY_TWO: u32 = 65536;
+use tlv_area::{AreaMap, Space, T5Container, Walk, Walker, container_t5, find_message, reach};
 
 /// Whether the container goes on behind the bytes that are known.
 fn is_open(bytes: &[u8]) -> bool
     ensures { result ≡ t5_is_open bytes.now }
 {
     matches!(container_t5(bytes), Ok(T5Container::More))
-}
-
-/// The area as far as block numbers reach.
-fn reach(space: Space, wide: bool, size: usize) -> Space
-    requires { size ≤ 256 }
-    ensures { (many : Bool) → result ≡ t5_reach size (record { space = space; wide = wide; many = many }) }
-{
-    let named = if wide { NAMED_BY_TWO } else { NAMED_BY_ONE };
-    let end = space.end.min(named * size as u32);
-    Space { end, ..space }
 }
 
 /// Asks for blocks until the container is whole, and tells the area that it names.
@@ -77,7 +61,7 @@ pub fn open_area<T: TagLink>(
             space,
             wide,
             many: _,
-        } => Ok(reach(space, wide, known.size)),
+        } => Ok(reach(&space, wide, known.size)),
         T5Container::More => unreachable!(),
     }
 }

@@ -7,7 +7,7 @@ ghost use Rattle.tlv_area.specs.Containers.{t4_container};
 ghost use Rattle.tag_reader.specs.declared.how.How.TheVariants as hows;
 ghost use Rattle.tag_reader.specs.Asked.{Aim, ToRead, IsNextFor};
 ghost use Rattle.tag_reader.specs.Files.{file_command, message_length, most_asked};
-ghost use Rattle.t4t_tag.specs.Spelling.{IsT4Command};
+ghost use Rattle.t4t_tag.specs.Spelling.{IsT4Command, most_per_command};
 ghost use Rattle.tag_reader.specs.Heard.{IsOf, HasSize, IsToldBy, file_next};
 ghost use Rattle.tag_reader.specs.HeardSteps.{IsCut, Under, OrFault, HasSelected, Opened, Measured, ReadAll};
 ghost use Rattle.tag_reader.specs.Kinds.{OfTag};
@@ -21,17 +21,11 @@ use crate::told::tell_t4;
 use arrayvec::ArrayVec;
 use nfc_base::{Frame, Items, TagLink, Tech};
 use std::alloc::Global;
-use t4t_tag::{CONTAINER_ID, T4Command};
+use t4t_tag::{CONTAINER_ID, MOST_PER_COMMAND, NLEN_SIZE, T4Command};
 use tlv_area::{ContainerFault, FileMap, container_t4};
 
-/// How many bytes of the capability container are read.
-const CONTAINER_SIZE: usize = 15;
-
-/// How many bytes say how long the message is; the message stands behind them.
-const LENGTH_SIZE: u16 = 2;
-
-/// The most bytes that one read asks for. More would be spelled by Le 00h, which stands for 256.
-const MOST_ASKED: u16 = 255;
+/// How many bytes of the capability container (CC) are read.
+const CC_SIZE: usize = 15;
 
 /// Reads the message of a Type 4 tag.
 pub fn read_file<T: TagLink>(alloc: Global, link: &mut T) -> Result<Found, ReadFault>
@@ -46,7 +40,7 @@ pub fn read_file<T: TagLink>(alloc: Global, link: &mut T) -> Result<Found, ReadF
 {
     let map = read_container(alloc, link)?;
     let length = read_length(alloc, link, map)?;
-    let message = read_message(alloc, link, map.mle.min(MOST_ASKED), length)?;
+    let message = read_message(alloc, link, map.mle.min(MOST_PER_COMMAND), length)?;
     Ok(Found {
         message: Items::new(message),
         site: Site::File(map),
@@ -108,7 +102,7 @@ fn file_named(bytes: &[u8]) -> Result<FileMap, ContainerFault>
     requires { length bytes.now ≡ 15 }
     ensures { result ≡ t4_container bytes.now }
 {
-    let mut head = [0; CONTAINER_SIZE];
+    let mut head = [0; CC_SIZE];
     head.copy_from_slice(bytes);
     container_t4(&head)
 }
@@ -149,13 +143,13 @@ pub fn read_container<T: TagLink>(alloc: Global, link: &mut T) -> Result<FileMap
     select_container(alloc, link)?;
     let read = T4Command::ReadBinary {
         offset: 0,
-        count: CONTAINER_SIZE as u8,
+        count: CC_SIZE as u8,
     };
     let bytes = ask_file(alloc, link, &read)?;
     Ok(file_named(bytes.as_slice())?)
 }
 
-/// The number that two bytes are, high first.
+/// The number that the two bytes of NLEN are, high first.
 fn number_of(bytes: &[u8]) -> u16
     requires { length bytes.now ≡ 2 }
     ensures { result ≡ message_length bytes.now }
@@ -163,7 +157,7 @@ fn number_of(bytes: &[u8]) -> u16
     bytes[0] as u16 * 256 + bytes[1] as u16
 }
 
-/// Selects the NDEF file, and reads how long its message is.
+/// Selects the NDEF file, and reads how long its message is (NLEN).
 pub fn read_length<T: TagLink>(alloc: Global, link: &mut T, map: FileMap) -> Result<u16, ReadFault>
     requires ready { T.ready link.old }
     requires of { IsOf hows.T4 (T.seen link.old) }
@@ -181,17 +175,17 @@ pub fn read_length<T: TagLink>(alloc: Global, link: &mut T, map: FileMap) -> Res
     ask_file(alloc, link, &T4Command::SelectFile { id: map.id })?;
     let read = T4Command::ReadBinary {
         offset: 0,
-        count: LENGTH_SIZE as u8,
+        count: NLEN_SIZE as u8,
     };
     let bytes = ask_file(alloc, link, &read)?;
     let length = number_of(bytes.as_slice());
-    if length > map.size - LENGTH_SIZE {
+    if length > map.size - NLEN_SIZE {
         return Err(ReadFault::BadTlv);
     }
     Ok(length)
 }
 
-/// Reads the message in pieces of so many bytes at most.
+/// Reads the message in pieces of so many bytes at most, no more than MLe allows.
 fn read_message<T: TagLink>(
     alloc: Global,
     link: &mut T,
@@ -200,8 +194,8 @@ fn read_message<T: TagLink>(
 ) -> Result<Vec<u8>, ReadFault>
     requires ready { T.ready link.old }
     requires of { IsOf hows.T4 (T.seen link.old) }
-    requires measured { (a : LinkView) × (m : Map) × Measured a (T.seen link.old) m length × (most ≡ min m.mle 255) }
-    ensures brings { (a : LinkView) (m : Map) → Measured a (T.seen link.old) m length → most ≡ min m.mle 255 →
+    requires measured { (a : LinkView) × (m : Map) × Measured a (T.seen link.old) m length × (most ≡ min m.mle most_per_command) }
+    ensures brings { (a : LinkView) (m : Map) → Measured a (T.seen link.old) m length → most ≡ min m.mle most_per_command →
         OrFault (λ message. ReadAll a (T.seen link.new) m length message.items) hows.T4 a (T.seen link.new) result }
     ensures whole { (size : ℕ) (a : LinkView) (m : Map) → IsMeasured ToRead size a (T.seen link.old) m length →
         most ≡ most_asked a.state.store →
@@ -215,7 +209,7 @@ fn read_message<T: TagLink>(
     for index in 0..pieces {
         let taken = most * index;
         let read = T4Command::ReadBinary {
-            offset: LENGTH_SIZE + taken,
+            offset: NLEN_SIZE + taken,
             count: most.min(length - taken) as u8,
         };
         let piece = ask_file(alloc, link, &read)?;

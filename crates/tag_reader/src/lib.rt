@@ -34,3 +34,4 @@ pub use how::How;
 pub use law::one_asked;
 pub use reader::read;
 pub use surveying::survey;
+pub use told::tell_t4;

@@ -1,15 +1,14 @@
 //! What the answers of tags tell.
 
-ghost use Rattle.std.specs.Prelude.{◌≡◌, ℕ, ◌+◌, ◌*◌, ◌%◌, ◌≤◌, List, [], ◌∷◌, ◌++◌, length, true, ◌↔◌, Ok, Err, IfOk, IfErr};
+ghost use Rattle.std.specs.Prelude.{◌≡◌, ℕ, ◌≤◌, List, ◌++◌, length, true, ◌↔◌, Ok, IfOk, IfErr};
 ghost use Rattle.nfc_base.specs.Signal.{Signal, whole_a};
 ghost use Rattle.t2t_tag.specs.Spelling as t2;
 ghost use Rattle.t2t_tag.specs.declared.answer.T2Answer.{T2Answer};
 ghost use Rattle.t4t_tag.specs.Step.{done};
 ghost use Rattle.t5t_tag.specs.Spelling as t5;
 ghost use Rattle.t5t_tag.specs.declared.answer.T5Answer.{T5Answer};
-ghost use Rattle.tag_reader.specs.declared.fault.ReadFault.{ReadFault};
 ghost use Rattle.tag_reader.specs.declared.how.How.TheVariants as hows;
-ghost use Rattle.tag_reader.specs.Heard.{HasContent, IsRefusal, IsBlocks};
+ghost use Rattle.tag_reader.specs.Heard.{HasContent, IsBlocks};
 ghost use Rattle.tag_reader.specs.BlockSteps.{TellsBlocks};
 ghost use Rattle.tag_reader.specs.HeardSteps.{TellsFault};
 
@@ -18,20 +17,17 @@ use crate::fault::ReadFault;
 use arrayvec::ArrayVec;
 use nfc_base::{Frame, Tech};
 use t2t_tag::T2Answer;
+use t4t_tag::DONE;
 use t5t_tag::{NO_BLOCK, T5Answer};
 
-/// The status bytes of a Type 4 tag that obeyed a command (ISO/IEC 7816-4).
-const DONE: [u8; 2] = [0x90, 0x00];
-
 /// How many bytes a block has at least, so that a container of four bytes lies in the first.
-const CONTAINER_SIZE: usize = 4;
+const LEAST_BLOCK: usize = 4;
 
 /// What the answer of a Type 2 tag tells: the four blocks that a READ asks for. It may refuse too, and no such tag answers
 /// anything else.
 pub fn tell_t2(answer: &Frame) -> Result<[u8; 16], ReadFault>
     ensures tells { IfOk result (λ content. HasContent hows.T2 answer.now content) }
     ensures fault { IfErr result (TellsFault hows.T2 answer.now) }
-    ensures refused { answer.now ≡ t2.answer_frame T2Answer.Refused → result ≡ Err (ReadFault.Refused 0) }
     ensures content { (content : List ℕ) → length content ≡ 16 →
         answer.now ≡ t2.answer_frame (T2Answer.Content content) → result ≡ Ok content }
 {
@@ -58,7 +54,7 @@ fn is_blocks(ask: &Ask, size: usize, content: usize) -> bool
     ensures { (bytes : List ℕ) → length bytes ≡ content → (result ≡ true) ↔ IsBlocks size ask.now bytes }
 {
     if size == 0 {
-        return CONTAINER_SIZE <= content;
+        return LEAST_BLOCK <= content;
     }
     match ask {
         Ask::One { block: _ } => content == size,
@@ -109,8 +105,6 @@ pub fn tell_t4(answer: &Frame) -> Result<ArrayVec<u8, 256>, ReadFault>
     ensures fault { IfErr result (TellsFault hows.T4 answer.now) }
     ensures content { (content : List ℕ) → length content ≤ 256 → answer.now ≡ whole_a (content ++ done) →
         result ≡ Ok (record { items = content }) }
-    ensures refused { (content : List ℕ) (high low : ℕ) → answer.now ≡ whole_a (content ++ high ∷ low ∷ []) →
-        IsRefusal high low → result ≡ Err (ReadFault.Refused (high * 256 + low)) }
 {
     if answer.tech() != Tech::A || answer.tail() != 0 {
         return Err(ReadFault::Protocol);

@@ -1,5 +1,5 @@
 -- Writes that a tag acknowledges, whatever it does, and why one isn't.
-use Rattle.std.proofs.Common.{◌≡◌, ℕ, inl, inr, List, [], ◌∷◌, ◌++◌, take, append_assoc, append-nil, Some, None, Result, Ok, Err, refl, sym, ◌∙◌, ap, subst, arith}
+use Rattle.std.proofs.Common.{◌≡◌, ℕ, inl, inr, List, [], ◌∷◌, ◌++◌, take, append_assoc, append-nil, Some, None, Result, Ok, Err, refl, sym, ◌∙◌, ap, subst}
 use Rattle.nfc_base.specs.Signal.{Signal}
 use Rattle.nfc_base.specs.TagLinks.{TagState, TagStep, LinkView, after_all, Obeys, Rises, IsAnswer, IsFault, AskCause, IsEnded}
 use Rattle.nfc_base.specs.declared.tag_link.AskFault.{AskFault}
@@ -9,14 +9,13 @@ use Rattle.tag_reader.specs.declared.how.How.{How}
 use Rattle.tag_reader.specs.declared.how.How.TheVariants.{T2, T4, T5}
 use Rattle.tag_reader.specs.Kinds.{IsNamed}
 use Rattle.tag_reader.specs.Calls.{ByLink}
-use Rattle.tag_reader.specs.Heard.{IsOf, Refuses}
+use Rattle.tag_reader.specs.Heard.{IsOf, refusal_of}
 use Rattle.tag_reader.specs.SurveyHeard.{IsLeftBy}
-use Rattle.tag_reader.proofs.Bringing.{content_free}
 use Rattle.tag_reader.proofs.Links.{began, began_by}
 use Rattle.tag_writer.specs.declared.fault.WriteFault.{WriteFault}
 use Rattle.tag_writer.specs.declared.fault.WriteFault.TheVariants as fault
 use Rattle.tag_writer.specs.declared.phase.Stopped.{Stopped}
-use Rattle.tag_writer.specs.WriteAsked.{refusal_of, refusal_in}
+use Rattle.tag_writer.specs.WriteAsked.{refusal_in}
 use Rattle.tag_writer.specs.WriteHeard.{Acknowledges, IsOddAnswer, AreAcknowledgedBy, AreAcknowledged, IsAnsweredBy, IsUnanswered, IsWhy, StopsAmong, TellsWrites}
 use Rattle.tag_writer.specs.Puttings.{of_link, IsAnswerOf, AnswersAs, Answers, Puts, AnswerTells, PutTells}
 use Rattle.tag_writer.specs.Commands.{command_at}
@@ -165,14 +164,9 @@ module _ (how : How) (a b : LinkView) (c r : Signal) (obeys : Obeys a b c) (rise
   here = record { answer = answer.answer; answered = answer.answered; over = answer.stays }
 
   accepted : (h : How) → Acknowledges h r → refusal_of h r ≡ None
-  accepted T2 is = ap (λ f. refusal_of T2 f) is
-  accepted T4 is = ap (λ f. refusal_of T4 f) is
-  accepted (T5 id) is = ap (λ f. refusal_of (T5 id) f) is
-
-  rejected : (h : How) (code : ℕ) → IsAnswerOf h r → Refuses h r code → refusal_of h r ≡ Some code
-  rejected T2 code of is = ap (λ f. refusal_of T2 f) is.0 ∙ ap (λ n. Some n) (sym is.1)
-  rejected T4 code of is = absurd (content_free T4 r [] code (of, omega arith) is)
-  rejected (T5 id) code of is = ap (λ f. refusal_of (T5 id) f) is
+  accepted T2 is = ap (refusal_of T2) is
+  accepted T4 is = ap (refusal_of T4) is
+  accepted (T5 id) is = ap (refusal_of (T5 id)) is
 
   never_odd : (h : How) → IsAnswerOf h r → IsOddAnswer h r → ⊥
   never_odd T2 (inl is) odd = odd.no_acknowledgement is
@@ -186,7 +180,7 @@ module _ (how : How) (a b : LinkView) (c r : Signal) (obeys : Obeys a b c) (rise
 
   pub put_by : (result : Result Unit WriteFault) → AnswerTells how r result → AnswersAs how (a.step a.state c).answer → Puts how a b c result
   put_by (Ok done') tells is = (answers, ap (refusal_in how) answer.answer ∙ accepted how tells)
-  put_by (Err (fault.Refused code)) tells is = inl (code, refl, (answers, ap (refusal_in how) answer.answer ∙ rejected how code (of_step is) tells))
+  put_by (Err (fault.Refused code)) tells is = inl (code, refl, (answers, ap (refusal_in how) answer.answer ∙ tells))
   put_by (Err fault.Protocol) tells is = absurd (never_odd how (of_step is) tells)
   put_by (Err fault.NotNdef) tells is = absurd tells
   put_by (Err fault.Version) tells is = absurd tells

@@ -1,8 +1,7 @@
 -- The commands of a work: the k-th of them, those of a job's writes, and that each can be spelled.
-use Rattle.std.proofs.Common.{◌≡◌, ℕ, zero, suc, ◌+◌, ◌*◌, ◌<◌, ◌≤◌, ◌==◌, nat_le, nat_lt, ◌&&◌, not, Bool, true, false, if◌then◌else◌, List, [], ◌∷◌, ◌++◌, length, take, drop, map, refl, sym, ◌∙◌, ap, subst, arith}
+use Rattle.std.proofs.Common.{◌≡◌, ℕ, zero, suc, ◌+◌, ◌*◌, ◌<◌, ◌≤◌, ◌==◌, not, Bool, true, false, if◌then◌else◌, List, [], ◌∷◌, ◌++◌, length, take, drop, map, refl, sym, ◌∙◌, ap, subst, arith}
 use Rattle.std.specs.Int.{div_ceil}
 use Rattle.std.specs.List.{range_with_len, AllByRecursion}
-use Rattle.std.proofs.lemmas.Bool.{and_parts, ltb-true, leb-true, eqb-true}
 use Rattle.std.proofs.lemmas.List.{length-take}
 use Rattle.std.proofs.lemmas.List.FromFn.{length-map-range_with_len}
 use Rattle.nfc_base.specs.Signal.{Signal}
@@ -23,7 +22,7 @@ use Rattle.tag_writer.specs.Puts.{Put, commands_of, block_puts, block_command, m
 use Rattle.tag_writer.specs.Puttings.{signal_at}
 use Rattle.tag_writer.specs.Phases.{Job, IsWork, how_of, next_at}
 use Rattle.tag_writer.specs.Works.{IsStepFor, steps_at, updates_at, IsPieceAt}
-use Rattle.tag_writer.specs.Commands.{update_command, piece_command, updates_in, commands_at, command_at, is_step_for, are_steps_for, IsFit}
+use Rattle.tag_writer.specs.Commands.{update_command, piece_command, updates_in, commands_at, command_at, IsFit}
 use Rattle.tag_writer.proofs.Doing.{t2_may, t5_may}
 use Rattle.tag_writer.proofs.Jobs.{all_front, all_rest}
 use Rattle.tag_writer.proofs.Steps.{next_steps}
@@ -59,38 +58,6 @@ length_commands how [] = refl
 length_commands how (s ∷ steps) = ap suc (length_commands how steps)
 
 -- each can be asked for
-pub step_for : (how : How) (s : Step) → is_step_for how s ≡ true → IsStepFor how s
-step_for T2 s is = (let both = and_parts (nat_lt s.block 256) (length s.content.items == 4) is in (ltb-true s.block 256 both.0, eqb-true (length s.content.items) 4 both.1))
-step_for T4 s is = absurd (cc)
-step_for (T5 id) s is = tt
-
-steps_for : (how : How) (steps : List Step) → are_steps_for how steps ≡ true → AllByRecursion (IsStepFor how) steps
-steps_for how [] is = tt
-steps_for how (s ∷ steps) is = (let both = and_parts (is_step_for how s) (are_steps_for how steps) is in (step_for how s both.0, steps_for how steps both.1))
-
-abbrev pub Spells : Work → Type 0
-Spells (Blocks how plan) = AllByRecursion (IsStepFor how) (steps_of plan)
-Spells (File message most close) = (1 ≤ most) × (most ≤ 255) × (2 + length message ≤ offset_end)
-
-pub spells : (work : Work) → IsFit work → Spells work
-spells (Blocks how plan) is = steps_for how (steps_of plan) is
-spells (File message most close) is =
-    let first = and_parts (nat_le 1 most && nat_le most 255) (nat_le (2 + length message) offset_end) is in
-    let second = and_parts (nat_le 1 most) (nat_le most 255) first.0 in
-    (leb-true 1 most second.0, leb-true most 255 second.1, leb-true (2 + length message) offset_end first.1)
-
-step_fits : (how : How) (s : Step) → IsStepFor how s → is_step_for how s ≡ true
-step_fits T2 s is = grind (arith, is.0, is.1)
-step_fits T4 s is = absurd is
-step_fits (T5 id) s is = refl
-
-pub steps_fit : (how : How) (steps : List Step) → AllByRecursion (IsStepFor how) steps → are_steps_for how steps ≡ true
-steps_fit how [] all = refl
-steps_fit how (s ∷ steps) all = ap (λ v. v && are_steps_for how steps) (step_fits how s all.0) ∙ steps_fit how steps all.1
-
-pub file_fits : (message : List ℕ) (most : ℕ) (close : Bool) → 1 ≤ most → most ≤ 255 → 2 + length message ≤ offset_end → IsFit (File message most close)
-file_fits message most close some few small = grind (arith, some, few, small)
-
 pub fit_at : (phase : Phase) (how : How) (plan : Plan) → AllByRecursion (IsStepFor how) (steps_of plan) → AllByRecursion (IsStepFor how) (steps_at phase plan)
 fit_at Prepared how plan fit = all_front (IsStepFor how) (made plan.close) plan.fill (all_front (IsStepFor how) (made plan.close ++ plan.fill) (made plan.last) fit)
 fit_at Emptied how plan fit = all_rest (IsStepFor how) (made plan.close) plan.fill (all_front (IsStepFor how) (made plan.close ++ plan.fill) (made plan.last) fit)
@@ -204,5 +171,5 @@ updates_may Filled v message most close k of few low =
     subst (λ c. MayAsk v.kind v.identifier c) (last_is message most k close low) (update_may v 0 (high_first (length message)) of (omega arith))
 
 pub work_may : (phase : Phase) (work : Work) (v : LinkView) (k : ℕ) → IsOf (how_of work) v → IsFit work → k < length (commands_at phase work) → MayAsk v.kind v.identifier (command_at (commands_at phase work) k)
-work_may phase (Blocks how plan) v k of fit low = steps_may how v (steps_at phase plan) k of (fit_at phase how plan (spells (Blocks how plan) fit)) low
-work_may phase (File message most close) v k of fit low = updates_may phase v message most close k of (spells (File message most close) fit).1 low
+work_may phase (Blocks how plan) v k of fit low = steps_may how v (steps_at phase plan) k of (fit_at phase how plan fit) low
+work_may phase (File message most close) v k of fit low = updates_may phase v message most close k of fit.1.0 low

@@ -45,7 +45,7 @@ t2_told : (locked : List Bool) (s : TagState) (block : ℕ) (content : List ℕ)
       after = record s { store = (if w then record (t2_memory locked s) { store = with_block 4 s.store block content } else t2_memory locked s).store };
     })
 t2_told locked s block content c long true = record { answers = inl refl; done = λ e. block_in 4 s block content c long; refused = λ code e. absurd cc }
-t2_told locked s block content c long false = record { answers = inr (0, (refl, refl)); done = λ e. absurd cc; refused = λ code e. refl }
+t2_told locked s block content c long false = record { answers = inr (0, refl); done = λ e. absurd cc; refused = λ code e. refl }
 
 pub t2_does : (locked : List Bool) (size : ℕ) (s : TagState) (step : Step) → length step.content.items ≡ 4 →
     Does T2 s (block_put T2 size step) (t2_step locked s (block_command T2 step))

@@ -13,6 +13,7 @@ pub mod Fronts
 pub mod Calming
 pub mod Stopping
 pub mod Reaching
+pub mod Opening
 pub mod Touching
 pub mod Counting
 pub mod AreaJobs

@@ -27,13 +27,14 @@ use Rattle.tag_reader.specs.Files.{container_in, file_in, t4_link_step}
 use Rattle.tag_reader.specs.Kinds.{IsStore, t2_memory, t2_step, t5_memory, t5_step}
 use Rattle.tag_reader.specs.Survey.{surveyed}
 use Rattle.tag_writer.specs.declared.fault.WriteFault.TheVariants as fault
+use Rattle.tag_reader.specs.Heard.{refusal_of}
 use Rattle.tag_writer.specs.Locks.{is_locked_put, has_locked, locked_code, refusal_if, StepsBy, IsFreeFor, IsLockedFor}
 use Rattle.tag_writer.specs.Outcome.{IsOutcome}
 use Rattle.tag_writer.specs.Phases.{IsNear}
 use Rattle.tag_writer.specs.Place.{Place, Takes}
 use Rattle.tag_writer.specs.Puts.{Put, put_into, block_put, block_command, update_put, commands_of}
 use Rattle.tag_writer.specs.Puttings.{IsPutOf, IsUpdatePut, AnswersAs}
-use Rattle.tag_writer.specs.WriteAsked.{Parts, ArePuts, all_puts, refusal_in, refusal_of, refused_by}
+use Rattle.tag_writer.specs.WriteAsked.{Parts, ArePuts, all_puts, refusal_in, refused_by}
 use Rattle.tag_writer.proofs.Doing.{Does, t2_does, t5_does, t5_may}
 use Rattle.tag_writer.proofs.DoablePuts.{doable_puts}
 use Rattle.tag_writer.proofs.FileDoing.{t4_does, t4_may}

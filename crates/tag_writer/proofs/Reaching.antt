@@ -12,7 +12,7 @@ use Rattle.tag_reader.specs.Asked.{ToWrite, IsAskedFor}
 use Rattle.tag_reader.specs.Calls.{GoesOn}
 use Rattle.tag_reader.specs.Survey.{surveyed}
 use Rattle.tag_writer.specs.declared.phase.Phase.{Phase}
-use Rattle.tag_writer.specs.declared.phase.Phase.TheVariants.{Emptied, Filled}
+use Rattle.tag_writer.specs.declared.phase.Phase.TheVariants.{Prepared, Emptied, Filled}
 use Rattle.tag_writer.specs.declared.work.Work.{Work}
 use Rattle.tag_writer.specs.Puts.{Put, after_puts, commands_of}
 use Rattle.tag_writer.specs.WriteAsked.{all_puts, refused_by, last_command}
@@ -20,7 +20,7 @@ use Rattle.tag_writer.specs.Law.{IsEmptied, IsWritten}
 use Rattle.tag_writer.specs.Puttings.{IsPutOf, Accepts, Makes}
 use Rattle.tag_writer.specs.Phases.{Job, Serves, Since, IsAt, made_at, next_at, new_store}
 use Rattle.tag_writer.specs.Counts.{home_at, home_size, IsHomePut, SameElsewhere}
-use Rattle.tag_writer.specs.Ends.{IsOpened}
+use Rattle.tag_writer.specs.Ends.{IsOpened, Reaches, ReachesSince}
 use Rattle.tag_writer.proofs.Asking.{up_to_all}
 use Rattle.tag_writer.proofs.Addresses.{same_put}
 use Rattle.tag_writer.proofs.Places.{after_append}
@@ -145,3 +145,14 @@ opened_at j work a old new at since m = by_last j.parts.last refl m
         (last_on j a old new (j.parts.close ++ j.parts.fill) p since y ∙ ap (λ ps. last_command a.last (since.read ++ commands_of ps)) (sym same))
         (ap (λ ps. refused_by j.how a.step (surveyed j.how a.state) (commands_of ps)) same ∙ accepted_on j a old new (j.parts.close ++ j.parts.fill) p since y) written
     by_last (p ∷ q ∷ ps) e n = absurd (omega (arith, ap length e, at.serves.last))
+
+-- each phase
+pub reaches : (phase : Phase) (j : Job) (work : Work) (old new : LinkView) → IsAt phase j work old → Makes j.how old (next_at phase j) new → Reaches phase j work new
+reaches Prepared j work old new at m = at_next Prepared Emptied j work old new refl at m
+reaches Emptied j work old new at m = (let next = at_next Emptied Filled j work old new refl at m in (next, same_filled j work new next))
+reaches Filled j work old new at m = written_at j work old new at m
+
+pub reaches_since : (phase : Phase) (j : Job) (work : Work) (a old new : LinkView) → IsAt phase j work old → Since j a old (made_at phase j) → Makes j.how old (next_at phase j) new → ReachesSince phase j a new
+reaches_since Prepared j work a old new at since m = since_next Prepared j work a old new (λ e. cc) at since m
+reaches_since Emptied j work a old new at since m = since_next Emptied j work a old new (λ e. cc) at since m
+reaches_since Filled j work a old new at since m = opened_at j work a old new at since m

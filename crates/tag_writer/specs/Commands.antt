@@ -1,9 +1,10 @@
 -- The commands that a work asks for, phase by phase.
-use Rattle.std.specs.Prelude.{◌≡◌, ℕ, zero, suc, ◌+◌, ◌*◌, nat_le, nat_lt, ◌==◌, ◌&&◌, if◌then◌else◌, Bool, true, false, List, [], ◌∷◌, ◌++◌, length, take, drop, map}
+use Rattle.std.specs.Prelude.{ℕ, zero, suc, ◌+◌, ◌*◌, ◌≤◌, ◌==◌, if◌then◌else◌, Bool, List, [], ◌∷◌, ◌++◌, length, take, drop, map}
 use Rattle.std.specs.Int.{div_ceil}
-use Rattle.std.specs.List.{range_with_len}
+use Rattle.std.specs.List.{range_with_len, AllByRecursion, AllByRecursion-prop}
+use Rattle.std.specs.Coded.{×_prop, Unit-prop, le_prop, Coded-set, coded_ℕ}
 use Rattle.nfc_base.specs.Signal.{Signal, whole_a}
-use Rattle.t4t_tag.specs.Spelling.{high_first, offset_end}
+use Rattle.t4t_tag.specs.Spelling.{high_first, most_per_command, offset_end}
 use Rattle.t4t_tag.specs.declared.command.T4Command.TheVariants.{UpdateBinary}
 use Rattle.tlv_area.specs.declared.step.Step.{Step}
 use Rattle.tlv_area.specs.Writing.{steps_of}
@@ -15,7 +16,7 @@ use Rattle.tag_writer.specs.declared.phase.Phase.TheVariants.{Prepared, Emptied,
 use Rattle.tag_writer.specs.declared.work.Work.{Work}
 use Rattle.tag_writer.specs.declared.work.Work.TheVariants.{Blocks, File}
 use Rattle.tag_writer.specs.Puts.{block_command}
-use Rattle.tag_writer.specs.Works.{steps_at}
+use Rattle.tag_writer.specs.Works.{IsStepFor, steps_at}
 
 -- the update of a file from an offset on
 abbrev pub update_command : ℕ → List ℕ → Signal
@@ -46,18 +47,16 @@ command_at (c ∷ cs) zero = c
 command_at (c ∷ cs) (suc k) = command_at cs k
 
 -- Each of them can be spelled.
-abbrev pub is_step_for : How → Step → Bool
-is_step_for T2 s = nat_lt s.block 256 && (length s.content.items == 4)
-is_step_for T4 s = false
-is_step_for (T5 id) s = true
-
-abbrev pub are_steps_for : How → List Step → Bool
-are_steps_for how [] = true
-are_steps_for how (s ∷ steps) = is_step_for how s && are_steps_for how steps
-
-abbrev pub is_fit : Work → Bool
-is_fit (Blocks how plan) = are_steps_for how (steps_of plan)
-is_fit (File message most close) = nat_le 1 most && nat_le most 255 && nat_le (2 + length message) offset_end
-
 abbrev pub IsFit : Work → Type 0
-IsFit work = is_fit work ≡ true
+IsFit (Blocks how plan) = AllByRecursion (IsStepFor how) (steps_of plan)
+IsFit (File message most close) = (1 ≤ most) × ((most ≤ most_per_command) × (2 + length message ≤ offset_end))
+
+-- A phase keeps it as a fact, which has one proof at most.
+IsStepFor-prop : (how : How) (s : Step) → IsProp (IsStepFor how s)
+IsStepFor-prop T2 s = ×_prop le_prop (Coded-set coded_ℕ (length s.content.items) 4)
+IsStepFor-prop T4 s = λ x y. absurd x
+IsStepFor-prop (T5 id) s = Unit-prop
+
+pub IsFit-prop : (work : Work) → IsProp (IsFit work)
+IsFit-prop (Blocks how plan) = AllByRecursion-prop (IsStepFor how) (IsStepFor-prop how) (steps_of plan)
+IsFit-prop (File message most close) = ×_prop le_prop (×_prop le_prop le_prop)

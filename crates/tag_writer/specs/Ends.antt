@@ -1,21 +1,27 @@
 -- How the phases of a write end.
-use Rattle.std.specs.Prelude.{◌≡◌, ◌⊎◌, ℕ, List, [], ◌∷◌, ◌++◌, true, Some, None}
+use Rattle.std.specs.Prelude.{◌≡◌, ◌⊎◌, ℕ, List, [], ◌∷◌, ◌++◌, true, Some, None, Result, Ok, Err}
 use Rattle.nfc_base.specs.Signal.{Signal}
 use Rattle.nfc_base.specs.TagLinks.{LinkView, after_all, Leads, images, Rises}
 use Rattle.nfc_base.specs.declared.tag_link.AskFault.{AskFault}
 use Rattle.tag_reader.specs.Asked.{ToWrite, IsAskedFor}
 use Rattle.tag_reader.specs.Calls.{GoesOn, ByLink}
+use Rattle.tag_reader.specs.Reading.{IsCalm}
 use Rattle.tag_reader.specs.Survey.{surveyed}
 use Rattle.tag_writer.specs.declared.fault.WriteFault.{WriteFault}
 use Rattle.tag_writer.specs.declared.fault.WriteFault.TheVariants as fault
 use Rattle.tag_writer.specs.declared.phase.Phase.{Phase}
 use Rattle.tag_writer.specs.declared.phase.Phase.TheVariants.{Prepared, Emptied, Filled}
+use Rattle.tag_writer.specs.declared.phase.Stopped.{Stopped}
+use Rattle.tag_writer.specs.declared.work.Work.{Work}
+use Rattle.tag_writer.specs.Commands.{commands_at, all_commands}
+use Rattle.tag_writer.specs.Counts.{SameElsewhere}
 use Rattle.tag_writer.specs.Puts.{Put, after_puts, commands_of}
 use Rattle.tag_writer.specs.Puttings.{of_link}
 use Rattle.tag_writer.specs.WriteAsked.{all_puts, up_to_refused, refusal_in, refused_by, HasAskedOf}
-use Rattle.tag_writer.specs.Law.{Written, Passes, IsEmptied}
-use Rattle.tag_writer.specs.Faults.{IsWriteFault, ending_by, is_told, IsRefusal}
-use Rattle.tag_writer.specs.Phases.{Job, made_at, next_at}
+use Rattle.tag_writer.specs.Law.{Written, Passes, IsEmptied, IsWritten}
+use Rattle.tag_writer.specs.Faults.{IsWriteFault, IsToldOrMemory, ending_by, is_told, IsRefusal}
+use Rattle.tag_writer.specs.Phases.{Job, IsAt, Since, how_of, made_at, next_at, new_store}
+use Rattle.tag_writer.specs.WriteHeard.{AreAcknowledged, StopsAmong}
 
 -- All that a writer asks for a job, by what was read first.
 abbrev pub asked_for : Job → LinkView → List Signal → List Signal
@@ -80,3 +86,53 @@ pub record IsOpened (j : Job) (a b : LinkView) : Type 0 where
   pub asked : AsksJob j a b
   pub whole : AsksAllOf j a b
   pub accepted : refused_by j.how a.step (surveyed j.how a.state) (commands_of (all_puts j.parts)) ≡ None
+
+-- What the writes behind a phase lead to where they are done: the tag is as the next phase needs it, behind `Emptied` with all but
+-- the length's block or field as the new store has it, and behind `Filled` its store is new.
+abbrev pub Reaches : Phase → Job → Work → LinkView → Type 0
+Reaches Prepared j work b = IsAt Emptied j work b
+Reaches Emptied j work b = IsAt Filled j work b × SameElsewhere j.how j.size j.place b.state.store (new_store j)
+Reaches Filled j work b = IsWritten j.how j.size j.message j.place j.store b.state.store
+
+-- the same since the view at which the writing began
+abbrev pub ReachesSince : Phase → Job → LinkView → LinkView → Type 0
+ReachesSince Prepared j a b = Since j a b (made_at Emptied j)
+ReachesSince Emptied j a b = Since j a b (made_at Filled j)
+ReachesSince Filled j a b = IsOpened j a b
+
+-- The writes behind a phase are done. Whatever the tag, each was acknowledged; the rest is of one that keeps to its table, as the
+-- call before left it, and that since the view at which the writing began.
+pub record HasReached (phase : Phase) (work : Work) (a b : LinkView) : Type 0 where
+  pub told : AreAcknowledged (how_of work) a b (commands_at phase work)
+  pub rises : Rises a b
+  pub ok : (j : Job) → IsAt phase j work a → Reaches phase j work b
+  pub since : (j : Job) (v : LinkView) → IsAt phase j work a → Since j v a (made_at phase j) → ReachesSince phase j v b
+
+-- One of them isn't: which one and why; and of a tag that keeps to its table what it left.
+pub record HasStopped (phase : Phase) (work : Work) (a b : LinkView) (s : Stopped) : Type 0 where
+  pub stopped : s.phase ≡ phase
+  pub told : StopsAmong (how_of work) a b (commands_at phase work) s.cause
+  pub rises : Rises a b
+  pub err : (j : Job) → IsAt phase j work a → StopsAt phase j a b s.cause
+  pub law : (j : Job) (v : LinkView) → IsAt phase j work a → Since j v a (made_at phase j) → StopsSince j v b s.cause
+  pub calm : (j : Job) → IsAt phase j work a → IsCalm a b → IsToldOrMemory s.cause
+
+-- how a phase ends
+abbrev pub EndsPhase : {A : Type 0} → Phase → Work → LinkView → LinkView → Result A Stopped → Type 0
+EndsPhase phase work a b (Ok x) = HasReached phase work a b
+EndsPhase phase work a b (Err s) = HasStopped phase work a b s
+
+-- All phases, one after another, since the view at which the writing began: the message is written, or one of its writes isn't done.
+pub record HasOpened (work : Work) (a b : LinkView) : Type 0 where
+  pub told : AreAcknowledged (how_of work) a b (all_commands work)
+  pub ok : (j : Job) (v : LinkView) → IsAt Prepared j work a → Since j v a [] → IsOpened j v b
+  pub new : (j : Job) → IsAt Prepared j work a → Reaches Filled j work b
+
+pub record HasFailed (work : Work) (a b : LinkView) (e : WriteFault) : Type 0 where
+  pub told : StopsAmong (how_of work) a b (all_commands work) e
+  pub err : (j : Job) (v : LinkView) → IsAt Prepared j work a → Since j v a [] → StopsSince j v b e
+  pub calm : (j : Job) (v : LinkView) → IsAt Prepared j work a → Since j v a [] → IsCalm v b → IsToldOrMemory e
+
+abbrev pub EndsWork : {A : Type 0} → Work → LinkView → LinkView → Result A Stopped → Type 0
+EndsWork work a b (Ok x) = HasOpened work a b
+EndsWork work a b (Err s) = HasFailed work a b s.cause

@@ -8,7 +8,7 @@ use Rattle.t2t_tag.specs.declared.command.T2Command.TheVariants as t2_command
 use Rattle.t5t_tag.specs.Spelling as t5
 use Rattle.t5t_tag.specs.declared.command.T5Command.TheVariants as t5_command
 use Rattle.t4t_tag.specs.Store.{most_written}
-use Rattle.t4t_tag.specs.Spelling.{high_first}
+use Rattle.t4t_tag.specs.Spelling.{high_first, most_per_command}
 use Rattle.t4t_tag.specs.declared.command.T4Command.TheVariants.{UpdateBinary}
 use Rattle.tlv_area.specs.declared.step.Step.{Step}
 use Rattle.tag_reader.specs.declared.how.How.{How}
@@ -40,7 +40,7 @@ abbrev pub block_command : How → Step → Signal
 block_command T2 s = t2.command_frame (t2_command.Write s.block s.content.items)
 block_command T4 s = whole_a []
 block_command (T5 id) s =
-    if nat_lt s.block 256 then t5.command_frame (t5_command.Write (Some id) s.block s.content)
+    if nat_lt s.block t5.short_numbers then t5.command_frame (t5_command.Write (Some id) s.block s.content)
     else t5.command_frame (t5_command.WriteWide (Some id) s.block s.content)
 
 abbrev pub block_put : How → ℕ → Step → Put
@@ -58,9 +58,9 @@ update_put store offset bytes = record {
   command = file_frame (UpdateBinary offset (record { items = bytes }));
 }
 
--- the most bytes that one update of the message brings: at most 255, and no more than the container allows (MLc)
+-- the most bytes that one update of the message brings: no more than one command may, and than the container allows (MLc)
 abbrev pub most_brought : List ℕ → ℕ
-most_brought store = min (most_written (container_in store)) 255
+most_brought store = min (most_written (container_in store)) most_per_command
 
 -- the k-th update that brings a piece of the message, counted from 0
 abbrev pub piece_put : List ℕ → List ℕ → ℕ → Put

@@ -1,6 +1,6 @@
 -- The steps of a work on blocks, and the updates of one on a file. No public contract speaks of these.
 use Rattle.std.specs.Prelude.{◌≡◌, ℕ, ◌+◌, ◌*◌, ◌<◌, ◌≤◌, List, length}
-use Rattle.t4t_tag.specs.Spelling.{offset_end}
+use Rattle.t4t_tag.specs.Spelling.{most_per_command, offset_end}
 use Rattle.tlv_area.specs.declared.step.Step.{Step}
 use Rattle.tlv_area.specs.declared.step.Plan.{Plan}
 use Rattle.tlv_area.specs.Writing.{made}
@@ -31,6 +31,6 @@ updates_at Filled store message = file_last store message
 -- a piece of the message
 pub record IsPieceAt (message : List ℕ) (most index : ℕ) : Type 0 where
   pub some : 1 ≤ most
-  pub most' : most ≤ 255
+  pub most' : most ≤ most_per_command
   pub begins : most * index < length message
   pub small : 2 + length message ≤ offset_end

@@ -1,11 +1,7 @@
 -- What a writer asks of a tag, by the tag's store, its step and the message alone (NFC Forum Type 2, Type 4 and Type 5 Tag).
-use Rattle.std.specs.Prelude.{◌≡◌, ◌⊎◌, ℕ, ◌-◌, List, [], ◌∷◌, ◌++◌, length, ◌&&◌, ◌==◌, nat_eq, is_some, if◌then◌else◌, Option, Some, None, Ok}
-use Rattle.std.specs.Cmp.Lexicographic.{pointwise}
-use Rattle.nfc_base.specs.Words.{word}
+use Rattle.std.specs.Prelude.{◌≡◌, ◌⊎◌, ℕ, List, [], ◌∷◌, ◌++◌, is_some, if◌then◌else◌, Option, Some, None, Ok}
 use Rattle.nfc_base.specs.Signal.{Signal}
 use Rattle.nfc_base.specs.TagLinks.{TagState, TagStep, LinkView}
-use Rattle.t2t_tag.specs.Spelling.{nak}
-use Rattle.t5t_tag.specs.Spelling.{error}
 use Rattle.tlv_area.specs.declared.space.Space.{Space}
 use Rattle.tlv_area.specs.declared.step.Plan.{Plan}
 use Rattle.tlv_area.specs.Layout.{Tlv, Layout, LiesIn, ndef_message}
@@ -14,24 +10,12 @@ use Rattle.tlv_area.specs.Writing.{IsNew, IsPlan, made}
 use Rattle.tag_reader.specs.declared.how.How.{How}
 use Rattle.tag_reader.specs.declared.how.How.TheVariants.{T2, T4, T5}
 use Rattle.tag_reader.specs.Asked.{ToWrite, IsAskedFor}
+use Rattle.tag_reader.specs.Heard.{refusal_of}
 use Rattle.tag_reader.specs.Survey.{block_size, written_area, surveyed}
 use Rattle.tag_writer.specs.Puts.{Put, commands_of, block_puts, file_close, file_fill, file_last}
 use Rattle.tag_writer.specs.Place.{Place, Takes, TakesNot}
 
--- The code by which an answer refuses, where it does: the four bits 0h of a Type 2 tag, an error of a Type 5 tag, status bytes
--- of a Type 4 tag other than 9000h.
-abbrev pub t5_code : List ℕ → Option ℕ
-t5_code (kind ∷ code ∷ []) = if kind == error then Some code else None
-t5_code bytes = None
-
-abbrev pub t4_code : ℕ → Option ℕ
-t4_code status = if status == 0x9000 then None else Some status
-
-abbrev pub refusal_of : How → Signal → Option ℕ
-refusal_of T2 f = if pointwise nat_eq f.bytes (nak ∷ []) && (f.tail == 4) then Some 0 else None
-refusal_of T4 f = t4_code (word f.bytes (length f.bytes - 2))
-refusal_of (T5 id) f = t5_code f.bytes
-
+-- the code by which a tag refuses, where it answers and does
 abbrev pub refusal_in : How → Option Signal → Option ℕ
 refusal_in how None = None
 refusal_in how (Some f) = refusal_of how f

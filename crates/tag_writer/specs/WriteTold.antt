@@ -1,6 +1,7 @@
 -- What a whole write tells, whatever the tag does: what its survey's answers say, and those to its writes.
 use Rattle.std.specs.Prelude.{◌≡◌, ℕ, ◌-◌, ◌<◌, ◌≤◌, ◌⊎◌, min, List, length, true, false, nat_lt, Result, Ok, Err}
 use Rattle.nfc_base.specs.TagLinks.{LinkView}
+use Rattle.t4t_tag.specs.Spelling.{most_per_command}
 use Rattle.tlv_area.specs.Tail.{map_room, capacity_of}
 use Rattle.tlv_area.specs.Writing.{GivesPlan}
 use Rattle.tag_reader.specs.declared.how.How.{How}
@@ -24,7 +25,7 @@ IsWorkOn how (Area known block map') message (work.Blocks how' plan) = (how' ≡
 IsWorkOn how (Area known block map') message (work.File message' most close) = ⊥
 IsWorkOn how (File map' length') message (work.Blocks how' plan) = ⊥
 IsWorkOn how (File map' length') message (work.File message' most close) =
-    (how ≡ T4) × (message' ≡ message) × (most ≡ min map'.mlc 255) × (close ≡ nat_lt 0 length')
+    (how ≡ T4) × (message' ≡ message) × (most ≡ min map'.mlc most_per_command) × (close ≡ nat_lt 0 length')
 
 -- All that was answered between two views says the ground, and this is the work on it.
 pub record IsPlannedBy (how : How) (message : List ℕ) (work : Work) (a b : LinkView) : Type 0 where

@@ -1,18 +1,11 @@
 //! The phases of a write, each a type that the next call takes.
 
-ghost use Rattle.std.specs.Prelude.{◌≡◌, [], ◌++◌, IfOk, IfErr, OnOk};
-ghost use Rattle.nfc_base.specs.TagLinks.{LinkView, Rises};
-ghost use Rattle.tag_reader.specs.Reading.{IsCalm};
-ghost use Rattle.tag_writer.specs.declared.phase.Phase.TheVariants as phases;
-ghost use Rattle.tag_writer.specs.Law.{IsWritten};
-ghost use Rattle.tag_writer.specs.Faults.{IsToldOrMemory};
-ghost use Rattle.tag_writer.specs.Puttings.{Makes, BreaksOff};
+ghost use Rattle.std.specs.Prelude.{◌≡◌, IfOk};
 ghost use Rattle.tag_reader.specs.Heard.{IsOf};
-ghost use Rattle.tag_writer.specs.Commands.{commands_at, IsFit};
-ghost use Rattle.tag_writer.specs.WriteHeard.{TellsWrites};
-ghost use Rattle.tag_writer.specs.Phases.{Job, Since, IsAt, how_of, next_at, new_store};
-ghost use Rattle.tag_writer.specs.Counts.{SameElsewhere};
-ghost use Rattle.tag_writer.specs.Ends.{StopsAt, StopsSince, IsOpened};
+ghost use Rattle.tag_writer.specs.declared.phase.Phase.TheVariants as phases;
+ghost use Rattle.tag_writer.specs.Commands.{IsFit, IsFit-prop};
+ghost use Rattle.tag_writer.specs.Ends.{EndsPhase};
+ghost use Rattle.tag_writer.specs.Phases.{how_of};
 
 use crate::fault::WriteFault;
 use crate::putting::put_all;
@@ -40,21 +33,21 @@ pub struct Stopped {
 #[derive(Debug, Drop)]
 pub struct Prepared {
     pub(crate) work: Work,
-    ghost fit: { IsFit work },
+    ghost fit: { IsFit work } by { IsFit-prop work },
 }
 
 /// The tag holds the empty message.
 #[derive(Debug, Drop)]
 pub struct Emptied {
     pub(crate) work: Work,
-    ghost fit: { IsFit work },
+    ghost fit: { IsFit work } by { IsFit-prop work },
 }
 
 /// All but the length's block or field is new.
 #[derive(Debug, Drop)]
 pub struct Filled {
     pub(crate) work: Work,
-    ghost fit: { IsFit work },
+    ghost fit: { IsFit work } by { IsFit-prop work },
 }
 
 /// The tag holds the new message.
@@ -71,16 +64,7 @@ fn advance<T: TagLink>(
     requires ready { T.ready link.old }
     requires of { IsOf (how_of work.now) (T.seen link.old) }
     requires fit { IsFit work.now }
-    ensures ok { (j : Job) → IsAt phase j work.now (T.seen link.old) →
-        OnOk result (Makes j.how (T.seen link.old) (next_at phase j) (T.seen link.new)) }
-    ensures err { (j : Job) → IsAt phase j work.now (T.seen link.old) →
-        IfErr result (λ s. (s.phase ≡ phase)
-        × BreaksOff j.how (T.seen link.old) (next_at phase j) (T.seen link.new) s.cause) }
-    ensures stopped { IfErr result (λ s. s.phase ≡ phase) }
-    // whatever the tag does
-    ensures told { TellsWrites (how_of work.now) (T.seen link.old) (T.seen link.new)
-        (commands_at phase work.now) result }
-    ensures rises { Rises (T.seen link.old) (T.seen link.new) }
+    ensures ends { EndsPhase phase work.now (T.seen link.old) (T.seen link.new) result }
     ensures ready { T.ready link.new }
     ensures same { T.lenders link.new ≡ T.lenders link.old }
     ensures moves { T.moves link.old link.new }
@@ -97,25 +81,9 @@ impl Prepared {
         requires ready { T.ready link.old }
         // it leads to a tag of the same kind
         requires of { IsOf (how_of self.work) (T.seen link.old) }
-        // whatever the tag does: success only where each write was acknowledged, and why the next one wasn't
-        ensures told { TellsWrites (how_of self.work) (T.seen link.old) (T.seen link.new)
-            (commands_at phases.Prepared self.work) result }
-        ensures stopped { IfErr result (λ s. s.phase ≡ phases.Prepared) }
+        // whatever the tag does, and where it is one that keeps to its table, as the call before left it
+        ensures ends { EndsPhase phases.Prepared self.work (T.seen link.old) (T.seen link.new) result }
         ensures kept { IfOk result (λ e. e.work ≡ self.work) }
-        // where it is one that keeps to its table, as the call that prepared the write left it
-        ensures ok { (j : Job) → IsAt phases.Prepared j self.work (T.seen link.old) →
-            IfOk result (λ e. IsAt phases.Emptied j e.work (T.seen link.new)) }
-        ensures err { (j : Job) → IsAt phases.Prepared j self.work (T.seen link.old) →
-            IfErr result (λ s. (s.phase ≡ phases.Prepared)
-            × StopsAt phases.Prepared j (T.seen link.old) (T.seen link.new) s.cause) }
-        // the same since the view at which the writing began
-        ensures since { (j : Job) (a : LinkView) → IsAt phases.Prepared j self.work (T.seen link.old) →
-            Since j a (T.seen link.old) [] → OnOk result (Since j a (T.seen link.new) j.parts.close) }
-        ensures law { (j : Job) (a : LinkView) → IsAt phases.Prepared j self.work (T.seen link.old) →
-            Since j a (T.seen link.old) [] → IfErr result (λ s. StopsSince j a (T.seen link.new) s.cause) }
-        ensures rises { Rises (T.seen link.old) (T.seen link.new) }
-        ensures calm { (j : Job) → IsAt phases.Prepared j self.work (T.seen link.old) →
-            IsCalm (T.seen link.old) (T.seen link.new) → IfErr result (λ s. IsToldOrMemory s.cause) }
         ensures ready { T.ready link.new }
         ensures same { T.lenders link.new ≡ T.lenders link.old }
         ensures moves { T.moves link.old link.new }
@@ -134,29 +102,9 @@ impl Emptied {
         requires ready { T.ready link.old }
         // it leads to a tag of the same kind
         requires of { IsOf (how_of self.work) (T.seen link.old) }
-        // whatever the tag does: success only where each write was acknowledged, and why the next one wasn't
-        ensures told { TellsWrites (how_of self.work) (T.seen link.old) (T.seen link.new)
-            (commands_at phases.Emptied self.work) result }
-        ensures stopped { IfErr result (λ s. s.phase ≡ phases.Emptied) }
+        // whatever the tag does, and where it is one that keeps to its table, as the call before left it
+        ensures ends { EndsPhase phases.Emptied self.work (T.seen link.old) (T.seen link.new) result }
         ensures kept { IfOk result (λ f. f.work ≡ self.work) }
-        // where it is one that keeps to its table, as the phase before left it
-        ensures ok { (j : Job) → IsAt phases.Emptied j self.work (T.seen link.old) →
-            IfOk result (λ f. IsAt phases.Filled j f.work (T.seen link.new)) }
-        // all but the length's block or field is new
-        ensures filled { (j : Job) → IsAt phases.Emptied j self.work (T.seen link.old) →
-            OnOk result (SameElsewhere j.how j.size j.place (T.seen link.new).state.store (new_store j)) }
-        ensures err { (j : Job) → IsAt phases.Emptied j self.work (T.seen link.old) →
-            IfErr result (λ s. (s.phase ≡ phases.Emptied)
-            × StopsAt phases.Emptied j (T.seen link.old) (T.seen link.new) s.cause) }
-        // the same since the view at which the writing began
-        ensures since { (j : Job) (a : LinkView) → IsAt phases.Emptied j self.work (T.seen link.old) →
-            Since j a (T.seen link.old) j.parts.close →
-            OnOk result (Since j a (T.seen link.new) (j.parts.close ++ j.parts.fill)) }
-        ensures law { (j : Job) (a : LinkView) → IsAt phases.Emptied j self.work (T.seen link.old) →
-            Since j a (T.seen link.old) j.parts.close → IfErr result (λ s. StopsSince j a (T.seen link.new) s.cause) }
-        ensures rises { Rises (T.seen link.old) (T.seen link.new) }
-        ensures calm { (j : Job) → IsAt phases.Emptied j self.work (T.seen link.old) →
-            IsCalm (T.seen link.old) (T.seen link.new) → IfErr result (λ s. IsToldOrMemory s.cause) }
         ensures ready { T.ready link.new }
         ensures same { T.lenders link.new ≡ T.lenders link.old }
         ensures moves { T.moves link.old link.new }
@@ -175,26 +123,8 @@ impl Filled {
         requires ready { T.ready link.old }
         // it leads to a tag of the same kind
         requires of { IsOf (how_of self.work) (T.seen link.old) }
-        // whatever the tag does: success only where each write was acknowledged, and why the next one wasn't
-        ensures told { TellsWrites (how_of self.work) (T.seen link.old) (T.seen link.new)
-            (commands_at phases.Filled self.work) result }
-        ensures stopped { IfErr result (λ s. s.phase ≡ phases.Filled) }
-        // where it is one that keeps to its table, as the phase before left it
-        ensures ok { (j : Job) → IsAt phases.Filled j self.work (T.seen link.old) →
-            OnOk result (IsWritten j.how j.size j.message j.place j.store (T.seen link.new).state.store) }
-        ensures err { (j : Job) → IsAt phases.Filled j self.work (T.seen link.old) →
-            IfErr result (λ s. (s.phase ≡ phases.Filled)
-            × StopsAt phases.Filled j (T.seen link.old) (T.seen link.new) s.cause) }
-        // the same since the view at which the writing began
-        ensures since { (j : Job) (a : LinkView) → IsAt phases.Filled j self.work (T.seen link.old) →
-            Since j a (T.seen link.old) (j.parts.close ++ j.parts.fill) →
-            OnOk result (IsOpened j a (T.seen link.new)) }
-        ensures law { (j : Job) (a : LinkView) → IsAt phases.Filled j self.work (T.seen link.old) →
-            Since j a (T.seen link.old) (j.parts.close ++ j.parts.fill) →
-            IfErr result (λ s. StopsSince j a (T.seen link.new) s.cause) }
-        ensures rises { Rises (T.seen link.old) (T.seen link.new) }
-        ensures calm { (j : Job) → IsAt phases.Filled j self.work (T.seen link.old) →
-            IsCalm (T.seen link.old) (T.seen link.new) → IfErr result (λ s. IsToldOrMemory s.cause) }
+        // whatever the tag does, and where it is one that keeps to its table, as the call before left it
+        ensures ends { EndsPhase phases.Filled self.work (T.seen link.old) (T.seen link.new) result }
         ensures ready { T.ready link.new }
         ensures same { T.lenders link.new ≡ T.lenders link.old }
         ensures moves { T.moves link.old link.new }

@@ -13,14 +13,12 @@ ghost use Rattle.tag_writer.specs.WriteTold.{IsWorkOn, IsDeclinedOn};
 
 use crate::fault::WriteFault;
 use crate::phase::Prepared;
-use crate::work::{LENGTH_SIZE, Work};
+use crate::work::Work;
 use nfc_base::Items;
 use std::alloc::Global;
+use t4t_tag::{MOST_PER_COMMAND, NLEN_SIZE};
 use tag_reader::How;
 use tlv_area::{AreaMap, FileMap, PlanFault, capacity, plan};
-
-/// The most bytes that one update brings: their number is spelled by one byte.
-const MOST_BROUGHT: u16 = 255;
 
 /// The most bytes that a block has (ISO/IEC 15693-3).
 const LONGEST_BLOCK: u32 = 32;
@@ -85,18 +83,18 @@ pub fn plan_file(
     if !map.writable {
         return Err(WriteFault::ReadOnly);
     }
-    let room = map.size.saturating_sub(LENGTH_SIZE);
+    let room = map.size.saturating_sub(NLEN_SIZE);
     if message.len() > usize::from(room) {
         return Err(WriteFault::TooLong(u32::from(room)));
     }
-    if map.mlc < LENGTH_SIZE {
+    if map.mlc < NLEN_SIZE {
         return Err(WriteFault::ShortMlc);
     }
     match Items::from_bytes(alloc, message) {
         Ok(message) => Ok(Prepared {
             work: Work::File {
                 message,
-                most: map.mlc.min(MOST_BROUGHT),
+                most: map.mlc.min(MOST_PER_COMMAND),
                 close: length > 0,
             },
         }),

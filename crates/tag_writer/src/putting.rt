@@ -11,14 +11,11 @@ ghost use Rattle.tag_writer.specs.Phases.{Job, IsAt, how_of, next_at};
 use crate::fault::WriteFault;
 use crate::phase::Phase;
 use crate::work::Work;
-use nfc_base::{Frame, TagLink, Tech};
+use nfc_base::{Frame, TagLink};
 use std::alloc::Global;
 use t2t_tag::T2Answer;
 use t5t_tag::T5Answer;
 use tag_reader::How;
-
-/// The status bytes of a Type 4 tag that obeyed a command (ISO/IEC 7816-4).
-const DONE: [u8; 2] = [0x90, 0x00];
 
 /// What the answer of a Type 2 tag to a write says.
 fn tell_t2(answer: &Frame) -> Result<(), WriteFault>
@@ -36,19 +33,16 @@ fn tell_t2(answer: &Frame) -> Result<(), WriteFault>
 fn tell_t4(answer: &Frame) -> Result<(), WriteFault>
     ensures { AnswerTells hows.T4 answer.now result }
 {
-    if answer.tech() != Tech::A || answer.tail() != 0 {
-        return Err(WriteFault::Protocol);
+    match tag_reader::tell_t4(answer) {
+        Ok(content) => {
+            if content.is_empty() {
+                Ok(())
+            } else {
+                Err(WriteFault::Protocol)
+            }
+        }
+        Err(fault) => Err(WriteFault::from(fault)),
     }
-    let [content @ .., high, low] = answer.view() else {
-        return Err(WriteFault::Protocol);
-    };
-    if [*high, *low] != DONE {
-        return Err(WriteFault::Refused(*high as u16 * 256 + *low as u16));
-    }
-    if !content.is_empty() {
-        return Err(WriteFault::Protocol);
-    }
-    Ok(())
 }
 
 /// What the answer of a Type 5 tag to a write says.

@@ -2,7 +2,7 @@
 
 ghost use Rattle.std.specs.Prelude.{◌≡◌, ◌+◌, ◌*◌, ◌<◌, ◌≤◌, ℕ, Bool, length};
 ghost use Rattle.std.specs.List.{AllByRecursion};
-ghost use Rattle.t4t_tag.specs.Spelling.{offset_end};
+ghost use Rattle.t4t_tag.specs.Spelling.{most_per_command, offset_end};
 ghost use Rattle.t4t_tag.specs.declared.command.T4Command.TheVariants as t4;
 ghost use Rattle.tag_reader.specs.declared.how.How.{How};
 ghost use Rattle.tag_reader.specs.declared.how.How.TheVariants as hows;
@@ -17,16 +17,10 @@ use crate::phase::Phase;
 use arrayvec::ArrayVec;
 use nfc_base::{Frame, Items, Tech};
 use t2t_tag::T2Command;
-use t4t_tag::T4Command;
-use t5t_tag::T5Command;
+use t4t_tag::{NLEN_SIZE, T4Command};
+use t5t_tag::{SHORT_NUMBERS, T5Command};
 use tag_reader::How;
 use tlv_area::{Plan, Step};
-
-/// How many blocks numbers of one byte can name.
-const SHORT_NUMBERS: u16 = 256;
-
-/// How many bytes of a file say how long its message is; the message stands behind them.
-pub const LENGTH_SIZE: u16 = 2;
 
 /// What is written to a tag.
 #[derive(Debug, Drop)]
@@ -36,8 +30,8 @@ pub enum Work {
         how: How,
         plan: Plan,
     },
-    /// To the file of a Type 4 tag: the message, the most bytes of it that one update brings, and whether the length has
-    /// to become 0 first.
+    /// To the file of a Type 4 tag: the message, the most bytes of it that one update brings, as MLc allows, and whether
+    /// NLEN has to become 0 first.
     File {
         message: Items<u8>,
         most: u16,
@@ -119,7 +113,7 @@ fn step_count(plan: &Plan, phase: Phase) -> usize
 fn update_frame(offset: u16, bytes: &[u8]) -> Frame
     requires offset { offset < offset_end }
     requires some { 1 ≤ length bytes.now }
-    requires most { length bytes.now ≤ 255 }
+    requires most { length bytes.now ≤ most_per_command }
     ensures { result ≡ file_frame (t4.UpdateBinary offset (record { items = bytes.now })) }
 {
     let mut content = ArrayVec::new();
@@ -135,13 +129,13 @@ fn piece_frame(message: &[u8], most: u16, index: usize) -> Frame
 {
     let taken = most as usize * index;
     let end = message.len().min(taken + most as usize);
-    update_frame(LENGTH_SIZE + taken as u16, &message[taken..end])
+    update_frame(NLEN_SIZE + taken as u16, &message[taken..end])
 }
 
 /// The update that is the `index`-th behind a phase.
 fn update_at(message: &[u8], most: u16, phase: Phase, index: usize) -> Frame
     requires some { 1 ≤ most }
-    requires few { most ≤ 255 }
+    requires few { most ≤ most_per_command }
     requires small { 2 + length message.now ≤ offset_end }
     requires low { (close : Bool) × (index < length (updates_in phase message.now most close)) }
     ensures { (close : Bool) → index < length (updates_in phase message.now most close) →

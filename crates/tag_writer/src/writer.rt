@@ -1,16 +1,9 @@
 //! The writing of a tag.
 
-ghost use Rattle.std.specs.Prelude.{◌≡◌, ℕ, [], IfErr, OnOk};
-ghost use Rattle.nfc_base.specs.TagLinks.{LinkView, Rises};
+ghost use Rattle.std.specs.Prelude.{◌≡◌};
 ghost use Rattle.tag_reader.specs.Heard.{IsOf};
-ghost use Rattle.tag_reader.specs.Reading.{IsCalm};
-ghost use Rattle.tag_writer.specs.declared.phase.Phase.TheVariants as phases;
-ghost use Rattle.tag_writer.specs.Ends.{StopsSince, IsOpened};
-ghost use Rattle.tag_writer.specs.Faults.{IsToldOrMemory};
-ghost use Rattle.tag_writer.specs.Law.{IsWritten};
-ghost use Rattle.tag_writer.specs.Commands.{all_commands};
-ghost use Rattle.tag_writer.specs.Phases.{Job, Since, IsAt, how_of};
-ghost use Rattle.tag_writer.specs.WriteHeard.{TellsWrites};
+ghost use Rattle.tag_writer.specs.Ends.{EndsWork};
+ghost use Rattle.tag_writer.specs.Phases.{how_of};
 ghost use Rattle.tag_writer.specs.WriteTold.{IsWriteToldBy};
 ghost use Rattle.tag_writer.specs.Writing.{KeepsLaw, WritesInOrder, WritesFew, WritesAll, LeavesLink, TellsSuccess, TellsCause, TellsInCalm};
 
@@ -25,17 +18,8 @@ use tag_reader::How;
 fn open<T: TagLink>(alloc: Global, link: &mut T, prepared: Prepared) -> Result<Opened, Stopped>
     requires ready { T.ready link.old }
     requires of { IsOf (how_of prepared.work) (T.seen link.old) }
-    // whatever the tag does
-    ensures told { TellsWrites (how_of prepared.work) (T.seen link.old) (T.seen link.new)
-        (all_commands prepared.work) result }
-    ensures ok { (j : Job) (a : LinkView) → IsAt phases.Prepared j prepared.work (T.seen link.old) →
-        Since j a (T.seen link.old) [] → OnOk result (IsOpened j a (T.seen link.new)) }
-    ensures new { (j : Job) → IsAt phases.Prepared j prepared.work (T.seen link.old) →
-        OnOk result (IsWritten j.how j.size j.message j.place j.store (T.seen link.new).state.store) }
-    ensures err { (j : Job) (a : LinkView) → IsAt phases.Prepared j prepared.work (T.seen link.old) →
-        Since j a (T.seen link.old) [] → IfErr result (λ s. StopsSince j a (T.seen link.new) s.cause) }
-    ensures calm { (j : Job) (a : LinkView) → IsAt phases.Prepared j prepared.work (T.seen link.old) →
-        Since j a (T.seen link.old) [] → IsCalm a (T.seen link.new) → IfErr result (λ s. IsToldOrMemory s.cause) }
+    // whatever the tag does, and where it is one that keeps to its table
+    ensures ends { EndsWork prepared.work (T.seen link.old) (T.seen link.new) result }
     ensures ready { T.ready link.new }
     ensures same { T.lenders link.new ≡ T.lenders link.old }
     ensures moves { T.moves link.old link.new }

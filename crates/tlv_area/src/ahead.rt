@@ -6,13 +6,14 @@ ghost use Rattle.tlv_area.specs.Reading.{IsAhead, IsLengthAhead, IsValueAhead};
 
 use crate::ranges::past;
 
-/// The types of TLVs that the walk knows.
+/// The TLV of one byte that stands for none.
 const NULL: u8 = 0x00;
 
-const TERMINATOR: u8 = 0xFE;
+/// The TLV that ends an area.
+pub const TERMINATOR: u8 = 0xFE;
 
 /// The first byte of a length that has three.
-const LONG_MARK: u8 = 0xFF;
+pub const LONG_MARK: u8 = 0xFF;
 
 /// Two bytes behind it that are no length.
 const NO_LENGTH: u32 = 0xFFFF;

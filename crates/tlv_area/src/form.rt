@@ -54,12 +54,14 @@ fn cut_at(space: &Space, length: usize) -> Space
     }
 }
 
-/// The area that a Type 5 tag of blocks of so many bytes can name by its block numbers.
-fn reach(space: &Space, wide: bool, block: u8) -> Space
+/// The area that a Type 5 tag of blocks of so many bytes can name by its block numbers: E1h says that they have one byte,
+/// E2h that they have two (`wide`).
+pub fn reach(space: &Space, wide: bool, block: usize) -> Space
+    requires { block ≤ 256 }
     ensures { (many : Bool) → result ≡ t5_reach block (record { space = space.now; wide = wide; many = many }) }
 {
     let named = if wide { NAMED_BY_TWO } else { NAMED_BY_ONE };
-    cut_at(space, named * block as usize)
+    cut_at(space, named * block)
 }
 
 /// A Type 5 store of blocks of so many bytes.
@@ -76,7 +78,10 @@ pub fn one_form_t5(store: &[u8], block: u8)
                 wide,
                 many: _,
             },
-        ) => one_form(&cut_at(&reach(&space, wide, block), store.len()), store),
+        ) => one_form(
+            &cut_at(&reach(&space, wide, block as usize), store.len()),
+            store,
+        ),
         Ok(T5Container::More) => {}
         Err(_fault) => {}
     }

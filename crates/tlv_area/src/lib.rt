@@ -27,7 +27,7 @@ mod writing;
 pub use container::{
     ContainerFault, FileMap, T5Container, container_t2, container_t4, container_t5,
 };
-pub use form::{one_form, one_form_t2, one_form_t5};
+pub use form::{one_form, one_form_t2, one_form_t5, reach};
 pub use message::{copy_message, message_byte};
 pub use planning::{PlanFault, plan};
 pub use room::capacity;

@@ -6,16 +6,11 @@ ghost use Rattle.tlv_area.specs.Map.{in_ranges, IsOrdered, IsPlaced};
 ghost use Rattle.tlv_area.specs.Tail.{map_tail, end_mark, written};
 ghost use Rattle.tlv_area.specs.Writing.{IsPut};
 
+use crate::ahead::{LONG_MARK, TERMINATOR};
 use crate::ranges::{past, run_before};
 use crate::room::LONGEST_SHORT;
 use crate::space::AreaMap;
 use std::alloc::{AllocError, Global};
-
-/// The first byte of a length that has three.
-const LONG_MARK: u8 = 0xFF;
-
-/// The TLV that ends an area.
-const TERMINATOR: u8 = 0xFE;
 
 /// Adds the bytes of a length, in the shortest form.
 fn push_length(bytes: &mut Vec<u8>, length: usize) -> Result<(), AllocError>

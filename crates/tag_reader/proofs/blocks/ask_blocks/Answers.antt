@@ -1,5 +1,5 @@
 use Rattle.std.specs.Prelude.{◌==◌, if◌then◌else◌, Result}
-use Rattle.std.proofs.Common.{rules, ◌≡◌, ℕ, List, Bool, ◌++◌, length, [], Ok, Err, sym, ◌∙◌, ap, subst}
+use Rattle.std.proofs.Common.{rules, ◌≡◌, ℕ, List, Bool, ◌++◌, length, Ok, Err, sym, ◌∙◌, ap, subst}
 use Rattle.nfc_base.specs.TagLinks.{LinkView}
 use Rattle.t5t_tag.specs.Spelling as t5
 use Rattle.tag_reader.specs.declared.how.How.TheVariants.{T5}

@@ -1,6 +1,4 @@
 use Rattle.std.proofs.Common.{arith}
-use Rattle.tlv_area.specs.Writing.{steps_of}
-use Rattle.tag_writer.proofs.Commanding.{steps_fit}
 use Rattle.tag_writer.proofs.Grounded.{blocks_fit}
 use Rattle.tag_writer.proofs.Known.{planned, planned_for, read_only, too_long}
 use Rattle.tag_writer.proofs.planning.plan_area.Goals as goal
@@ -19,6 +17,5 @@ returns-in-Ok-clause-ok c size store is k =
 
 pub invariant_of-result : goal.invariant_of-result
 invariant_of-result c = record {
-  fit = steps_fit c.args.how (steps_of c.in-Ok.plan)
-      (blocks_fit c.args.how c.args.known.now c.args.message.now c.args.block c.args.map.now c.in-Ok.plan c.requires.seen c.requires.low c.in-Ok.ensures.keeps);
+  fit = blocks_fit c.args.how c.args.known.now c.args.message.now c.args.block c.args.map.now c.in-Ok.plan c.requires.seen c.requires.low c.in-Ok.ensures.keeps;
 }

@@ -28,7 +28,7 @@ returns-in-Ok-open-clause-law g c size is =
     let a : LinkView = g.T.TagLink.seen c.args.link.now in
     let b : LinkView = g.T.TagLink.seen c.open.new.link in
     let p = c.in-Ok.ensures.ok size is in
-    let s : Succeeds c.args.how size c.args.message.now a b = succeeds_for p.job c.args.how size c.args.message.now a b p.kind p.sized p.new p.at.serves p.since.store (c.in-Ok-open.ensures.ok p.job a p.at p.since) (c.in-Ok-open.ensures.new p.job p.at) in
+    let s : Succeeds c.args.how size c.args.message.now a b = succeeds_for p.job c.args.how size c.args.message.now a b p.kind p.sized p.new p.at.serves p.since.store (c.in-Ok-open.ensures.ends.ok p.job a p.at p.since) (c.in-Ok-open.ensures.ends.new p.job p.at) in
     s.keeps
 
 pub returns-in-Ok-open-clause-asked : goal.returns-in-Ok-open-clause-asked
@@ -36,7 +36,7 @@ returns-in-Ok-open-clause-asked g c size is =
     let a : LinkView = g.T.TagLink.seen c.args.link.now in
     let b : LinkView = g.T.TagLink.seen c.open.new.link in
     let p = c.in-Ok.ensures.ok size is in
-    let s : Succeeds c.args.how size c.args.message.now a b = succeeds_for p.job c.args.how size c.args.message.now a b p.kind p.sized p.new p.at.serves p.since.store (c.in-Ok-open.ensures.ok p.job a p.at p.since) (c.in-Ok-open.ensures.new p.job p.at) in
+    let s : Succeeds c.args.how size c.args.message.now a b = succeeds_for p.job c.args.how size c.args.message.now a b p.kind p.sized p.new p.at.serves p.since.store (c.in-Ok-open.ensures.ends.ok p.job a p.at p.since) (c.in-Ok-open.ensures.ends.new p.job p.at) in
     s.asked
 
 pub returns-in-Ok-open-clause-whole : goal.returns-in-Ok-open-clause-whole
@@ -44,7 +44,7 @@ returns-in-Ok-open-clause-whole g c size is =
     let a : LinkView = g.T.TagLink.seen c.args.link.now in
     let b : LinkView = g.T.TagLink.seen c.open.new.link in
     let p = c.in-Ok.ensures.ok size is in
-    let s : Succeeds c.args.how size c.args.message.now a b = succeeds_for p.job c.args.how size c.args.message.now a b p.kind p.sized p.new p.at.serves p.since.store (c.in-Ok-open.ensures.ok p.job a p.at p.since) (c.in-Ok-open.ensures.new p.job p.at) in
+    let s : Succeeds c.args.how size c.args.message.now a b = succeeds_for p.job c.args.how size c.args.message.now a b p.kind p.sized p.new p.at.serves p.since.store (c.in-Ok-open.ensures.ends.ok p.job a p.at p.since) (c.in-Ok-open.ensures.ends.new p.job p.at) in
     s.whole
 
 pub returns-in-Ok-open-clause-goes_on : goal.returns-in-Ok-open-clause-goes_on
@@ -52,7 +52,7 @@ returns-in-Ok-open-clause-goes_on g c size is =
     let a : LinkView = g.T.TagLink.seen c.args.link.now in
     let b : LinkView = g.T.TagLink.seen c.open.new.link in
     let p = c.in-Ok.ensures.ok size is in
-    let s : Succeeds c.args.how size c.args.message.now a b = succeeds_for p.job c.args.how size c.args.message.now a b p.kind p.sized p.new p.at.serves p.since.store (c.in-Ok-open.ensures.ok p.job a p.at p.since) (c.in-Ok-open.ensures.new p.job p.at) in
+    let s : Succeeds c.args.how size c.args.message.now a b = succeeds_for p.job c.args.how size c.args.message.now a b p.kind p.sized p.new p.at.serves p.since.store (c.in-Ok-open.ensures.ends.ok p.job a p.at p.since) (c.in-Ok-open.ensures.ends.new p.job p.at) in
     s.goes_on
 
 pub returns-in-Ok-open-clause-ok : goal.returns-in-Ok-open-clause-ok
@@ -60,7 +60,7 @@ returns-in-Ok-open-clause-ok g c size is =
     let a : LinkView = g.T.TagLink.seen c.args.link.now in
     let b : LinkView = g.T.TagLink.seen c.open.new.link in
     let p = c.in-Ok.ensures.ok size is in
-    let s : Succeeds c.args.how size c.args.message.now a b = succeeds_for p.job c.args.how size c.args.message.now a b p.kind p.sized p.new p.at.serves p.since.store (c.in-Ok-open.ensures.ok p.job a p.at p.since) (c.in-Ok-open.ensures.new p.job p.at) in
+    let s : Succeeds c.args.how size c.args.message.now a b = succeeds_for p.job c.args.how size c.args.message.now a b p.kind p.sized p.new p.at.serves p.since.store (c.in-Ok-open.ensures.ends.ok p.job a p.at p.since) (c.in-Ok-open.ensures.ends.new p.job p.at) in
     s.succeeded
 
 pub returns-in-Err-open-clause-law : goal.returns-in-Err-open-clause-law
@@ -68,7 +68,7 @@ returns-in-Err-open-clause-law g c size is =
     let a : LinkView = g.T.TagLink.seen c.args.link.now in
     let b : LinkView = g.T.TagLink.seen c.open.new.link in
     let p = c.in-Ok.ensures.ok size is in
-    let s : Stops c.args.how size c.args.message.now a b c.in-Err-open.stopped.cause = stops_for p.job c.args.how size c.args.message.now a b c.in-Err-open.stopped.cause p.kind p.sized p.new p.at.serves p.since.store (c.in-Err-open.ensures.err p.job a p.at p.since) in
+    let s : Stops c.args.how size c.args.message.now a b c.in-Err-open.stopped.cause = stops_for p.job c.args.how size c.args.message.now a b c.in-Err-open.stopped.cause p.kind p.sized p.new p.at.serves p.since.store (c.in-Err-open.ensures.ends.err p.job a p.at p.since) in
     s.keeps
 
 pub returns-in-Err-open-clause-asked : goal.returns-in-Err-open-clause-asked
@@ -76,7 +76,7 @@ returns-in-Err-open-clause-asked g c size is =
     let a : LinkView = g.T.TagLink.seen c.args.link.now in
     let b : LinkView = g.T.TagLink.seen c.open.new.link in
     let p = c.in-Ok.ensures.ok size is in
-    let s : Stops c.args.how size c.args.message.now a b c.in-Err-open.stopped.cause = stops_for p.job c.args.how size c.args.message.now a b c.in-Err-open.stopped.cause p.kind p.sized p.new p.at.serves p.since.store (c.in-Err-open.ensures.err p.job a p.at p.since) in
+    let s : Stops c.args.how size c.args.message.now a b c.in-Err-open.stopped.cause = stops_for p.job c.args.how size c.args.message.now a b c.in-Err-open.stopped.cause p.kind p.sized p.new p.at.serves p.since.store (c.in-Err-open.ensures.ends.err p.job a p.at p.since) in
     s.asked
 
 pub returns-in-Err-open-clause-whole : goal.returns-in-Err-open-clause-whole
@@ -84,7 +84,7 @@ returns-in-Err-open-clause-whole g c size is =
     let a : LinkView = g.T.TagLink.seen c.args.link.now in
     let b : LinkView = g.T.TagLink.seen c.open.new.link in
     let p = c.in-Ok.ensures.ok size is in
-    let s : Stops c.args.how size c.args.message.now a b c.in-Err-open.stopped.cause = stops_for p.job c.args.how size c.args.message.now a b c.in-Err-open.stopped.cause p.kind p.sized p.new p.at.serves p.since.store (c.in-Err-open.ensures.err p.job a p.at p.since) in
+    let s : Stops c.args.how size c.args.message.now a b c.in-Err-open.stopped.cause = stops_for p.job c.args.how size c.args.message.now a b c.in-Err-open.stopped.cause p.kind p.sized p.new p.at.serves p.since.store (c.in-Err-open.ensures.ends.err p.job a p.at p.since) in
     s.whole
 
 pub returns-in-Err-open-clause-goes_on : goal.returns-in-Err-open-clause-goes_on
@@ -92,7 +92,7 @@ returns-in-Err-open-clause-goes_on g c size is =
     let a : LinkView = g.T.TagLink.seen c.args.link.now in
     let b : LinkView = g.T.TagLink.seen c.open.new.link in
     let p = c.in-Ok.ensures.ok size is in
-    let s : Stops c.args.how size c.args.message.now a b c.in-Err-open.stopped.cause = stops_for p.job c.args.how size c.args.message.now a b c.in-Err-open.stopped.cause p.kind p.sized p.new p.at.serves p.since.store (c.in-Err-open.ensures.err p.job a p.at p.since) in
+    let s : Stops c.args.how size c.args.message.now a b c.in-Err-open.stopped.cause = stops_for p.job c.args.how size c.args.message.now a b c.in-Err-open.stopped.cause p.kind p.sized p.new p.at.serves p.since.store (c.in-Err-open.ensures.ends.err p.job a p.at p.since) in
     s.goes_on
 
 pub returns-in-Err-open-clause-err : goal.returns-in-Err-open-clause-err
@@ -100,13 +100,13 @@ returns-in-Err-open-clause-err g c size is =
     let a : LinkView = g.T.TagLink.seen c.args.link.now in
     let b : LinkView = g.T.TagLink.seen c.open.new.link in
     let p = c.in-Ok.ensures.ok size is in
-    let s : Stops c.args.how size c.args.message.now a b c.in-Err-open.stopped.cause = stops_for p.job c.args.how size c.args.message.now a b c.in-Err-open.stopped.cause p.kind p.sized p.new p.at.serves p.since.store (c.in-Err-open.ensures.err p.job a p.at p.since) in
+    let s : Stops c.args.how size c.args.message.now a b c.in-Err-open.stopped.cause = stops_for p.job c.args.how size c.args.message.now a b c.in-Err-open.stopped.cause p.kind p.sized p.new p.at.serves p.since.store (c.in-Err-open.ensures.ends.err p.job a p.at p.since) in
     s.cause
 
 pub returns-in-Err-open-clause-calm : goal.returns-in-Err-open-clause-calm
 returns-in-Err-open-clause-calm g c size is calm =
     let p = c.in-Ok.ensures.ok size is in
-    c.in-Err-open.ensures.calm p.job (g.T.TagLink.seen c.args.link.now) p.at p.since calm
+    c.in-Err-open.ensures.ends.calm p.job (g.T.TagLink.seen c.args.link.now) p.at p.since calm
 
 pub returns-in-Err-clause-few : goal.returns-in-Err-clause-few
 returns-in-Err-clause-few g c size is =
@@ -121,7 +121,7 @@ returns-in-Ok-open-clause-few g c size is =
     let a : LinkView = g.T.TagLink.seen c.args.link.now in
     let b : LinkView = g.T.TagLink.seen c.open.new.link in
     let p = c.in-Ok.ensures.ok size is in
-    let s : Succeeds c.args.how size c.args.message.now a b = succeeds_for p.job c.args.how size c.args.message.now a b p.kind p.sized p.new p.at.serves p.since.store (c.in-Ok-open.ensures.ok p.job a p.at p.since) (c.in-Ok-open.ensures.new p.job p.at) in
+    let s : Succeeds c.args.how size c.args.message.now a b = succeeds_for p.job c.args.how size c.args.message.now a b p.kind p.sized p.new p.at.serves p.since.store (c.in-Ok-open.ensures.ends.ok p.job a p.at p.since) (c.in-Ok-open.ensures.ends.new p.job p.at) in
     s.few
 
 pub returns-in-Err-open-clause-few : goal.returns-in-Err-open-clause-few
@@ -129,7 +129,7 @@ returns-in-Err-open-clause-few g c size is =
     let a : LinkView = g.T.TagLink.seen c.args.link.now in
     let b : LinkView = g.T.TagLink.seen c.open.new.link in
     let p = c.in-Ok.ensures.ok size is in
-    let s : Stops c.args.how size c.args.message.now a b c.in-Err-open.stopped.cause = stops_for p.job c.args.how size c.args.message.now a b c.in-Err-open.stopped.cause p.kind p.sized p.new p.at.serves p.since.store (c.in-Err-open.ensures.err p.job a p.at p.since) in
+    let s : Stops c.args.how size c.args.message.now a b c.in-Err-open.stopped.cause = stops_for p.job c.args.how size c.args.message.now a b c.in-Err-open.stopped.cause p.kind p.sized p.new p.at.serves p.since.store (c.in-Err-open.ensures.ends.err p.job a p.at p.since) in
     s.few
 
 -- whatever the tag does
@@ -145,7 +145,7 @@ returns-in-Ok-open-clause-told g c =
     let b : LinkView = g.T.TagLink.seen c.open.new.link in
     let w = c.in-Ok.prepared.work in
     let p : IsPlannedBy c.args.how c.args.message.now w (g.T.TagLink.seen c.args.link.now) v = c.in-Ok.ensures.told in
-    (v, w, p, subst (λ h. AreAcknowledged h v b (all_commands w)) (work_kind c.args.how p.ground c.args.message.now w p.on) c.in-Ok-open.ensures.told)
+    (v, w, p, subst (λ h. AreAcknowledged h v b (all_commands w)) (work_kind c.args.how p.ground c.args.message.now w p.on) c.in-Ok-open.ensures.ends.told)
 
 pub returns-in-Err-open-clause-told : goal.returns-in-Err-open-clause-told
 returns-in-Err-open-clause-told g c =
@@ -153,4 +153,4 @@ returns-in-Err-open-clause-told g c =
     let b : LinkView = g.T.TagLink.seen c.open.new.link in
     let w = c.in-Ok.prepared.work in
     let p : IsPlannedBy c.args.how c.args.message.now w (g.T.TagLink.seen c.args.link.now) v = c.in-Ok.ensures.told in
-    inr (v, w, p, subst (λ h. StopsAmong h v b (all_commands w) c.in-Err-open.stopped.cause) (work_kind c.args.how p.ground c.args.message.now w p.on) c.in-Err-open.ensures.told)
+    inr (v, w, p, subst (λ h. StopsAmong h v b (all_commands w) c.in-Err-open.stopped.cause) (work_kind c.args.how p.ground c.args.message.now w p.on) c.in-Err-open.ensures.ends.told)

@@ -2,8 +2,7 @@ use Rattle.std.proofs.Common.{◌+◌, ◌≤◌, ◌<◌, sym, ◌∙◌, ap, l
 use Rattle.t4t_tag.specs.Spelling.{offset_end}
 use Rattle.tag_writer.specs.Commands.{updates_in, commands_at, command_at, IsFit}
 use Rattle.tag_writer.specs.Works.{steps_at}
-use Rattle.tag_writer.specs.declared.work.Work.TheVariants.{Blocks, File}
-use Rattle.tag_writer.proofs.Commanding.{spells, length_commands, fit_at, steps_commands}
+use Rattle.tag_writer.proofs.Commanding.{length_commands, fit_at, steps_commands}
 use Rattle.tag_writer.proofs.work.Work.command.Goals as goal
 
 pub step_at-requires : goal.step_at-requires
@@ -14,18 +13,18 @@ step_at-requires c =
 pub block_frame-requires : goal.block_frame-requires
 block_frame-requires c =
     let b = c.in-Blocks in
-    c.step_at.ensures.fit b.how (fit_at c.args.phase b.how b.plan (spells (Blocks b.how b.plan) (subst IsFit b.is c.requires.fit)))
+    c.step_at.ensures.fit b.how (fit_at c.args.phase b.how b.plan (subst IsFit b.is c.requires.fit))
 
 pub update_at-requires-clause-some : goal.update_at-requires-clause-some
-update_at-requires-clause-some c = let f = c.in-File in (spells (File f.message f.most f.close) (subst IsFit f.is c.requires.fit)).0
+update_at-requires-clause-some c = let f = c.in-File in (subst IsFit f.is c.requires.fit).0
 
 pub update_at-requires-clause-few : goal.update_at-requires-clause-few
-update_at-requires-clause-few c = let f = c.in-File in (spells (File f.message f.most f.close) (subst IsFit f.is c.requires.fit)).1
+update_at-requires-clause-few c = let f = c.in-File in (subst IsFit f.is c.requires.fit).1.0
 
 pub update_at-requires-clause-small : goal.update_at-requires-clause-small
 update_at-requires-clause-small c =
     let f = c.in-File in
-    subst (λ xs. 2 + length xs ≤ offset_end) (sym c.as_slice.ensures) (spells (File f.message f.most f.close) (subst IsFit f.is c.requires.fit)).2
+    subst (λ xs. 2 + length xs ≤ offset_end) (sym c.as_slice.ensures) (subst IsFit f.is c.requires.fit).1.1
 
 pub update_at-requires-clause-low : goal.update_at-requires-clause-low
 update_at-requires-clause-low c =

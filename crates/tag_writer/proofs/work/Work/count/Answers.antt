@@ -1,12 +1,11 @@
 use Rattle.std.proofs.Common.{sym, ◌∙◌, ap, length, subst}
 use Rattle.tag_writer.specs.Commands.{updates_in, commands_at, IsFit}
 use Rattle.tag_writer.specs.Works.{steps_at}
-use Rattle.tag_writer.specs.declared.work.Work.TheVariants.{File}
-use Rattle.tag_writer.proofs.Commanding.{spells, length_commands}
+use Rattle.tag_writer.proofs.Commanding.{length_commands}
 use Rattle.tag_writer.proofs.work.Work.count.Goals as goal
 
 pub update_count-requires : goal.update_count-requires
-update_count-requires c = let f = c.in-File in (spells (File f.message f.most f.close) (subst IsFit f.is c.requires)).0
+update_count-requires c = let f = c.in-File in (subst IsFit f.is c.requires).0
 
 pub returns-in-Blocks : goal.returns-in-Blocks
 returns-in-Blocks c =
