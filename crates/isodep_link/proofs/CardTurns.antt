@@ -81,7 +81,8 @@ module _ {L : Type 0} (k : Ghosts L) (laws : Laws k) (card : L → CardState) (t
 
       steps_dim : k.store (k.machine.after l f None) ≡ z → at_place k.store [] (map k.machine.darkened stepped_on) place ≡ z
       steps_dim q =
-          place_is k k.store [] own (map k.machine.darkened stepped_on) place (k.machine.darkened (k.machine.after l f None)) (alone_dark k laws own stepped_on place (k.machine.after l f None) stepped)
+          place_is k k.store [] own (map k.machine.darkened stepped_on) place (k.machine.darkened (k.machine.after l f None))
+          (alone_dark k laws own stepped_on place (k.machine.after l f None) stepped)
           ∙ (laws.dark_keeps (k.machine.after l f None)).1 ∙ q
 
       shows_store : (x y : Fate) (o : Option Signal) → k.store (met_by l f x) ≡ z → Shows z (stores_after k place w (tag_events f x y o))
