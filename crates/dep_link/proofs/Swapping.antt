@@ -282,11 +282,12 @@ module _ {L : Type 0} (k : Ghosts L) (laws : Laws k) where
             selected = selected;
             lit = lit;
             said = None;
-            along = starts_along (nfc_dep first) handed out The (2 * pieces i0.core.most out) (Replying F) (says steps) arrived old.trace (saying far0 None) (beginning i0 (target begin) handed arrived out) (
-              2 * pieces i0.core.most out,
-              law.asks refl refl (law.asking (omega arith) (asking_first i0 (target begin) out short s) (omega arith)),
-              record { once = sym (append-nil handed); reply = tt; stood = cut; bound = omega arith },
-            ) refl refl refl refl;
+            along = starts_along (nfc_dep first) handed out The (2 * pieces i0.core.most out) (Replying F) (says steps) arrived old.trace (saying far0 None)
+                (beginning i0 (target begin) handed arrived out) (
+                  2 * pieces i0.core.most out,
+                  law.asks refl refl (law.asking (omega arith) (asking_first i0 (target begin) out short s) (omega arith)),
+                  record { once = sym (append-nil handed); reply = tt; stood = cut; bound = omega arith },
+                ) refl refl refl refl;
             frames = framed_first old.trace;
             calm = calm_first old.trace;
             notes = [];

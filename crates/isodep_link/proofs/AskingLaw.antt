@@ -181,7 +181,8 @@ module _ {L : Type 0} (k : Ghosts L) (laws : Laws k) where
             selected = selected;
             lit = refl;
             dim = λ e. refl;
-            along = starts_along iso_dep commands command (keeps (card begin).most (card begin).busy command) (2 * pieces i0.core.most command) TagState (TagDoes (k.commands begin)) arrived old.trace (tag begin)
+            along = starts_along iso_dep commands command
+                (keeps (card begin).most (card begin).busy command) (2 * pieces i0.core.most command) TagState (TagDoes (k.commands begin)) arrived old.trace (tag begin)
                 (beginning i0 (card begin) commands arrived command) (
                   2 * pieces i0.core.most command,
                   law.asks refl refl (omega arith) (asking_first i0 (card begin) command short s) (omega arith),
@@ -268,7 +269,8 @@ module _ {L : Type 0} (k : Ghosts L) (laws : Laws k) where
           -- where the field was lost a transmission lost it
           pub broken : None ≡ h → (zs : List Event) → new.trace ≡ old.trace ++ zs → 0 < breaks zs
           broken none zs e =
-              counted_later breaks breaks-append old.trace o.along.added (turns.turned iso_dep turn.turn.reply (card last) f turn.turn.first turn.turn.second).events zs mid.trace new.trace o.along.events turn.turn.events e
+              counted_later breaks breaks-append old.trace o.along.added (turns.turned iso_dep turn.turn.reply (card last) f turn.turn.first turn.turn.second).events zs mid.trace new.trace
+              o.along.events turn.turn.events e
               (turned_lost iso_dep turn.turn.reply (card last) f turn.turn.first turn.turn.second (none ∙ turn.turn.heard_is))
 
           alone_left : IsAlone k (k.identifier begin) new.listeners place turn.left
