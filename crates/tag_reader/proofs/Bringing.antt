@@ -20,7 +20,7 @@ use Rattle.tag_reader.specs.Heard.{ask_behind, BringsPiece, EndsTag, IsLast, nex
 use Rattle.tag_reader.specs.HeardSteps.{HasNoForm, Went, Under}
 use Rattle.tag_reader.specs.SurveyHeard.{surveyed_by, IsLeftBy}
 use Rattle.tag_reader.proofs.Links.{began, began_by}
-use Rattle.tag_reader.proofs.Refusals.{refuses_t2, told_t4, error_refuses, refuses_t5}
+use Rattle.tag_reader.proofs.Refusals.{refuses_t2, done_t4, error_refuses, refuses_t5}
 
 -- one piece more
 pub before_more : (before : List (List ℕ)) (q : List ℕ) (qs : List (List ℕ)) → (before ++ q ∷ []) ++ qs ≡ before ++ (q ∷ qs)
@@ -164,7 +164,7 @@ content_one (T5 id) r p q is other = ap (λ f. drop 1 f.bytes) (sym other.frame 
 
 pub content_free : (how : How) (r : Signal) (p : List ℕ) (code : ℕ) → HasContent how r p → Refuses how r code → ⊥
 content_free T2 r p code is refuses = (let clash : 0 ≡ 4 = ap (λ f. f.tail) (sym is.1 ∙ (refuses_t2 r code refuses).0) in omega (arith, clash))
-content_free T4 r p code is refuses = (let none : None ≡ Some code = sym (told_t4 r p 0x90 0x00 is.0) ∙ refuses in cc)
+content_free T4 r p code is refuses = (let none : None ≡ Some code = sym (done_t4 r p is.0) ∙ refuses in cc)
 content_free (T5 id) r p code is refuses =
     (let clash : 0 ∷ p ≡ 1 ∷ code ∷ [] = ap (λ f. f.bytes) (sym is.frame ∙ refuses_t5 id r code refuses) in cc)
 

@@ -1,9 +1,10 @@
 -- What an answer is that refuses its command.
-use Rattle.std.proofs.Common.{◌≡◌, ℕ, ◌+◌, ◌*◌, ◌<◌, List, [], ◌∷◌, ◌++◌, length, Bool, true, false, ◌==◌, ◌&&◌, if◌then◌else◌, Option, Some, None, nat_eq, refl, sym, ◌∙◌, ap, arith}
+use Rattle.std.proofs.Common.{◌≡◌, ℕ, ◌+◌, ◌-◌, List, [], ◌∷◌, ◌++◌, length, slice_index, Bool, true, ◌==◌, ◌&&◌, if◌then◌else◌, Option, Some, None, nat_eq, nat_le, refl, sym, ◌∙◌, ap, arith}
+use Rattle.std.proofs.lemmas.List.{length-append, get_or-append-add}
 use Rattle.std.specs.Cmp.Lexicographic.{pointwise}
 use Rattle.nfc_base.specs.declared.frame.Tech.{Tech}
 use Rattle.nfc_base.specs.declared.frame.Tech.TheVariants.{A, V, F}
-use Rattle.nfc_base.specs.Signal.{Signal, signal, whole_a, is_whole_a}
+use Rattle.nfc_base.specs.Signal.{Signal, signal, whole_a}
 use Rattle.t2t_tag.specs.Spelling as t2
 use Rattle.t2t_tag.specs.declared.answer.T2Answer.TheVariants as t2_says
 use Rattle.t4t_tag.specs.Step.{done}
@@ -32,30 +33,18 @@ refuses_t2 r code is = told r.tech r.bytes r.tail is
     told V bytes tail e = absurd cc
     told F bytes tail e = absurd cc
 
--- of a Type 4 tag the last two bytes count
-last_two : (content : List ℕ) (high low : ℕ) → t4_code (content ++ high ∷ low ∷ []) ≡ t4_code (high ∷ low ∷ [])
-last_two [] high low = refl
-last_two (a ∷ []) high low = refl
-last_two (a ∷ b ∷ []) high low = refl
-last_two (a ∷ b ∷ c ∷ content) high low = last_two (b ∷ c ∷ content) high low
-
-pub told_t4 : (r : Signal) (content : List ℕ) (high low : ℕ) → r ≡ whole_a (content ++ high ∷ low ∷ []) → refusal_of T4 r ≡ t4_code (high ∷ low ∷ [])
-told_t4 r content high low is = ap (refusal_of T4) is ∙ last_two content high low
-
-pub refused_t4 : (r : Signal) (content : List ℕ) (high low : ℕ) → r ≡ whole_a (content ++ high ∷ low ∷ []) → pointwise nat_eq (high ∷ low ∷ []) done ≡ false → Refuses T4 r (high * 256 + low)
-refused_t4 r content high low is odd = told_t4 r content high low is ∙ ap (λ v. if v then None else Some (high * 256 + low)) odd
-
-pub done_t4 : (r : Signal) (content : List ℕ) (high low : ℕ) → r ≡ whole_a (content ++ high ∷ low ∷ []) → pointwise nat_eq (high ∷ low ∷ []) done ≡ true → refusal_of T4 r ≡ None
-done_t4 r content high low is done' = told_t4 r content high low is ∙ ap (λ v. if v then None else Some (high * 256 + low)) done'
-
-pub short_t4 : (r : Signal) → length r.bytes < 2 → refusal_of T4 r ≡ None
-short_t4 r short = by_whole (is_whole_a r) r.bytes short
-  where
-    by_whole : (v : Bool) (bytes : List ℕ) → length bytes < 2 → (if v then t4_code bytes else None) ≡ None
-    by_whole true [] short = refl
-    by_whole true (a ∷ []) short = refl
-    by_whole true (a ∷ b ∷ bytes) short = absurd (omega (arith, short))
-    by_whole false bytes short = refl
+-- a Type 4 tag that obeyed
+pub done_t4 : (r : Signal) (content : List ℕ) → r ≡ whole_a (content ++ done) → refusal_of T4 r ≡ None
+done_t4 r content is =
+    let bytes : List ℕ = content ++ done in
+    let long : length bytes ≡ length content + 2 = length-append content done in
+    let first : length bytes - 2 ≡ length content + 0 = omega (arith, long) in
+    let second : length bytes - 1 ≡ length content + 1 = omega (arith, long) in
+    let high : slice_index bytes (length bytes - 2) ≡ 0x90 = ap (slice_index bytes) first ∙ get_or-append-add content done 0 0 in
+    let low : slice_index bytes (length bytes - 1) ≡ 0x00 = ap (slice_index bytes) second ∙ get_or-append-add content done 1 0 in
+    let two : nat_le 2 (length bytes) ≡ true = grind (arith, long) in
+    ap (refusal_of T4) is ∙ ap (λ v. if v then t4_code (slice_index bytes (length bytes - 2)) (slice_index bytes (length bytes - 1)) else None) two
+    ∙ ap (λ h. t4_code h (slice_index bytes (length bytes - 1))) high ∙ ap (t4_code 0x90) low
 
 -- a Type 5 tag
 pub error_refuses : (id : List ℕ) (r : Signal) (code : ℕ) → r ≡ t5.answer_frame (Error code) → Refuses (T5 id) r code

@@ -1,9 +1,9 @@
 -- What the answers of a tag tell a reader, whatever the tag does (NFC Forum Type 2, Type 4 and Type 5 Tag): the pieces that
 -- they bring, one a command, which command follows them, and what they say of the message.
-use Rattle.std.specs.Prelude.{◌≡◌, ℕ, zero, suc, ◌+◌, ◌-◌, ◌*◌, ◌<◌, ◌≤◌, ◌⊎◌, ◌↔◌, ◌==◌, ◌&&◌, nat_eq, if◌then◌else◌, min, false, List, [], ◌∷◌, ◌++◌, length, Bool, Option, Some, None, Result, Ok, Err, IsErrOf, IsOkAnd}
+use Rattle.std.specs.Prelude.{◌≡◌, ℕ, zero, suc, ◌+◌, ◌-◌, ◌*◌, ◌<◌, ◌≤◌, ◌⊎◌, ◌↔◌, ◌==◌, ◌&&◌, nat_eq, nat_le, slice_index, if◌then◌else◌, min, false, List, [], ◌∷◌, ◌++◌, length, Bool, Option, Some, None, Result, Ok, Err, IsErrOf, IsOkAnd}
 use Rattle.std.specs.Cmp.Lexicographic.{pointwise}
 use Rattle.std.specs.List.{flat_map, list_any}
-use Rattle.nfc_base.specs.Signal.{Signal, whole_a, is_nfc_a, is_whole_a}
+use Rattle.nfc_base.specs.Signal.{Signal, whole_a, is_nfc_a, is_whole_a, last_byte}
 use Rattle.nfc_base.specs.TagLinks.{TagState, TagStep, LinkView, after_all}
 use Rattle.nfc_base.specs.declared.tag_link.AskFault.TheVariants as ask
 use Rattle.t2t_tag.specs.Spelling as t2
@@ -127,11 +127,8 @@ Brings (T5 id) ps r p = BringsPiece (T5 id) ps r p ⊎ FallsBack ps r p
 
 -- The code by which an answer refuses its command, where it does: 0 for the four bits 0h of a Type 2 tag, the status bytes that
 -- end the answer of a Type 4 tag, unless they are 9000h, and the code of an error of a Type 5 tag.
-abbrev pub t4_code : List ℕ → Option ℕ
-t4_code [] = None
-t4_code (byte ∷ []) = None
-t4_code (high ∷ low ∷ []) = if pointwise nat_eq (high ∷ low ∷ []) done then None else Some (high * 256 + low)
-t4_code (byte ∷ bytes) = t4_code bytes
+abbrev pub t4_code : ℕ → ℕ → Option ℕ
+t4_code high low = if pointwise nat_eq (high ∷ low ∷ []) done then None else Some (high * 256 + low)
 
 abbrev pub t5_code : Option T5Answer → Option ℕ
 t5_code (Some (Error code)) = Some code
@@ -139,7 +136,7 @@ t5_code answer = None
 
 abbrev pub refusal_of : How → Signal → Option ℕ
 refusal_of T2 r = if is_nfc_a r.tech && (pointwise nat_eq r.bytes (t2.nak ∷ []) && (r.tail == 4)) then Some 0 else None
-refusal_of T4 r = if is_whole_a r then t4_code r.bytes else None
+refusal_of T4 r = if is_whole_a r && nat_le 2 (length r.bytes) then t4_code (slice_index r.bytes (length r.bytes - 2)) (last_byte r.bytes) else None
 refusal_of (T5 id) r = t5_code (spelled_answer r)
 
 abbrev pub Refuses : How → Signal → ℕ → Type 0
