@@ -1,5 +1,5 @@
 -- Which move a target makes at each frame of an exchange.
-use Rattle.std.proofs.Common.{◌≡◌, ℕ, ◌<◌, ◌≤◌, nat_lt, Bool, true, false, List, ◌++◌, length, take, Option, Some, None, refl, ap, ◌∙◌, arith, take_all}
+use Rattle.std.proofs.Common.{◌≡◌, ℕ, nat_lt, Bool, true, false, List, ◌++◌, length, take, Option, Some, None, refl, ap, ◌∙◌, arith, take_all}
 use Rattle.std.proofs.lemmas.Bool.{lt-ltb, ltb-true}
 use Rattle.nfc_base.specs.Signal.{Signal}
 use Rattle.dep_pdu.specs.declared.frame.DepFrame.{DepFrame}
