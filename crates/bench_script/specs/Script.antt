@@ -11,6 +11,7 @@ use Rattle.nfc_base.specs.declared.event.Fate.{Fate}
 use Rattle.nfc_base.specs.declared.event.Fate.TheVariants.{Pass, Damage, Lose, Break}
 use Rattle.nfca_poll.specs.Ident.{IsIdent}
 use Rattle.t5t_tag.specs.Store.{IsBlockSize}
+use Rattle.llcp_pdu.specs.Wire.{least_miu}
 use Rattle.bench_script.specs.declared.command.Command.{Command}
 use Rattle.bench_script.specs.declared.command.Command.TheVariants.{Skip, Fates, PlaceT2, PlaceT3, PlaceT4, PlaceT5, PlacePeer, Lock, Busy, Offer, Remove, Dump, Inbox, Find, Crowd, Poll3, Read, Read3, Write, Write3, Link, Forge, Raw, Put, Get, Lookup, OnPut, OnGet, Puts, Unlink}
 use Rattle.bench_script.specs.declared.command.DeviceId.{DeviceId}
@@ -86,10 +87,8 @@ least_lr = 0
 abbrev pub most_lr : ℕ
 most_lr = 3
 
--- MIU: how many bytes of information a PDU to an end of a link has at most, a peer's or the reader's (NFC Forum LLCP)
-abbrev pub least_miu : ℕ
-least_miu = 128
-
+-- MIU: how many bytes of information a PDU to an end of a link has at most, a peer's or the reader's (NFC Forum LLCP),
+-- from least_miu on
 abbrev pub most_miu : ℕ
 most_miu = 2175
 

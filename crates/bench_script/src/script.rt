@@ -12,6 +12,7 @@ mod words;
 
 use crate::command::Command;
 use links::{forge_line, get_line, link_line, lookup_line, on_line, put_line, puts_line, raw_line};
+use llcp_pdu::LEAST_MIU;
 use std::alloc::{AllocError, Global};
 use thiserror::Error;
 use words::{
@@ -41,9 +42,7 @@ const LEAST_LR: u8 = 0;
 
 const MOST_LR: u8 = 3;
 
-/// How many bytes of information a PDU to an end of a link may have, a peer's or the reader's (NFC Forum LLCP).
-const LEAST_MIU: u16 = 128;
-
+/// How many bytes of information a PDU to an end of a link may have at most, a peer's or the reader's (NFC Forum LLCP).
 const MOST_MIU: u16 = 2175;
 
 /// How many I PDUs such an end can take that it hasn't acknowledged (NFC Forum LLCP).

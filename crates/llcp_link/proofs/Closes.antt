@@ -1,6 +1,6 @@
 -- A connection is given up, or minds a PDU, by who has it.
 use Rattle.std.proofs.Common.{◌≡◌, ℕ, ◌==◌, Bool, true, false, List, slice_index_or, slice_set, Option, Some, None, refl, sym, ap, subst, ◌∙◌, arith, if◌then◌else◌}
-use Rattle.std.proofs.lemmas.Bool.Decides.{nat_tests}
+use Rattle.std.proofs.lemmas.Bool.{eq-eqb}
 use Rattle.llcp_pdu.specs.declared.part.FrmrReport.{FrmrReport}
 use Rattle.llcp_pdu.specs.declared.part.Part.TheVariants.{Dm, Frmr}
 use Rattle.llcp_conn.specs.declared.conn.ConnNumbers.{ConnNumbers}
@@ -17,9 +17,6 @@ use Rattle.llcp_link.specs.Closing.{AreNumbers, ClosesHeld, ClosesOwn, Holds, Is
 use Rattle.llcp_link.specs.declared.own.Heard.TheVariants as heard
 use Rattle.llcp_link.specs.Taking.{answered, asked_so, breaks, disconnected, ends, flag_w, leaves, not_connected, numbered}
 
-is_same : (m n : ℕ) → m ≡ n → (m == n) ≡ true
-is_same m n e = grind (arith, nat_tests)
-
 held_if : (b : Bool) (c : ConnState) (other : Holder) → (if b then Served c else Nobody) ≡ Nobody → (if b then Served c else other) ≡ other
 held_if true c other e = absurd cc
 held_if false c other e = refl
@@ -30,7 +27,7 @@ not_served d None other e = refl
 not_served d (Some c) other e = held_if (c.here == d) c other e
 
 pub served_here : (d s : ℕ) (cs : List ConnState) (c : ConnState) (other : Holder) → IsHeld d s cs c → served_holder d (conn_from s cs) other ≡ Served c
-served_here d s cs c other h = ap (λ o. served_holder d o other) h.found ∙ ap (λ b. if b then Served c else other) (is_same c.here d h.here)
+served_here d s cs c other h = ap (λ o. served_holder d o other) h.found ∙ ap (λ b. if b then Served c else other) (eq-eqb c.here d h.here)
 
 numbers_of : (c : ConnState) (n : ConnNumbers) → IsServed c → n ≡ numbers c → AreNumbers n
 numbers_of c n h e = subst AreNumbers (sym e) (record { vs = omega arith; vr = h.vr; vsa = h.vsa; vra = h.vra })

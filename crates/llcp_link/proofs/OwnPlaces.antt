@@ -1,6 +1,6 @@
 -- Where a connection stands among those that an end asked for.
 use Rattle.std.proofs.Common.{◌≡◌, ℕ, suc, ◌==◌, Bool, true, false, List, [], ◌∷◌, Option, Some, None, option_map, refl, sym, ap, subst, ◌∙◌, arith, if◌then◌else◌}
-use Rattle.std.proofs.lemmas.Bool.Decides.{nat_tests}
+use Rattle.std.proofs.lemmas.Bool.{eq-eqb, eqb-true}
 use Rattle.llcp_link.specs.State.{OwnState, own_from, with_own}
 use Rattle.llcp_link.specs.Asking.{put_own, without_own}
 use Rattle.llcp_link.specs.Places.{IsNowhere, PlaceOf, StandsAt, own_place}
@@ -9,19 +9,13 @@ no_place : (p : Option ℕ) → option_map suc p ≡ None → p ≡ None
 no_place None e = refl
 no_place (Some i) e = absurd cc
 
-is_same : (m n : ℕ) → m ≡ n → (m == n) ≡ true
-is_same m n e = grind (arith, nat_tests)
-
-is_it : (m n : ℕ) → (m == n) ≡ true → m ≡ n
-is_it m n e = grind (arith, nat_tests)
-
 -- the connection from a SAP is from it
 pub here_of : (h : ℕ) (os : List OwnState) (o : OwnState) → own_from h os ≡ Some o → o.here ≡ h
 here_of h [] o e = absurd cc
 here_of h (q ∷ qs) o e = first (q.here == h) refl e (here_of h qs o)
   where
     first : (b : Bool) → (q.here == h) ≡ b → (if b then Some q else own_from h qs) ≡ Some o → (own_from h qs ≡ Some o → o.here ≡ h) → o.here ≡ h
-    first true t i more = let same : q ≡ o = cc in ap (λ x. x.here) (sym same) ∙ is_it q.here h t
+    first true t i more = let same : q ≡ o = cc in ap (λ x. x.here) (sym same) ∙ eqb-true q.here h t
     first false t i more = more i
 
 -- what stands there is put back
@@ -32,7 +26,7 @@ with_same h (p ∷ ps) o e = by_test (p.here == h) refl e (with_same h ps o)
     by_test : (b : Bool) → (p.here == h) ≡ b → (if b then Some p else own_from h ps) ≡ Some o → (own_from h ps ≡ Some o → with_own o ps ≡ ps) → with_own o (p ∷ ps) ≡ p ∷ ps
     by_test true t i more =
         let same : p ≡ o = cc in
-        ap (λ b. if b then o ∷ ps else p ∷ with_own o ps) (is_same p.here o.here (ap (λ x. x.here) same)) ∙ ap (λ x. x ∷ ps) (sym same)
+        ap (λ b. if b then o ∷ ps else p ∷ with_own o ps) (eq-eqb p.here o.here (ap (λ x. x.here) same)) ∙ ap (λ x. x ∷ ps) (sym same)
     by_test false t i more =
         ap (λ b. if b then o ∷ ps else p ∷ with_own o ps) (ap (λ x. p.here == x) (here_of h ps o i) ∙ t) ∙ ap (λ xs. p ∷ xs) (more i)
 
@@ -46,7 +40,7 @@ module _ (h : ℕ) where
 
   stands_first : (o : OwnState) (os : List OwnState) → (o.here == h) ≡ true → StandsAt h (o ∷ os) 0
   stands_first o os t =
-      let here : o.here ≡ h = is_it o.here h t in record {
+      let here : o.here ≡ h = eqb-true o.here h t in record {
         own = o;
         low = omega arith;
         found = ap (λ b. if b then Some o else own_from h os) t;

@@ -1,6 +1,7 @@
 -- A connection at its place: found, changed and taken away there.
 use Rattle.std.proofs.Common.{◌≡◌, ℕ, suc, option_map, subst, ◌==◌, Bool, true, false, List, [], ◌∷◌, ◌++◌, length, slice_set, slice_index_or, Option, Some, None, refl, sym, ap, ◌∙◌, if◌then◌else◌, arith, remove}
 use Rattle.std.proofs.Math.Seq.{set-append_seam}
+use Rattle.std.proofs.lemmas.Bool.{eq-eqb}
 use Rattle.std.proofs.lemmas.Bool.Decides.{nat_tests}
 use Rattle.llcp_conn.specs.Conn.{ConnState}
 use Rattle.llcp_link.specs.State.{conn_from, with_conn, without_conn}
@@ -10,25 +11,22 @@ none_first : (b : Bool) (c : ConnState) (o : Option ConnState) → (if b then So
 none_first true c o e = cc
 none_first false c o e = (refl, e)
 
-is_same : (m n : ℕ) → m ≡ n → (m == n) ≡ true
-is_same m n e = grind (arith, nat_tests)
-
 pub found_at : (s : ℕ) (before : List ConnState) (c : ConnState) (behind : List ConnState) → conn_from s before ≡ None → c.there ≡ s → conn_from s (before ++ c ∷ behind) ≡ Some c
-found_at s [] c behind n e = ap (λ b. if b then Some c else conn_from s behind) (is_same c.there s e)
+found_at s [] c behind n e = ap (λ b. if b then Some c else conn_from s behind) (eq-eqb c.there s e)
 found_at s (d ∷ ds) c behind n e =
     let k = none_first (d.there == s) d (conn_from s ds) n in
     ap (λ b. if b then Some d else conn_from s (ds ++ c ∷ behind)) k.0 ∙ found_at s ds c behind k.1 e
 
 pub with_at : (s : ℕ) (before : List ConnState) (c : ConnState) (behind : List ConnState) (new : ConnState)
     → conn_from s before ≡ None → c.there ≡ s → new.there ≡ s → with_conn new (before ++ c ∷ behind) ≡ before ++ new ∷ behind
-with_at s [] c behind new n e i = ap (λ b. if b then new ∷ behind else c ∷ with_conn new behind) (is_same c.there new.there (e ∙ sym i))
+with_at s [] c behind new n e i = ap (λ b. if b then new ∷ behind else c ∷ with_conn new behind) (eq-eqb c.there new.there (e ∙ sym i))
 with_at s (d ∷ ds) c behind new n e i =
     let k = none_first (d.there == s) d (conn_from s ds) n in
     let f : (d.there == new.there) ≡ false = ap (λ x. d.there == x) i ∙ k.0 in
     ap (λ b. if b then new ∷ (ds ++ c ∷ behind) else d ∷ with_conn new (ds ++ c ∷ behind)) f ∙ ap (λ xs. d ∷ xs) (with_at s ds c behind new k.1 e i)
 
 pub without_at : (s : ℕ) (before : List ConnState) (c : ConnState) (behind : List ConnState) → conn_from s before ≡ None → c.there ≡ s → without_conn s (before ++ c ∷ behind) ≡ before ++ behind
-without_at s [] c behind n e = ap (λ b. if b then behind else c ∷ without_conn s behind) (is_same c.there s e)
+without_at s [] c behind n e = ap (λ b. if b then behind else c ∷ without_conn s behind) (eq-eqb c.there s e)
 without_at s (d ∷ ds) c behind n e =
     let k = none_first (d.there == s) d (conn_from s ds) n in
     ap (λ b. if b then (ds ++ c ∷ behind) else d ∷ without_conn s (ds ++ c ∷ behind)) k.0 ∙ ap (λ xs. d ∷ xs) (without_at s ds c behind k.1 e)

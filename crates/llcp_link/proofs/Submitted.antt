@@ -1,13 +1,10 @@
 -- What is still to come on a connection that an end asked for grows by a unit that is submitted.
 use Rattle.std.proofs.Common.{◌≡◌, ℕ, ◌+◌, ◌==◌, Bool, true, false, List, [], ◌∷◌, Option, Some, None, refl, ap, ◌∙◌, arith, if◌then◌else◌, is_none, length-append}
-use Rattle.std.proofs.lemmas.Bool.Decides.{nat_tests}
+use Rattle.std.proofs.lemmas.Bool.{eq-eqb}
 use Rattle.llcp_link.specs.State.{LlcState, OwnIs, Asking, Open, Refused, Leaving, Closed, OwnState, own_from, with_own}
 use Rattle.llcp_link.specs.Asking.{queued_on, refusal_of, refusal_on, submitted_by}
 use Rattle.llcp_link.specs.Waning.{pending, pending_on}
 use Rattle.llcp_link.proofs.OwnPlaces.{here_of}
-
-is_same : (m n : ℕ) → m ≡ n → (m == n) ≡ true
-is_same m n e = grind (arith, nat_tests)
 
 -- what was put there is read there
 pub own_with : (h : ℕ) (os : List OwnState) (o p : OwnState) → own_from h os ≡ Some p → o.here ≡ h → own_from h (with_own o os) ≡ Some o
@@ -18,7 +15,7 @@ own_with h (x ∷ os) o p e i = go (x.here == h) refl e (own_with h os o p)
         → own_from h (with_own o (x ∷ os)) ≡ Some o
     go true t k more =
         ap (λ b. own_from h (if b then o ∷ os else x ∷ with_own o os)) (ap (λ z. x.here == z) i ∙ t)
-        ∙ ap (λ b. if b then Some o else own_from h os) (is_same o.here h i)
+        ∙ ap (λ b. if b then Some o else own_from h os) (eq-eqb o.here h i)
     go false t k more =
         ap (λ b. own_from h (if b then o ∷ os else x ∷ with_own o os)) (ap (λ z. x.here == z) i ∙ t)
         ∙ ap (λ b. if b then Some x else own_from h (with_own o os)) t ∙ more k i

@@ -9,8 +9,9 @@ use super::words::{
     cut_word, device_word, hex_word, ident_word, long_word, message_word, name_word, only_word,
     small_word, three_words, two_words, within_word,
 };
-use super::{LEAST_MIU, LEAST_RW, LineFault, MOST_MIU, MOST_RW};
+use super::{LEAST_RW, LineFault, MOST_MIU, MOST_RW};
 use crate::command::Command;
+use llcp_pdu::LEAST_MIU;
 use std::alloc::Global;
 
 /// How many bytes the value of a key may have that a get takes (this project's limits).
