@@ -26,7 +26,7 @@ use Rattle.tag_reader.specs.declared.ask.Ask.TheVariants.{One, Many}
 use Rattle.tag_reader.specs.Files.{file_command, file_frame, file_in, message_length}
 use Rattle.tag_reader.specs.Kinds.{command}
 use Rattle.tag_reader.specs.Survey.{surveyed}
-use Rattle.tag_writer.specs.Puts.{Put, commands_of, block_command, piece_put, most_brought}
+use Rattle.tag_writer.specs.Puts.{Put, commands_of, block_command, update_put, piece_of, most_brought}
 use Rattle.tag_writer.specs.WriteAsked.{Parts, all_puts, AreFilePuts, ArePuts, up_to_refused}
 use Rattle.bench_devices.specs.declared.device.Device.{Device}
 use Rattle.bench_devices.specs.Device.{device_store, device_commands, how_of, size_of}
@@ -103,7 +103,7 @@ either_puts : (v : Bool) (ps qs : List Put) → AllByRecursion IsOther (commands
 either_puts true ps qs p q = p
 either_puts false ps qs p q = q
 
-pieces_other : (store message : List ℕ) (ks : List ℕ) → AllByRecursion IsOther (commands_of (map (piece_put store message) ks))
+pieces_other : (store message : List ℕ) (ks : List ℕ) → AllByRecursion IsOther (commands_of (map (piece_of (update_put store) message (most_brought store)) ks))
 pieces_other store message [] = tt
 pieces_other store message (k ∷ ks) = (
   file_other (UpdateBinary (2 + most_brought store * k) (record { items = take (most_brought store) (drop (most_brought store * k) message) })),

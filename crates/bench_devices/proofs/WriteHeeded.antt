@@ -26,12 +26,13 @@ use Rattle.tag_reader.specs.Survey.{surveyed}
 use Rattle.tag_reader.proofs.Cards.{store_is}
 use Rattle.tag_reader.proofs.Files.{Named, named}
 use Rattle.tag_writer.specs.Place.{Place, Takes}
-use Rattle.tag_writer.specs.Puts.{Put, commands_of, block_command, update_put, piece_put, most_brought, file_close, file_fill, file_last}
+use Rattle.tag_writer.specs.declared.phase.Phase.TheVariants.{Prepared, Emptied, Filled}
+use Rattle.tag_writer.specs.Puts.{Put, commands_of, block_command, update_put, piece_of, most_brought, file_puts}
 use Rattle.tag_writer.specs.Puttings.{IsBlockPut, IsUpdatePut}
 use Rattle.tag_writer.specs.Phases.{file_parts}
 use Rattle.tag_writer.specs.WriteAsked.{Parts, all_puts, AreFilePuts, ArePuts, up_to_refused}
 use Rattle.tag_writer.proofs.Addresses.{all_run}
-use Rattle.tag_writer.proofs.DoablePuts.{doable_puts, room_for, file_puts}
+use Rattle.tag_writer.proofs.DoablePuts.{doable_puts, room_for, file_parts_are}
 use Rattle.tag_writer.proofs.FileJobs.{file_serves}
 use Rattle.bench_devices.specs.declared.device.Device.{Device}
 use Rattle.bench_devices.specs.declared.device.Device.TheVariants.{T2, T4, Peer, T5, T3}
@@ -102,9 +103,9 @@ module _ (size : ℕ) (store message : List ℕ) (is : IsFileStore store) (place
 
   contents : AreBytes message → AllByRecursion OfBytes (all_puts (file_parts store message))
   contents bytes =
-      both_all OfBytes (file_close store ++ file_fill store message) (file_last store message)
-      (both_all OfBytes (file_close store) (file_fill store message) (closes (message_length (file_in store) == 0))
-      (all_run OfBytes (piece_put store message) 0 (div_ceil (length message) (most_brought store)) (λ k low high. (cut_bytes (most_brought store) _ (cut_bytes (most_brought store * k) message bytes).1).0)))
+      both_all OfBytes (file_puts Prepared store message ++ file_puts Emptied store message) (file_puts Filled store message)
+      (both_all OfBytes (file_puts Prepared store message) (file_puts Emptied store message) (closes (message_length (file_in store) == 0))
+      (all_run OfBytes (piece_of (update_put store) message (most_brought store)) 0 (div_ceil (length message) (most_brought store)) (λ k low high. (cut_bytes (most_brought store) _ (cut_bytes (most_brought store * k) message bytes).1).0)))
       (lasts (length message == 0))
     where
       closes : (v : Bool) → AllByRecursion OfBytes (if v then [] else update_put store 0 (0 ∷ 0 ∷ []) ∷ [])
@@ -127,7 +128,7 @@ module _ (size : ℕ) (store message : List ℕ) (is : IsFileStore store) (place
 
   four_heeded : AreBytes message → (p : Parts) → AreFilePuts store message p → AllByRecursion (IsHeeded hows.T4) (commands_of (all_puts p))
   four_heeded bytes p are =
-      subst (λ ps. AllByRecursion (IsHeeded hows.T4) (commands_of ps)) (sym (file_puts store message p are)) (each_heeded (all_puts (file_parts store message)) (file_serves size store message (room_for size store message is place takes)).puts (contents bytes))
+      subst (λ ps. AllByRecursion (IsHeeded hows.T4) (commands_of ps)) (sym (file_parts_are store message p are)) (each_heeded (all_puts (file_parts store message)) (file_serves size store message (room_for size store message is place takes)).puts (contents bytes))
 
 -- So each tag heeds the writes of a message of bytes that it takes.
 puts_heeded : (message : List ℕ) (d : Device) → may_be_read d ≡ true → IsSound (kept d) → AreBytes message → (p : Parts) (place : Place) → Takes (how_of d) (size_of d) (device_store d) message place

@@ -136,7 +136,9 @@ t5_code answer = None
 
 abbrev pub refusal_of : How → Signal → Option ℕ
 refusal_of T2 r = if is_nfc_a r.tech && (pointwise nat_eq r.bytes (t2.nak ∷ []) && (r.tail == 4)) then Some 0 else None
-refusal_of T4 r = if is_whole_a r && nat_le 2 (length r.bytes) then t4_code (slice_index r.bytes (length r.bytes - 2)) (last_byte r.bytes) else None
+refusal_of T4 r =
+    if is_whole_a r && nat_le 2 (length r.bytes) then t4_code (slice_index r.bytes (length r.bytes - 2)) (last_byte r.bytes)
+    else None
 refusal_of (T5 id) r = t5_code (spelled_answer r)
 
 abbrev pub Refuses : How → Signal → ℕ → Type 0

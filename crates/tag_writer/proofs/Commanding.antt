@@ -18,11 +18,11 @@ use Rattle.tag_writer.specs.declared.phase.Phase.{Phase}
 use Rattle.tag_writer.specs.declared.phase.Phase.TheVariants.{Prepared, Emptied, Filled}
 use Rattle.tag_writer.specs.declared.work.Work.{Work}
 use Rattle.tag_writer.specs.declared.work.Work.TheVariants.{Blocks, File}
-use Rattle.tag_writer.specs.Puts.{Put, commands_of, block_puts, block_command, most_brought, update_put, piece_put}
+use Rattle.tag_writer.specs.Puts.{Put, commands_of, block_puts, block_command, most_brought, update_command, update_put, piece_of, file_puts}
 use Rattle.tag_writer.specs.Puttings.{signal_at}
 use Rattle.tag_writer.specs.Phases.{Job, IsWork, how_of, next_at}
-use Rattle.tag_writer.specs.Works.{IsStepFor, steps_at, updates_at, IsPieceAt}
-use Rattle.tag_writer.specs.Commands.{update_command, piece_command, updates_in, commands_at, command_at, IsFit}
+use Rattle.tag_writer.specs.Works.{IsStepFor, steps_at, IsPieceAt}
+use Rattle.tag_writer.specs.Commands.{updates_in, commands_at, command_at, IsFit}
 use Rattle.tag_writer.proofs.Doing.{t2_may, t5_may}
 use Rattle.tag_writer.proofs.Jobs.{all_front, all_rest}
 use Rattle.tag_writer.proofs.Steps.{next_steps}
@@ -70,12 +70,12 @@ nth_of_run f a (suc n) zero low = (let here : a ≡ a + 0 = omega arith in ap f 
 nth_of_run f a (suc n) (suc k) low = (let next : a + 1 + k ≡ a + suc k = omega arith in nth_of_run f (a + 1) n k (omega (arith, low)) ∙ ap f next)
 
 pub count_of : (message : List ℕ) (most : ℕ) (close : Bool) → length (updates_in Emptied message most close) ≡ div_ceil (length message) most
-count_of message most close = length-map-range_with_len (piece_command message most) 0 (div_ceil (length message) most)
+count_of message most close = length-map-range_with_len (piece_of update_command message most) 0 (div_ceil (length message) most)
 
-pub piece_is : (message : List ℕ) (most k : ℕ) (close : Bool) → k < length (updates_in Emptied message most close) → piece_command message most k ≡ command_at (updates_in Emptied message most close) k
+pub piece_is : (message : List ℕ) (most k : ℕ) (close : Bool) → k < length (updates_in Emptied message most close) → piece_of update_command message most k ≡ command_at (updates_in Emptied message most close) k
 piece_is message most k close low =
     let here : 0 + k ≡ k = omega arith in
-    sym (nth_of_run (piece_command message most) 0 (div_ceil (length message) most) k (omega (arith, low, count_of message most close)) ∙ ap (piece_command message most) here)
+    sym (nth_of_run (piece_of update_command message most) 0 (div_ceil (length message) most) k (omega (arith, low, count_of message most close)) ∙ ap (piece_of update_command message most) here)
 
 pub piece_fits : (message : List ℕ) (most k : ℕ) (close : Bool) → 1 ≤ most → most ≤ 255 → 2 + length message ≤ offset_end → k < length (updates_in Emptied message most close) → IsPieceAt message most k
 piece_fits message most k close some few small low = record {
@@ -109,14 +109,14 @@ commands_run f g [] same = refl
 commands_run f g (x ∷ xs) same = ap (λ c. c ∷ commands_of (map f xs)) (same x) ∙ ap (λ cs. g x ∷ cs) (commands_run f g xs same)
 
 file_commands : (phase : Phase) (store message : List ℕ) (most : ℕ) (close : Bool) → most ≡ most_brought store → close ≡ not (message_length (file_in store) == 0) →
-    commands_of (updates_at phase store message) ≡ updates_in phase message most close
+    commands_of (file_puts phase store message) ≡ updates_in phase message most close
 file_commands Prepared store message most close brings closes = by_length (message_length (file_in store) == 0) ∙ ap (λ v. updates_in Prepared message most v) (sym closes)
   where
     by_length : (v : Bool) → commands_of (if v then [] else update_put store 0 (0 ∷ 0 ∷ []) ∷ []) ≡ updates_in Prepared message most (not v)
     by_length true = refl
     by_length false = refl
 file_commands Emptied store message most close brings closes =
-    commands_run (piece_put store message) (piece_command message (most_brought store)) (range_with_len 0 (div_ceil (length message) (most_brought store))) (λ k. refl)
+    commands_run (piece_of (update_put store) message (most_brought store)) (piece_of update_command message (most_brought store)) (range_with_len 0 (div_ceil (length message) (most_brought store))) (λ k. refl)
     ∙ ap (λ m. updates_in Emptied message m close) (sym brings)
 file_commands Filled store message most close brings closes = by_length (length message == 0)
   where

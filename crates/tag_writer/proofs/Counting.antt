@@ -15,7 +15,8 @@ use Rattle.tag_reader.specs.declared.how.How.{How}
 use Rattle.tag_reader.specs.declared.how.How.TheVariants.{T4}
 use Rattle.tag_reader.specs.Files.{container_end, file_in, message_length}
 use Rattle.tag_reader.specs.Survey.{block_size}
-use Rattle.tag_writer.specs.Puts.{Put, put_into, block_put, block_puts, update_put, most_brought, piece_put, file_close, file_fill, file_last}
+use Rattle.tag_writer.specs.declared.phase.Phase.TheVariants.{Prepared, Emptied, Filled}
+use Rattle.tag_writer.specs.Puts.{Put, put_into, block_put, block_puts, update_put, most_brought, piece_of, file_puts}
 use Rattle.tag_writer.specs.Place.{file_place}
 use Rattle.tag_writer.specs.WriteAsked.{all_puts}
 use Rattle.tag_writer.specs.Phases.{file_parts}
@@ -126,24 +127,24 @@ module _ (store message : List ℕ) (some : 1 ≤ most_brought store) where
   pub home : slice_index (file_place store message).span 0 ≡ end
   home = (let first = get_or-range_with_len end (2 + length message) 0 0 (omega arith) in let same : end + 0 ≡ end = omega arith in first ∙ same)
 
-  up : (j k : ℕ) → j < k → (piece_put store message j).at < (piece_put store message k).at
+  up : (j k : ℕ) → j < k → (piece_of (update_put store) message (most_brought store) j).at < (piece_of (update_put store) message (most_brought store) k).at
   up j k low = (let next : suc j ≤ k = low in let more : most * suc j ≤ most * k = mul-le-mul_left most next in let step : most * suc j ≡ most * j + most = omega arith in omega (arith, more, step, some))
 
-  parts : (a : ℕ) → writes_at a (all_puts (file_parts store message)) ≡ writes_at a (file_close store) + writes_at a (file_fill store message) + writes_at a (file_last store message)
-  parts a = writes_append a (file_close store ++ file_fill store message) (file_last store message) ∙ ap (λ n. n + writes_at a (file_last store message)) (writes_append a (file_close store) (file_fill store message))
+  parts : (a : ℕ) → writes_at a (all_puts (file_parts store message)) ≡ writes_at a (file_puts Prepared store message) + writes_at a (file_puts Emptied store message) + writes_at a (file_puts Filled store message)
+  parts a = writes_append a (file_puts Prepared store message ++ file_puts Emptied store message) (file_puts Filled store message) ∙ ap (λ n. n + writes_at a (file_puts Filled store message)) (writes_append a (file_puts Prepared store message) (file_puts Emptied store message))
 
   pub file_few : (size : ℕ) → AreFew T4 size store (file_place store message) (all_puts (file_parts store message))
   file_few size = record {
     twice = subst (λ a. writes_at a (all_puts (file_parts store message)) ≤ 2) (sym home)
         (let first = only_most (message_length (file_in store) == 0) (update_put store 0 (0 ∷ 0 ∷ [])) end in
         let last = only_most (length message == 0) (update_put store 0 (high_first (length message))) end in
-        let none = run_none (piece_put store message) 0 count end (λ k low e. omega (arith, e)) in
+        let none = run_none (piece_of (update_put store) message (most_brought store)) 0 count end (λ k low e. omega (arith, e)) in
         omega (arith, parts end, first, last, none));
     once = λ a other.
         (let off : end + 0 ≢ a = λ e. other (let same : a ≡ end = omega (arith, e) in same ∙ sym home) in
         let first = only_off (message_length (file_in store) == 0) (update_put store 0 (0 ∷ 0 ∷ [])) a off in
         let last = only_off (length message == 0) (update_put store 0 (high_first (length message))) a off in
-        let one = run_once (piece_put store message) 0 count a up in
+        let one = run_once (piece_of (update_put store) message (most_brought store)) 0 count a up in
         omega (arith, parts a, first, last, one));
     changed = tt;
   }

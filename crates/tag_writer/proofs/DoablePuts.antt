@@ -28,8 +28,9 @@ use Rattle.tag_reader.specs.Kinds.{IsStore}
 use Rattle.tag_reader.specs.Survey.{block_size}
 use Rattle.tag_reader.proofs.Areas.{t2_area}
 use Rattle.tag_reader.proofs.Files.{Named, named}
+use Rattle.tag_writer.specs.declared.phase.Phase.TheVariants.{Prepared, Emptied}
 use Rattle.tag_writer.specs.Place.{Place, Takes, tail_place}
-use Rattle.tag_writer.specs.Puts.{block_put, block_puts, file_close, file_fill}
+use Rattle.tag_writer.specs.Puts.{block_put, block_puts, file_puts}
 use Rattle.tag_writer.specs.Puttings.{IsPutOf, IsBlockPut}
 use Rattle.tag_writer.specs.Phases.{file_parts}
 use Rattle.tag_writer.specs.WriteAsked.{Parts, all_puts, AreAreaPuts, AreFilePuts, ArePuts}
@@ -171,9 +172,9 @@ room_for size store message is place takes =
       pieces = (let e = ap (λ (m : FileMap). m.mlc) facts.file in let some = takes.pieces in omega (arith, some, e));
     }
 
-pub file_puts : (store message : List ℕ) (p : Parts) → AreFilePuts store message p → all_puts p ≡ all_puts (file_parts store message)
-file_puts store message p are =
-    ap (λ ps. (ps ++ p.fill) ++ p.last) are.close ∙ ap (λ ps. (file_close store ++ ps) ++ p.last) are.fill ∙ ap (λ ps. (file_close store ++ file_fill store message) ++ ps) are.last
+pub file_parts_are : (store message : List ℕ) (p : Parts) → AreFilePuts store message p → all_puts p ≡ all_puts (file_parts store message)
+file_parts_are store message p are =
+    ap (λ ps. (ps ++ p.fill) ++ p.last) are.close ∙ ap (λ ps. (file_puts Prepared store message ++ ps) ++ p.last) are.fill ∙ ap (λ ps. (file_puts Prepared store message ++ file_puts Emptied store message) ++ ps) are.last
 
 pub doable_puts : (how : How) (size : ℕ) (store message : List ℕ) (place : Place) (p : Parts) → IsStore how size store → Takes how size store message place → ArePuts how size store message p →
     AllByRecursion (IsPutOf how size store) (all_puts p)
@@ -182,7 +183,7 @@ doable_puts T2 size store message place p is takes are =
     let whole = is.1.whole in
     area_puts T2 size are.0 store message p are.2 4 (λ a low high. (omega (arith, low, area.start), in_block 4 (length store) a (omega arith) whole (omega (arith, high, area.within))))
 doable_puts T4 size store message place p is takes are =
-    subst (AllByRecursion (IsPutOf T4 size store)) (sym (file_puts store message p are)) (file_serves size store message (room_for size store message is place takes)).puts
+    subst (AllByRecursion (IsPutOf T4 size store)) (sym (file_parts_are store message p are)) (file_serves size store message (room_for size store message is place takes)).puts
 doable_puts (T5 id) size store message place p is takes are =
     let sized = size_of_block size is.sized in
     area_puts (T5 id) size are.0 store message p are.2 0

@@ -18,7 +18,8 @@ use Rattle.tlv_area.proofs.Runs.{row_bytes}
 use Rattle.tag_reader.specs.declared.how.How.TheVariants.{T4}
 use Rattle.tag_reader.specs.Files.{container_end, container_in, file_in, IsFileStore, message_length, message_in, file_form, t4_form, NamesFile}
 use Rattle.tag_reader.proofs.Files.{Named, named}
-use Rattle.tag_writer.specs.Puts.{Put, after_puts, update_put, most_brought, piece_put, file_close, file_fill, file_last}
+use Rattle.tag_writer.specs.declared.phase.Phase.TheVariants.{Prepared, Emptied, Filled}
+use Rattle.tag_writer.specs.Puts.{Put, after_puts, update_put, most_brought, piece_of, file_puts}
 use Rattle.tag_writer.specs.Place.{Place, file_place}
 use Rattle.tag_writer.specs.WriteAsked.{all_puts}
 use Rattle.tag_writer.specs.Law.{IsEmptied, IsWritten}
@@ -75,8 +76,8 @@ module _ (store message : List ℕ) (is : IsRoomFor store message) where
   brought : 2 ≤ most_brought store
   brought = let e = ap (λ m. m.mlc) facts.file in omega (arith, is.pieces, e)
 
-  piece_of : (offset : ℕ) (bytes : List ℕ) → 1 ≤ length bytes → length bytes ≤ most_brought store → offset + length bytes ≤ 2 + length message → IsPiece store message (update_put store offset bytes)
-  piece_of offset bytes some most inside =
+  one_piece : (offset : ℕ) (bytes : List ℕ) → 1 ≤ length bytes → length bytes ≤ most_brought store → offset + length bytes ≤ 2 + length message → IsPiece store message (update_put store offset bytes)
+  one_piece offset bytes some most inside =
       let least = facts.least in
       let room : offset + length bytes ≤ length file = omega (arith, inside, is.fits, sized, least, is.store'.1.whole) in
       record {
@@ -84,34 +85,34 @@ module _ (store message : List ℕ) (is : IsRoomFor store message) where
         lies = record { from' = omega arith; to' = omega (arith, inside); within = omega (arith, is.fits, sized, whole, least, is.store'.1.whole) };
       }
 
-  close_ok : AllByRecursion (IsPiece store message) (file_close store)
+  close_ok : AllByRecursion (IsPiece store message) (file_puts Prepared store message)
   close_ok = by_length (message_length file == 0)
     where
       by_length : (v : Bool) → AllByRecursion (IsPiece store message) (if v then [] else update_put store 0 (0 ∷ 0 ∷ []) ∷ [])
       by_length true = tt
-      by_length false = (piece_of 0 (0 ∷ 0 ∷ []) (omega arith) (omega (arith, brought)) (omega arith), tt)
+      by_length false = (one_piece 0 (0 ∷ 0 ∷ []) (omega arith) (omega (arith, brought)) (omega arith), tt)
 
-  last_ok : AllByRecursion (IsPiece store message) (file_last store message)
+  last_ok : AllByRecursion (IsPiece store message) (file_puts Filled store message)
   last_ok = by_length (length message == 0)
     where
       by_length : (v : Bool) → AllByRecursion (IsPiece store message) (if v then [] else update_put store 0 (high_first (length message)) ∷ [])
       by_length true = tt
-      by_length false = (piece_of 0 (high_first (length message)) (omega arith) (omega (arith, brought)) (omega arith), tt)
+      by_length false = (one_piece 0 (high_first (length message)) (omega arith) (omega (arith, brought)) (omega arith), tt)
 
-  fill_ok : AllByRecursion (IsPiece store message) (file_fill store message)
-  fill_ok = all_run (IsPiece store message) (piece_put store message) 0 (div_ceil (length message) (most_brought store)) each
+  fill_ok : AllByRecursion (IsPiece store message) (file_puts Emptied store message)
+  fill_ok = all_run (IsPiece store message) (piece_of (update_put store) message (most_brought store)) 0 (div_ceil (length message) (most_brought store)) each
     where
-      each : (k : ℕ) → 0 ≤ k → k < 0 + div_ceil (length message) (most_brought store) → IsPiece store message (piece_put store message k)
+      each : (k : ℕ) → 0 ≤ k → k < 0 + div_ceil (length message) (most_brought store) → IsPiece store message (piece_of (update_put store) message (most_brought store) k)
       each k low high =
           let most : ℕ = most_brought store in
           let begins : most * k < length message = piece_low most (length message) k (omega (arith, brought)) (omega (arith, high)) in
           let long : length (take most (drop (most * k) message)) ≡ min most (length (drop (most * k) message)) = length-take most (drop (most * k) message) in
           let rest : length (drop (most * k) message) ≡ length message - most * k = length-drop (most * k) message in
-          piece_of (2 + most * k) (take most (drop (most * k) message)) (omega (arith, begins, long, rest, brought)) (omega (arith, long)) (omega (arith, begins, long, rest))
+          one_piece (2 + most * k) (take most (drop (most * k) message)) (omega (arith, begins, long, rest, brought)) (omega (arith, long)) (omega (arith, begins, long, rest))
 
   all_ok : AllByRecursion (IsPiece store message) (all_puts (file_parts store message))
-  all_ok = all_both (IsPiece store message) (file_close store ++ file_fill store message) (file_last store message)
-      (all_both (IsPiece store message) (file_close store) (file_fill store message) close_ok fill_ok) last_ok
+  all_ok = all_both (IsPiece store message) (file_puts Prepared store message ++ file_puts Emptied store message) (file_puts Filled store message)
+      (all_both (IsPiece store message) (file_puts Prepared store message) (file_puts Emptied store message) close_ok fill_ok) last_ok
 
   outside : (ps : List Put) → AllByRecursion (IsPiece store message) ps → SameOutside place.span store (after_puts store ps)
   outside ps all = outside_puts end (2 + length message) store ps
@@ -131,11 +132,11 @@ module _ (store message : List ℕ) (is : IsRoomFor store message) where
   not_past : (f : List ℕ) → message_length f ≤ is.map'.size - 2 → file_form (Ok is.map') f ≡ Message (message_in f)
   not_past f low = (let fits : nat_lt (is.map'.size - 2) (message_length f) ≡ false = grind (arith, low) in ap {B = Form} (λ (v : Bool). if v then BadTlv else Message (message_in f)) fits)
 
-  emptied : (n : ℕ) → IsEmptied T4 0 place store (after_puts store (file_close store ++ take n (file_fill store message)))
+  emptied : (n : ℕ) → IsEmptied T4 0 place store (after_puts store (file_puts Prepared store message ++ take n (file_puts Emptied store message)))
   emptied n =
-      let s : List ℕ = after_puts store (file_close store ++ take n (file_fill store message)) in
-      let ok = all_both (IsPiece store message) (file_close store) (take n (file_fill store message)) close_ok (all_take (IsPiece store message) n (file_fill store message) fill_ok) in
-      let same : SameOutside place.span store s = outside (file_close store ++ take n (file_fill store message)) ok in
+      let s : List ℕ = after_puts store (file_puts Prepared store message ++ take n (file_puts Emptied store message)) in
+      let ok = all_both (IsPiece store message) (file_puts Prepared store message) (take n (file_puts Emptied store message)) close_ok (all_take (IsPiece store message) n (file_puts Emptied store message) fill_ok) in
+      let same : SameOutside place.span store s = outside (file_puts Prepared store message ++ take n (file_puts Emptied store message)) ok in
       let known = closing store message (omega (arith, brought)) (omega (arith, sized, facts.least, is.store'.1.whole)) n in
       record {
         empty = sym (form_of (filled file message known.0) s known.1 same.size ∙ not_past (filled file message known.0) (omega arith));

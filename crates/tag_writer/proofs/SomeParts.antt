@@ -17,8 +17,9 @@ use Rattle.tag_reader.specs.declared.how.How.{How}
 use Rattle.tag_reader.specs.declared.how.How.TheVariants.{T2, T4, T5}
 use Rattle.tag_reader.specs.Survey.{block_size, written_area}
 use Rattle.tag_reader.proofs.Areas.{t2_area}
+use Rattle.tag_writer.specs.declared.phase.Phase.TheVariants.{Prepared, Emptied, Filled}
 use Rattle.tag_writer.specs.Place.{Place, IsAreaPlace, IsPlaceBy, Takes}
-use Rattle.tag_writer.specs.Puts.{block_puts, file_close, file_fill, file_last}
+use Rattle.tag_writer.specs.Puts.{block_puts, file_puts}
 use Rattle.tag_writer.specs.WriteAsked.{Parts, AreAreaPuts, ArePuts}
 use Rattle.tag_writer.proofs.OnePlace.{order_of}
 
@@ -105,5 +106,5 @@ five_parts id size store message place (Ok space) has there fits =
 pub some_parts : (how : How) (size : ℕ) (store message : List ℕ) → IsBlocks how size store → (place : Place) → Takes how size store message place → (p : Parts) × ArePuts how size store message p
 some_parts T2 size store message is place takes = two_parts size store message place is (written_area T2 size store) refl takes.holds takes.fits
 some_parts T4 size store message is place takes =
-    (record { close = file_close store; fill = file_fill store message; last = file_last store message }, record { close = refl; fill = refl; last = refl })
+    (record { close = file_puts Prepared store message; fill = file_puts Emptied store message; last = file_puts Filled store message }, record { close = refl; fill = refl; last = refl })
 some_parts (T5 id) size store message is place takes = five_parts id size store message place (t5_area size store) refl takes.holds takes.fits

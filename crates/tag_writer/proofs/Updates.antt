@@ -14,7 +14,8 @@ use Rattle.t4t_tag.specs.Spelling.{high_first}
 use Rattle.t4t_tag.specs.Step.{overwritten}
 use Rattle.t4t_tag.proofs.Stores.{writes_store}
 use Rattle.tag_reader.specs.Files.{container_end, container_in, file_in, message_length}
-use Rattle.tag_writer.specs.Puts.{Put, put_into, after_puts, update_put, most_brought, piece_put, file_close, file_fill, file_last}
+use Rattle.tag_writer.specs.declared.phase.Phase.TheVariants.{Prepared, Emptied, Filled}
+use Rattle.tag_writer.specs.Puts.{Put, put_into, after_puts, update_put, most_brought, piece_of, file_puts}
 use Rattle.tag_writer.proofs.Places.{after_append}
 
 -- the container's bytes are all before its end
@@ -91,7 +92,7 @@ module _ (store message : List ℕ) (some : 1 ≤ most_brought store) (long : 2 
   put_in f offset bytes = put_file container f (container_end store) offset bytes (update_put store offset bytes).command (sym (end_is store))
 
   -- behind the first update
-  pub closed : after_puts store (file_close store) ≡ container ++ filled file message 0
+  pub closed : after_puts store (file_puts Prepared store message) ≡ container ++ filled file message 0
   closed = by_length (message_length file == 0) refl
     where
       by_length : (v : Bool) → (message_length file == 0) ≡ v → after_puts store (if v then [] else update_put store 0 (0 ∷ 0 ∷ []) ∷ []) ≡ container ++ filled file message 0
@@ -99,41 +100,41 @@ module _ (store message : List ℕ) (some : 1 ≤ most_brought store) (long : 2 
       by_length false e = ap (λ s. put_into s (update_put store 0 (0 ∷ 0 ∷ []))) joined ∙ put_in file 0 (0 ∷ 0 ∷ [])
 
   -- behind the first k pieces
-  fill_to : (k : ℕ) → k ≤ pieces → after_puts (container ++ filled file message 0) (map (piece_put store message) (range_with_len 0 k)) ≡ container ++ filled file message (most * k)
+  fill_to : (k : ℕ) → k ≤ pieces → after_puts (container ++ filled file message 0) (map (piece_of (update_put store) message (most_brought store)) (range_with_len 0 k)) ≡ container ++ filled file message (most * k)
   fill_to zero low = (let none : most * 0 ≡ 0 = omega arith in ap (λ n. container ++ filled file message n) (sym none))
   fill_to (suc k) low =
       let before : List ℕ = container ++ filled file message 0 in
-      let p : Put = piece_put store message k in
+      let p : Put = piece_of (update_put store) message (most_brought store) k in
       let next : suc k ≡ k + 1 = omega arith in
       let inside : most * k < length message = piece_low most (length message) k some (omega (arith, low)) in
       let reach : most * k + most ≡ most * suc k = omega arith in
-      ap (λ n. after_puts before (map (piece_put store message) (range_with_len 0 n))) next
-      ∙ ap (after_puts before) (map-range_with_len_more (piece_put store message) 0 k k (omega arith))
-      ∙ after_append before (map (piece_put store message) (range_with_len 0 k)) (p ∷ [])
+      ap (λ n. after_puts before (map (piece_of (update_put store) message (most_brought store)) (range_with_len 0 n))) next
+      ∙ ap (after_puts before) (map-range_with_len_more (piece_of (update_put store) message (most_brought store)) 0 k k (omega arith))
+      ∙ after_append before (map (piece_of (update_put store) message (most_brought store)) (range_with_len 0 k)) (p ∷ [])
       ∙ ap (λ s. put_into s p) (fill_to k (omega (arith, low)))
       ∙ put_in (filled file message (most * k)) (2 + most * k) (take most (drop (most * k) message))
       ∙ ap (λ f. container ++ f) (fill_more file message (most * k) most (omega (arith, inside)))
       ∙ ap (λ n. container ++ filled file message n) reach
 
   -- behind the first update and any number of pieces
-  pub closing : (n : ℕ) → (m : ℕ) × (after_puts store (file_close store ++ take n (file_fill store message)) ≡ container ++ filled file message m)
+  pub closing : (n : ℕ) → (m : ℕ) × (after_puts store (file_puts Prepared store message ++ take n (file_puts Emptied store message)) ≡ container ++ filled file message m)
   closing n = (
     most * min n pieces,
-    after_append store (file_close store) (take n (file_fill store message)) ∙ ap (λ s. after_puts s (take n (file_fill store message))) closed
+    after_append store (file_puts Prepared store message) (take n (file_puts Emptied store message)) ∙ ap (λ s. after_puts s (take n (file_puts Emptied store message))) closed
         ∙ ap (after_puts (container ++ filled file message 0)) some_first ∙ fill_to (min n pieces) (omega arith),
   )
     where
       all : List Put
-      all = file_fill store message
+      all = file_puts Emptied store message
 
-      some_first : take n all ≡ map (piece_put store message) (range_with_len 0 (min n pieces))
+      some_first : take n all ≡ map (piece_of (update_put store) message (most_brought store)) (range_with_len 0 (min n pieces))
       some_first = elim (cases_lt n pieces) [
         | inl low ↦
             (let least : min n pieces ≡ n = omega (arith, low) in
-            take-map-range_with_len (piece_put store message) 0 pieces n (omega (arith, low)) ∙ ap (λ k. map (piece_put store message) (range_with_len 0 k)) (sym least))
+            take-map-range_with_len (piece_of (update_put store) message (most_brought store)) 0 pieces n (omega (arith, low)) ∙ ap (λ k. map (piece_of (update_put store) message (most_brought store)) (range_with_len 0 k)) (sym least))
         | inr high ↦
             (let least : min n pieces ≡ pieces = omega (arith, high) in
-            take_all n all (omega (arith, high, length-map-range_with_len (piece_put store message) 0 pieces)) ∙ ap (λ k. map (piece_put store message) (range_with_len 0 k)) (sym least))
+            take_all n all (omega (arith, high, length-map-range_with_len (piece_of (update_put store) message (most_brought store)) 0 pieces)) ∙ ap (λ k. map (piece_of (update_put store) message (most_brought store)) (range_with_len 0 k)) (sym least))
       ]
 
   -- the file with the message
@@ -143,14 +144,14 @@ module _ (store message : List ℕ) (some : 1 ≤ most_brought store) (long : 2 
   all_filled : filled file message (most * pieces) ≡ 0 ∷ 0 ∷ (message ++ drop (length message) (drop 2 file))
   all_filled = ap (λ xs. 0 ∷ 0 ∷ (xs ++ drop (length xs) (drop 2 file))) (take_all (most * pieces) message (all_pieces most (length message) some))
 
-  before_last : after_puts store (file_close store ++ file_fill store message) ≡ container ++ (0 ∷ 0 ∷ (message ++ drop (length message) (drop 2 file)))
+  before_last : after_puts store (file_puts Prepared store message ++ file_puts Emptied store message) ≡ container ++ (0 ∷ 0 ∷ (message ++ drop (length message) (drop 2 file)))
   before_last =
-      after_append store (file_close store) (file_fill store message) ∙ ap (λ s. after_puts s (file_fill store message)) closed
+      after_append store (file_puts Prepared store message) (file_puts Emptied store message) ∙ ap (λ s. after_puts s (file_puts Emptied store message)) closed
       ∙ fill_to pieces (omega arith) ∙ ap (λ f. container ++ f) all_filled
 
   -- behind the last update
-  pub opened : after_puts store ((file_close store ++ file_fill store message) ++ file_last store message) ≡ container ++ new_file
-  opened = after_append store (file_close store ++ file_fill store message) (file_last store message) ∙ ap (λ s. after_puts s (file_last store message)) before_last ∙ by_length (length message == 0) refl
+  pub opened : after_puts store ((file_puts Prepared store message ++ file_puts Emptied store message) ++ file_puts Filled store message) ≡ container ++ new_file
+  opened = after_append store (file_puts Prepared store message ++ file_puts Emptied store message) (file_puts Filled store message) ∙ ap (λ s. after_puts s (file_puts Filled store message)) before_last ∙ by_length (length message == 0) refl
     where
       ready : List ℕ
       ready = 0 ∷ 0 ∷ (message ++ drop (length message) (drop 2 file))

@@ -1,36 +1,23 @@
 -- The commands that a work asks for, phase by phase.
-use Rattle.std.specs.Prelude.{ℕ, zero, suc, ◌+◌, ◌*◌, ◌≤◌, ◌==◌, if◌then◌else◌, Bool, List, [], ◌∷◌, ◌++◌, length, take, drop, map}
-use Rattle.std.specs.Int.{div_ceil}
-use Rattle.std.specs.List.{range_with_len, AllByRecursion, AllByRecursion-prop}
+use Rattle.std.specs.Prelude.{ℕ, zero, suc, ◌+◌, ◌≤◌, not, Bool, List, [], ◌∷◌, ◌++◌, length, map}
+use Rattle.std.specs.List.{AllByRecursion, AllByRecursion-prop}
 use Rattle.std.specs.Coded.{×_prop, Unit-prop, le_prop, Coded-set, coded_ℕ}
 use Rattle.nfc_base.specs.Signal.{Signal, whole_a}
-use Rattle.t4t_tag.specs.Spelling.{high_first, most_per_command, offset_end}
-use Rattle.t4t_tag.specs.declared.command.T4Command.TheVariants.{UpdateBinary}
+use Rattle.t4t_tag.specs.Spelling.{most_per_command, offset_end}
 use Rattle.tlv_area.specs.declared.step.Step.{Step}
 use Rattle.tlv_area.specs.Writing.{steps_of}
 use Rattle.tag_reader.specs.declared.how.How.{How}
 use Rattle.tag_reader.specs.declared.how.How.TheVariants.{T2, T4, T5}
-use Rattle.tag_reader.specs.Files.{file_frame}
 use Rattle.tag_writer.specs.declared.phase.Phase.{Phase}
 use Rattle.tag_writer.specs.declared.phase.Phase.TheVariants.{Prepared, Emptied, Filled}
 use Rattle.tag_writer.specs.declared.work.Work.{Work}
 use Rattle.tag_writer.specs.declared.work.Work.TheVariants.{Blocks, File}
-use Rattle.tag_writer.specs.Puts.{block_command}
+use Rattle.tag_writer.specs.Puts.{block_command, update_command, updates}
 use Rattle.tag_writer.specs.Works.{IsStepFor, steps_at}
-
--- the update of a file from an offset on
-abbrev pub update_command : ℕ → List ℕ → Signal
-update_command offset bytes = file_frame (UpdateBinary offset (record { items = bytes }))
-
--- the update that is the k-th to bring a piece of a message, counted from 0, where each brings so many bytes at most
-abbrev pub piece_command : List ℕ → ℕ → ℕ → Signal
-piece_command message most k = update_command (2 + most * k) (take most (drop (most * k) message))
 
 -- the updates of a file behind a phase; the first one is made where the length isn't 0 yet
 abbrev pub updates_in : Phase → List ℕ → ℕ → Bool → List Signal
-updates_in Prepared message most close = if close then update_command 0 (0 ∷ 0 ∷ []) ∷ [] else []
-updates_in Emptied message most close = map (piece_command message most) (range_with_len 0 (div_ceil (length message) most))
-updates_in Filled message most close = if length message == 0 then [] else update_command 0 (high_first (length message)) ∷ []
+updates_in phase message most close = updates update_command phase message most (not close)
 
 -- the commands behind a phase, and all of them
 abbrev pub commands_at : Phase → Work → List Signal

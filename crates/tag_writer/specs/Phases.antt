@@ -16,7 +16,7 @@ use Rattle.tag_writer.specs.declared.work.Work.{Work}
 use Rattle.tag_writer.specs.declared.work.Work.TheVariants.{Blocks, File}
 use Rattle.tag_writer.specs.declared.phase.Phase.{Phase}
 use Rattle.tag_writer.specs.declared.phase.Phase.TheVariants.{Prepared, Emptied, Filled}
-use Rattle.tag_writer.specs.Puts.{Put, after_puts, commands_of, block_puts, most_brought, file_close, file_fill, file_last}
+use Rattle.tag_writer.specs.Puts.{Put, after_puts, commands_of, block_puts, most_brought, file_puts}
 use Rattle.tag_writer.specs.Place.{Place, Takes}
 use Rattle.tag_writer.specs.Puttings.{IsPutOf}
 use Rattle.tag_writer.specs.Counts.{IsHomePut, AreFew}
@@ -71,7 +71,11 @@ plan_parts how size plan = record {
 }
 
 abbrev pub file_parts : List ℕ → List ℕ → Parts
-file_parts store message = record { close = file_close store; fill = file_fill store message; last = file_last store message }
+file_parts store message = record {
+  close = file_puts Prepared store message;
+  fill = file_puts Emptied store message;
+  last = file_puts Filled store message;
+}
 
 pub record IsFileWork (j : Job) (message : List ℕ) (most : ℕ) (close : Bool) : Type 0 where
   pub message' : j.message ≡ message

@@ -1,5 +1,5 @@
 -- What a writer asks of a tag, as bytes that are put into its store (NFC Forum Type 2, Type 4 and Type 5 Tag).
-use Rattle.std.specs.Prelude.{ℕ, ◌+◌, ◌*◌, min, nat_lt, ◌==◌, if◌then◌else◌, List, [], ◌∷◌, ◌++◌, length, take, drop, map, Some}
+use Rattle.std.specs.Prelude.{ℕ, ◌+◌, ◌*◌, min, nat_lt, ◌==◌, if◌then◌else◌, Bool, List, [], ◌∷◌, ◌++◌, length, take, drop, map, Some}
 use Rattle.std.specs.Int.{div_ceil}
 use Rattle.std.specs.List.{range_with_len}
 use Rattle.nfc_base.specs.Signal.{Signal, whole_a}
@@ -15,6 +15,8 @@ use Rattle.tag_reader.specs.declared.how.How.{How}
 use Rattle.tag_reader.specs.declared.how.How.TheVariants.{T2, T4, T5}
 use Rattle.tag_reader.specs.Files.{container_in, container_end, file_in, file_frame, message_length}
 use Rattle.tag_reader.specs.Survey.{block_size}
+use Rattle.tag_writer.specs.declared.phase.Phase.{Phase}
+use Rattle.tag_writer.specs.declared.phase.Phase.TheVariants.{Prepared, Emptied, Filled}
 
 -- one write: the address of its first byte in the store, its bytes, and the command that asks for it
 pub record Put : Type 0 where
@@ -51,29 +53,26 @@ abbrev pub block_puts : How → ℕ → List Step → List Put
 block_puts how size steps = map (block_put how size) steps
 
 -- an update of a Type 4 tag's file from an offset on
+abbrev pub update_command : ℕ → List ℕ → Signal
+update_command offset bytes = file_frame (UpdateBinary offset (record { items = bytes }))
+
 abbrev pub update_put : List ℕ → ℕ → List ℕ → Put
-update_put store offset bytes = record {
-  at = container_end store + offset;
-  bytes = bytes;
-  command = file_frame (UpdateBinary offset (record { items = bytes }));
-}
+update_put store offset bytes = record { at = container_end store + offset; bytes = bytes; command = update_command offset bytes }
+
+-- The updates that put a message into a file, phase by phase, each made of its offset and its bytes: NLEN becomes 0, unless it is,
+-- then come the bytes of the message, so many at once, and then NLEN, unless that is 0. The k-th piece is counted from 0.
+abbrev pub piece_of : {X : Type 0} → (ℕ → List ℕ → X) → List ℕ → ℕ → ℕ → X
+piece_of make message most k = make (2 + most * k) (take most (drop (most * k) message))
+
+abbrev pub updates : {X : Type 0} → (ℕ → List ℕ → X) → Phase → List ℕ → ℕ → Bool → List X
+updates make Prepared message most empty = if empty then [] else make 0 (0 ∷ 0 ∷ []) ∷ []
+updates make Emptied message most empty = map (piece_of make message most) (range_with_len 0 (div_ceil (length message) most))
+updates make Filled message most empty = if length message == 0 then [] else make 0 (high_first (length message)) ∷ []
 
 -- the most bytes that one update of the message brings: no more than one command may, and than the container allows (MLc)
 abbrev pub most_brought : List ℕ → ℕ
 most_brought store = min (most_written (container_in store)) most_per_command
 
--- the k-th update that brings a piece of the message, counted from 0
-abbrev pub piece_put : List ℕ → List ℕ → ℕ → Put
-piece_put store message k =
-    update_put store (2 + most_brought store * k) (take (most_brought store) (drop (most_brought store * k) message))
-
--- The writes of a message in a file: its length becomes 0, unless it is, then come its bytes, and then its length, unless that
--- is 0.
-abbrev pub file_close : List ℕ → List Put
-file_close store = if message_length (file_in store) == 0 then [] else update_put store 0 (0 ∷ 0 ∷ []) ∷ []
-
-abbrev pub file_fill : List ℕ → List ℕ → List Put
-file_fill store message = map (piece_put store message) (range_with_len 0 (div_ceil (length message) (most_brought store)))
-
-abbrev pub file_last : List ℕ → List ℕ → List Put
-file_last store message = if length message == 0 then [] else update_put store 0 (high_first (length message)) ∷ []
+-- the writes of a message in the file of a store
+abbrev pub file_puts : Phase → List ℕ → List ℕ → List Put
+file_puts phase store message = updates (update_put store) phase message (most_brought store) (message_length (file_in store) == 0)

@@ -8,7 +8,6 @@ use Rattle.tag_reader.specs.declared.how.How.{How}
 use Rattle.tag_reader.specs.declared.how.How.TheVariants.{T2, T4, T5}
 use Rattle.tag_writer.specs.declared.phase.Phase.{Phase}
 use Rattle.tag_writer.specs.declared.phase.Phase.TheVariants.{Prepared, Emptied, Filled}
-use Rattle.tag_writer.specs.Puts.{Put, file_close, file_fill, file_last}
 
 -- a step that a command can ask for
 abbrev pub IsStepFor : How → Step → Type 0
@@ -21,12 +20,6 @@ abbrev pub steps_at : Phase → Plan → List Step
 steps_at Prepared plan = made plan.close
 steps_at Emptied plan = plan.fill
 steps_at Filled plan = made plan.last
-
--- the updates behind a phase
-abbrev pub updates_at : Phase → List ℕ → List ℕ → List Put
-updates_at Prepared store message = file_close store
-updates_at Emptied store message = file_fill store message
-updates_at Filled store message = file_last store message
 
 -- a piece of the message
 pub record IsPieceAt (message : List ℕ) (most index : ℕ) : Type 0 where

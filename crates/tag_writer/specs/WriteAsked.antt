@@ -12,7 +12,8 @@ use Rattle.tag_reader.specs.declared.how.How.TheVariants.{T2, T4, T5}
 use Rattle.tag_reader.specs.Asked.{ToWrite, IsAskedFor}
 use Rattle.tag_reader.specs.Heard.{refusal_of}
 use Rattle.tag_reader.specs.Survey.{block_size, written_area, surveyed}
-use Rattle.tag_writer.specs.Puts.{Put, commands_of, block_puts, file_close, file_fill, file_last}
+use Rattle.tag_writer.specs.declared.phase.Phase.TheVariants.{Prepared, Emptied, Filled}
+use Rattle.tag_writer.specs.Puts.{Put, commands_of, block_puts, file_puts}
 use Rattle.tag_writer.specs.Place.{Place, Takes, TakesNot}
 
 -- the code by which a tag refuses, where it answers and does
@@ -59,9 +60,9 @@ pub record AreAreaPuts (how : How) (size : ℕ) (space : Space) (store message :
   pub last : p.last ≡ block_puts how size (made plan.last)
 
 pub record AreFilePuts (store message : List ℕ) (p : Parts) : Type 0 where
-  pub close : p.close ≡ file_close store
-  pub fill : p.fill ≡ file_fill store message
-  pub last : p.last ≡ file_last store message
+  pub close : p.close ≡ file_puts Prepared store message
+  pub fill : p.fill ≡ file_puts Emptied store message
+  pub last : p.last ≡ file_puts Filled store message
 
 abbrev pub ArePuts : How → ℕ → List ℕ → List ℕ → Parts → Type 0
 ArePuts T2 size store message p = (space : Space) × (written_area T2 size store ≡ Ok space) × AreAreaPuts T2 size space store message p

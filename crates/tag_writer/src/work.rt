@@ -7,8 +7,8 @@ ghost use Rattle.t4t_tag.specs.declared.command.T4Command.TheVariants as t4;
 ghost use Rattle.tag_reader.specs.declared.how.How.{How};
 ghost use Rattle.tag_reader.specs.declared.how.How.TheVariants as hows;
 ghost use Rattle.tag_reader.specs.Files.{file_frame};
-ghost use Rattle.tag_writer.specs.Commands.{piece_command, updates_in, commands_at, command_at, IsFit};
-ghost use Rattle.tag_writer.specs.Puts.{block_command, block_puts};
+ghost use Rattle.tag_writer.specs.Commands.{updates_in, commands_at, command_at, IsFit};
+ghost use Rattle.tag_writer.specs.Puts.{block_command, block_puts, piece_of, update_command};
 ghost use Rattle.tag_writer.specs.Puttings.{signal_at};
 ghost use Rattle.tag_writer.specs.Phases.{how_of};
 ghost use Rattle.tag_writer.specs.Works.{IsStepFor, steps_at, IsPieceAt};
@@ -125,7 +125,7 @@ fn update_frame(offset: u16, bytes: &[u8]) -> Frame
 /// The update that brings the `index`-th piece of the message.
 fn piece_frame(message: &[u8], most: u16, index: usize) -> Frame
     requires { IsPieceAt message.now most index }
-    ensures { result ≡ piece_command message.now most index }
+    ensures { result ≡ piece_of update_command message.now most index }
 {
     let taken = most as usize * index;
     let end = message.len().min(taken + most as usize);

@@ -18,7 +18,7 @@ use Rattle.tag_reader.specs.Blocks.{ask_at, ask_frame, progress_at}
 use Rattle.tag_reader.specs.Files.{file_in, message_length}
 use Rattle.tag_reader.specs.Kinds.{command}
 use Rattle.tag_reader.specs.Survey.{surveyed}
-use Rattle.tag_writer.specs.Puts.{Put, block_command, commands_of, piece_put}
+use Rattle.tag_writer.specs.Puts.{Put, block_command, commands_of, update_put, piece_of, most_brought}
 use Rattle.tag_writer.specs.WriteAsked.{Parts, all_puts, AreFilePuts, ArePuts, up_to_refused}
 use Rattle.bench_script.specs.declared.command.DeviceId.{DeviceId}
 use Rattle.bench_script.specs.DeviceIds.{tech_for}
@@ -81,7 +81,7 @@ either_puts : (v : Bool) (ps qs : List Put) → AreFilePieces ps → AreFilePiec
 either_puts true ps qs p q = p
 either_puts false ps qs p q = q
 
-pieces_tech : (store message : List ℕ) (ks : List ℕ) → AreFilePieces (map (piece_put store message) ks)
+pieces_tech : (store message : List ℕ) (ks : List ℕ) → AreFilePieces (map (piece_of (update_put store) message (most_brought store)) ks)
 pieces_tech store message [] = tt
 pieces_tech store message (k ∷ ks) = (refl, pieces_tech store message ks)
 
