@@ -20,7 +20,7 @@ use Rattle.bench_devices.specs.Answering.{TellsExchange, IsUnbrokenExchange}
 use Rattle.bench_devices.specs.Device.{air}
 use Rattle.bench_devices.proofs.SelectingAir.{events_are}
 use Rattle.bench_devices.specs.Linking.{IsNewLink, AsksOn, AsksSomeOn}
-use Rattle.bench_devices.specs.Keeping.{ghosts, Changes, Leaves}
+use Rattle.bench_devices.specs.Keeping.{ghosts, Changes, LeavesDevices}
 use Rattle.bench_devices.proofs.LinkEnds.{LinkEnds}
 use Rattle.bench_devices.proofs.PlainEnds.{none_behind}
 use Rattle.air_core.proofs.BrokenWaits.{stays_lit}
@@ -40,7 +40,7 @@ module _ {X : Type 0} (what : Changes) (IsAll : List Signal → Type 0) (Shows :
   IsLeft rest = IsAll (m.asks.asked ++ rest)
 
   abbrev Kept : Type 0
-  Kept = Leaves what (world p.air) m.asks.going.events (world q.air)
+  Kept = LeavesDevices what (world p.air) m.asks.going.events (world q.air)
 
   abbrev AsksSo : X → Type 0
   AsksSo x = AsksOn what IsAll Shows Fails p.reader (moment p.air) (moment q.air) x

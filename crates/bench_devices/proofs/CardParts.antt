@@ -31,7 +31,7 @@ use Rattle.bench_devices.specs.CardAsking as standing
 use Rattle.bench_devices.specs.CardAsking.{Exchanges, card_due, card_stands, card_next, tag_next}
 use Rattle.bench_devices.specs.Device.{air, seen_of}
 use Rattle.bench_devices.specs.Linking.{Linked, AsksOn, IsNewLink, AsksSomeOn}
-use Rattle.bench_devices.specs.Keeping.{Kept, kept, ghosts, Changes, Leaves}
+use Rattle.bench_devices.specs.Keeping.{Kept, kept, ghosts, Changes, LeavesDevices}
 use Rattle.bench_devices.proofs.EveryFrame.{IsSoundFor, leaves_more, leaves_then}
 use Rattle.bench_devices.specs.Phases.{Stands, AsksTag, AsksSome}
 use Rattle.air_core.proofs.BrokenWaits.{stays_lit}
@@ -135,7 +135,7 @@ module _ {X : Type 0} (what : Changes) (IsAll : List Signal → Type 0) (Shows :
         known = sent.going.known;
       }
 
-      first_leaves : Leaves what (world old) sent.going.events (world mid)
+      first_leaves : LeavesDevices what (world old) sent.going.events (world mid)
       first_leaves = leaves_more what (world old) (world mid) sent.going.events sound (rats_keep old mid place d s four st sent)
 
       -- it ended there
@@ -222,10 +222,10 @@ module _ {X : Type 0} (what : Changes) (IsAll : List Signal → Type 0) (Shows :
           sym (events_are air (moment old) (moment new) both.events both.moment)
           ∙ events_are air (moment old) (moment new) (sent.going.events ++ going.events) (events_then going.events going.moment)
 
-      both_leave : (commands : List Signal) (ns : List Note) (going : Going air (iso_next (waiting code) (bytes_of commands)) (moment mid) (moment new) ns) → Leaves what (world mid) going.events (world new)
-          → Leaves what (world old) (both_parts commands ns going).events (world new)
+      both_leave : (commands : List Signal) (ns : List Note) (going : Going air (iso_next (waiting code) (bytes_of commands)) (moment mid) (moment new) ns) → LeavesDevices what (world mid) going.events (world new)
+          → LeavesDevices what (world old) (both_parts commands ns going).events (world new)
       both_leave commands ns going left =
-          subst (λ es. Leaves what (world old) es (world new)) (sym (events_both commands ns going))
+          subst (λ es. LeavesDevices what (world old) es (world new)) (sym (events_both commands ns going))
           (leaves_then what (world old) (world mid) (world new) sent.going.events going.events sound (rats_keep old mid place d s four (waits.Asking 0 []) sent) left)
 
       pub linked_cut : AsksSomeOn what IsAll (waiting code) (moment mid) (moment new) → AsksCardSome (moment old) (moment new)

@@ -32,7 +32,7 @@ use Rattle.bench_devices.specs.Device.{BenchWorld, air, devices, device_id, devi
 use Rattle.bench_devices.specs.Placed.{device_with}
 use Rattle.bench_devices.specs.Writing.{AsksWriteOf, ShowsWrite, KeepsWriteLaw}
 use Rattle.bench_devices.specs.Linking.{Linked, IsNewLink, AsksOn, AsksSomeOn, WritesOn, WritesSomeOn, WritesLinked, CutLinkedWrite}
-use Rattle.bench_devices.specs.Keeping.{Kept, ghosts, IsSound, IsAsideOf, EachAsked, held_by, StoreOf, Leaves}
+use Rattle.bench_devices.specs.Keeping.{Kept, ghosts, IsSound, IsAsideOf, EachAsked, held_by, StoreOf, LeavesDevices}
 use Rattle.bench_devices.specs.Phases.{Stands, WriteEnd, FailsWrite, Writes, WritesSome, WritesAt, CutAtWrite}
 use Rattle.bench_devices.proofs.SelectingAir.{events_are}
 use Rattle.bench_devices.proofs.SelectingKept.{IsHarmless, due_asked}
@@ -69,7 +69,7 @@ module _ (message : List ℕ) (p : IsoSeen Device) (is : IsNewLink p) (d : Devic
   all_write : (xs : List Signal) × AsksWriteOf message d xs
   all_write = some_write message d (four_tag d l.card) l.sound
 
-  leaves_own : Leaves (StoreOf (device_id tag_at)) (world p.air) m.asks.going.events (world q.air)
+  leaves_own : LeavesDevices (StoreOf (device_id tag_at)) (world p.air) m.asks.going.events (world q.air)
   leaves_own =
       let alone = l.activated.has.alone in
       let split : (world p.air).listeners ≡ alone.before ++ tag_at ∷ alone.behind = alone.split in
@@ -79,8 +79,8 @@ module _ (message : List ℕ) (p : IsoSeen Device) (is : IsNewLink p) (d : Devic
       (λ ks f due. due_whole (stand (asks p.reader (bytes_of m.asks.asked)) ks) f (stand_whole (asks p.reader (bytes_of m.asks.asked)) ks (asks_whole p.reader (bytes_of m.asks.asked))) due)
       m.asks.going
 
-  leaves : Leaves (StoreOf (device_id d)) (world p.air) m.asks.going.events (world q.air)
-  leaves = subst (λ i. Leaves (StoreOf i) (world p.air) m.asks.going.events (world q.air)) same_id leaves_own
+  leaves : LeavesDevices (StoreOf (device_id d)) (world p.air) m.asks.going.events (world q.air)
+  leaves = subst (λ i. LeavesDevices (StoreOf i) (world p.air) m.asks.going.events (world q.air)) same_id leaves_own
 
   ends : LinkEnds (AsksWriteOf message d) (ShowsWrite message d) FailsWrite from to m.asks.asked
       (AsksOn (StoreOf (device_id d)) (AsksWriteOf message d) (ShowsWrite message d) FailsWrite p.reader (moment p.air) (moment q.air))

@@ -39,7 +39,7 @@ use Rattle.bench_devices.specs.declared.device.Device.{Device}
 use Rattle.bench_devices.specs.declared.device.Device.TheVariants.{T2, T4, Peer, T5, T3}
 use Rattle.bench_devices.specs.Device.{BenchWorld, air, devices, device_id, device_store, says_of, t2_machine, t4_machine}
 use Rattle.bench_devices.specs.Placed.{device_with, IfPlaced}
-use Rattle.bench_devices.specs.Keeping.{ghosts, Fixed, fixed, kept, IsSound, IsApart, AreSound, AreTame, StaysDevice, AllStayDevices, held_by, images_of, IsStoreOf, AreImages, DevicesStay, ImagesStay, AsideKeeps, Changes, NoStore, StoreOf, AllKeepBut, Leaves, EachAsked, IsAsideOf}
+use Rattle.bench_devices.specs.Keeping.{ghosts, Fixed, fixed, kept, IsSound, IsApart, AreSound, AreTame, StaysDevice, AllStayDevices, held_by, images_of, IsStoreOf, AreImages, DevicesStay, ImagesStay, AsideKeeps, Changes, NoStore, StoreOf, AllKeepBut, LeavesDevices, EachAsked, IsAsideOf}
 use Rattle.bench_devices.proofs.SelectingKept.{due_asked, kept_dark, kept_lit}
 use Rattle.bench_devices.proofs.CardKept.{IsAtRest, fixed_step, four_same, rest_keeps, rest_stays, dark_at_rest, lit_at_rest}
 use Rattle.t3t_tag.specs.Store.{T3State}
@@ -451,7 +451,7 @@ module _ (own : List ℕ) where
 -- of its kind: as it is asked, and behind what changed nothing that stays.
 pub going_leaves : (own : List ℕ) (t : Tech) (next : List Note → Next) (a b : Moment BenchWorld) (ns : List Note) → IsNamedIn t own → IsSoundOne own a.world.listeners
     → AllByRecursion (IsAsideOf own) a.world.listeners → ((ks : List Note) (f : Signal) → next ks ≡ Asks f → MayAsk (plain_kind t) own f) → (g : Going air next a b ns)
-    → Leaves (StoreOf own) a.world g.events b.world
+    → LeavesDevices (StoreOf own) a.world g.events b.world
 going_leaves own t next a b ns named sound beside may g = (
   subst (λ (m : Moment BenchWorld). AllKeepBut own a.world.listeners m.world.listeners) (sym g.moment)
       (others_keep own t named a.world g.events beside (due_asked (MayAsk (plain_kind t) own) next may [] g.events g.each)),
@@ -466,7 +466,7 @@ kept_but own (d ∷ ds) (e ∷ es) same =
     let one : kept e ≡ kept d = cc in
     (record { stays = kept_stays d e one; other = λ n. one }, kept_but own ds es (let rest : map kept es ≡ map kept ds = cc in rest))
 
-pub leaves_behind : (own : List ℕ) (w v u : BenchWorld) (es fs : List Event) → IsSoundOne own w.listeners → Leaves NoStore w es v → Leaves (StoreOf own) v fs u → Leaves (StoreOf own) w (es ++ fs) u
+pub leaves_behind : (own : List ℕ) (w v u : BenchWorld) (es fs : List Event) → IsSoundOne own w.listeners → LeavesDevices NoStore w es v → LeavesDevices (StoreOf own) v fs u → LeavesDevices (StoreOf own) w (es ++ fs) u
 leaves_behind own w v u es fs sound first next =
     (but_on own w.listeners v.listeners u.listeners (kept_but own w.listeners v.listeners first) next.0, images_sound w (es ++ fs) own sound)
 
@@ -483,7 +483,7 @@ as_many [] (e ∷ es) p = absurd p
 as_many (d ∷ ds) [] p = absurd p
 as_many (d ∷ ds) (e ∷ es) p = ap suc (as_many ds es p.1)
 
-pub left_tame : (what : Changes) (old : BenchWorld) (es : List Event) (new : BenchWorld) → Leaves what old es new → AreTame (map kept old.listeners) → AreTame (map kept new.listeners)
+pub left_tame : (what : Changes) (old : BenchWorld) (es : List Event) (new : BenchWorld) → LeavesDevices what old es new → AreTame (map kept old.listeners) → AreTame (map kept new.listeners)
 left_tame NoStore old es new same tame = subst AreTame (sym same) tame
 left_tame (StoreOf id) old es new left tame =
     let stay = all_stay_of id old.listeners new.listeners left.0 in
@@ -494,10 +494,10 @@ abbrev pub IsSoundFor : Changes → List Device → Type 0
 IsSoundFor NoStore ds = Unit {0}
 IsSoundFor (StoreOf id) ds = IsSoundOne id ds
 
-pub leaves_more : (what : Changes) (w v : BenchWorld) (es : List Event) → IsSoundFor what w.listeners → Leaves NoStore w es v → Leaves what w es v
+pub leaves_more : (what : Changes) (w v : BenchWorld) (es : List Event) → IsSoundFor what w.listeners → LeavesDevices NoStore w es v → LeavesDevices what w es v
 leaves_more NoStore w v es sound first = first
 leaves_more (StoreOf id) w v es sound first = (kept_but id w.listeners v.listeners first, images_sound w es id sound)
 
-pub leaves_then : (what : Changes) (w v u : BenchWorld) (es fs : List Event) → IsSoundFor what w.listeners → Leaves NoStore w es v → Leaves what v fs u → Leaves what w (es ++ fs) u
+pub leaves_then : (what : Changes) (w v u : BenchWorld) (es fs : List Event) → IsSoundFor what w.listeners → LeavesDevices NoStore w es v → LeavesDevices what v fs u → LeavesDevices what w (es ++ fs) u
 leaves_then NoStore w v u es fs sound first next = next ∙ first
 leaves_then (StoreOf id) w v u es fs sound first next = leaves_behind id w v u es fs sound first next

@@ -19,6 +19,7 @@ use Rattle.nfca_poll.specs.Inventory.{Tries, tries, inventory, inventory_all, Is
 use Rattle.nfca_poll.specs.Rounds.{Begins as Starts, all_devices, finding}
 use Rattle.nfca_poll.specs.RoundTrace.{Misses}
 use Rattle.nfca_poll.specs.RoundEnds as rounds
+use Rattle.nfc_base.specs.Prefix.{IsPrefix}
 use Rattle.nfca_poll.specs.Crowd.{Each, crowd}
 use Rattle.nfca_poll.specs.RoundEnds.{FindsCrowd}
 use Rattle.nfca_poll.proofs.Crowding.{drop-front}
@@ -207,10 +208,10 @@ module _ (old mid : Air Device) (found : Result (List Picked) PollFault) (tame :
 
   -- it ended well, and the inventory followed
   module _ (cards : List Picked) (well : found ≡ Ok cards) where
-    well_ends : rounds.IsFrontOf cards (crowd_of old.listeners) × ((cards ≡ crowd_of old.listeners) ⊎ Misses first)
+    well_ends : IsPrefix cards (crowd_of old.listeners) × ((cards ≡ crowd_of old.listeners) ⊎ Misses first)
     well_ends =
         let P : Result (List Picked) PollFault → Type 0 = λ x. rounds.FindEnds (cards_of old.listeners) x first in
-        let Q : List Picked → Type 0 = λ c. rounds.IsFrontOf cards c × ((cards ≡ c) ⊎ Misses first) in
+        let Q : List Picked → Type 0 = λ c. IsPrefix cards c × ((cards ≡ c) ⊎ Misses first) in
         subst Q (ap crowd (same_cards old.listeners)) (subst P well ends)
 
     told_well : follows finding turns.notes ≡ followed.Told (Ok cards) []

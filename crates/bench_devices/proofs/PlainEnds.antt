@@ -21,7 +21,7 @@ use Rattle.bench_devices.specs.Device.{air, devices, seen_of}
 use Rattle.bench_devices.specs.Answering.{TellsStanding, TellsBy, IsUnbroken, GoesOnBy}
 use Rattle.bench_devices.specs.CardAsking.{tag_next}
 use Rattle.bench_devices.specs.Linking.{IsPlain}
-use Rattle.bench_devices.specs.Keeping.{ghosts, Changes, Leaves}
+use Rattle.bench_devices.specs.Keeping.{ghosts, Changes, LeavesDevices}
 use Rattle.bench_devices.specs.Phases.{AsksTag, AsksSome}
 use Rattle.air_core.proofs.LostField.{going_lost}
 use Rattle.air_core.proofs.BrokenWaits.{EndsLost, lost_ends, broken_front, stays_lit}
@@ -69,7 +69,7 @@ module _ {X : Type 0} (what : Changes) (IsAll : List Signal → Type 0) (Shows :
     IsLeft rest = IsAll (m.asked.commands ++ rest)
 
     abbrev Kept : Type 0
-    Kept = Leaves what (world a) m.asked.going.events (world q.air)
+    Kept = LeavesDevices what (world a) m.asked.going.events (world q.air)
 
     abbrev AsksSo : X → Type 0
     AsksSo x = AsksPlain (moment a) (moment q.air) x

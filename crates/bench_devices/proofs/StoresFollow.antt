@@ -4,7 +4,7 @@ use Rattle.std.specs.List.{AllByRecursion}
 use Rattle.air_core.specs.PlainLinks.{Follows}
 use Rattle.tag_reader.specs.declared.how.How.{How}
 use Rattle.nfc_base.specs.TagLinks.{PassInThree}
-use Rattle.tag_writer.specs.Law.{Ending, last_store, IsEmptied, IsWritten, Leaves, Passes, WriteLaw}
+use Rattle.tag_writer.specs.Law.{Ending, last_store, IsEmptied, IsWritten, LeavesStore, Passes, WriteLaw}
 
 abbrev Store : Type 0
 Store = List ℕ
@@ -103,7 +103,7 @@ law_follow how size store message ending xs ys f law = record {
       record {
         three = first_follow (λ s. s ≡ store) (IsEmptied how size place store) (IsWritten how size message place store) store xs ys p.three.before p.three.during p.three.behind f p.three.joined
             p.three.olds p.three.empties p.three.news;
-        leaves = subst (Leaves how size message place store ending) (sym (last_follow store xs ys f)) p.leaves;
+        leaves = subst (LeavesStore how size message place store ending) (sym (last_follow store xs ys f)) p.leaves;
       });
   stays = λ untaken. (let all = law.stays untaken in (all.0, all_follow (λ s. s ≡ store) store xs ys refl all.1 f));
 }
@@ -119,7 +119,7 @@ law_before how size store message ending (o ∷ olds) xs all law =
           (let p : Passes how size store message place ending (olds ++ xs) = later.takes place takes in
           record {
             three = more_three (λ s. s ≡ store) (IsEmptied how size place store) (IsWritten how size message place store) o (olds ++ xs) all.0 p.three;
-            leaves = subst (λ s. Leaves how size message place store ending (last_store s (olds ++ xs))) (sym all.0) p.leaves;
+            leaves = subst (λ s. LeavesStore how size message place store ending (last_store s (olds ++ xs))) (sym all.0) p.leaves;
           });
       stays = λ untaken. (all.0, later.stays untaken);
     }

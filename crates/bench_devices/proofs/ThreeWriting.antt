@@ -24,7 +24,7 @@ use Rattle.t3t_access.proofs.OwnLaw.{head_own}
 use Rattle.t3t_access.proofs.OwnWritten.{free_all}
 use Rattle.bench_devices.specs.declared.device.Device.{Device}
 use Rattle.bench_devices.specs.Device.{air, device_id, device_locks, device_store, device_tech}
-use Rattle.bench_devices.specs.Keeping.{ghosts, Leaves, StoreOf}
+use Rattle.bench_devices.specs.Keeping.{ghosts, LeavesDevices, StoreOf}
 use Rattle.bench_devices.specs.Linking.{IsNew as IsNewSeen}
 use Rattle.bench_devices.specs.Threes.{StandsThree, AsksThree, AsksThreeSome, FailsThree, WriteAsksThree, WriteAsksThreeOf, ShowsThreeWrite, ShowsThreeWriteOf, LeavesThree, Write3Law, KeepsWrite3Law, WritesThree, WritesThreeSome, WritesThreeAt, CutThreeWriteAt}
 use Rattle.bench_devices.proofs.Alone.{first_there, sound_there, beside_there, named_there}
@@ -194,7 +194,7 @@ module _ (a : Air Device) (place : ℕ) (id : List ℕ) (d : Device) (s : Stands
   may_asked : (r : End) → AsksWrite id locked message from to r → AllByRecursion (MayAsk Type3 id) m.asked.commands
   may_asked r u = let rest = left r u in front_all (MayAsk Type3 id) m.asked.commands rest.0 (puts_may id store locked message (m.asked.commands ++ rest.0) rest.1)
 
-  leaves : (r : End) → AsksWrite id locked message from to r → Leaves (StoreOf (device_id d)) (world a) m.asked.going.events (world q.air)
+  leaves : (r : End) → AsksWrite id locked message from to r → LeavesDevices (StoreOf (device_id d)) (world a) m.asked.going.events (world q.air)
   leaves r u =
       going_leaves (device_id d) (device_tech d) (waits_next m.asked.commands) (moment a) (moment q.air) m.asked.notes (named_there a place d s.stands) (sound_there a place d s.stands)
       (beside_there a place d s.stands) (λ ks f due. may_it f (due_all (MayAsk Type3 id) m.asked.commands (may_asked r u) ks f due)) m.asked.going

@@ -19,7 +19,7 @@ use Rattle.bench_devices.specs.declared.device.Device.{Device}
 use Rattle.bench_devices.specs.Device.{air, device_tech, device_id, device_store, device_commands, how_of, size_of, may_be_read}
 use Rattle.bench_devices.specs.Writing.{AsksWriteOf, ShowsWrite, KeepsWriteLaw}
 use Rattle.bench_devices.specs.Linking.{IsPlain, IsPlainHow, IsNew}
-use Rattle.bench_devices.specs.Keeping.{ghosts, StoreOf, Leaves}
+use Rattle.bench_devices.specs.Keeping.{ghosts, StoreOf, LeavesDevices}
 use Rattle.bench_devices.specs.Phases.{Stands, WriteEnd, FailsWrite, Writes, WritesSome, WritesAt, CutAtWrite}
 use Rattle.air_core.proofs.DueWaits.{due_all}
 use Rattle.bench_devices.proofs.SelectingAir.{events_are}
@@ -63,7 +63,7 @@ module _ (a : Air Device) (place : ℕ) (d : Device) (s : Stands (moment a) plac
   may_asked : HasWrittenOf → AllByRecursion MayAskIt m.asked.commands
   may_asked h = let rest = left h in front_all MayAskIt m.asked.commands rest.0 (may_all message d plain (m.asked.commands ++ rest.0) rest.1)
 
-  leaves : HasWrittenOf → Leaves (StoreOf (device_id d)) (world a) m.asked.going.events (world q.air)
+  leaves : HasWrittenOf → LeavesDevices (StoreOf (device_id d)) (world a) m.asked.going.events (world q.air)
   leaves h =
       going_leaves (device_id d) (device_tech d) (waits_next m.asked.commands) (moment a) (moment q.air) m.asked.notes (named_there a place d s) (sound_there a place d s) (beside_there a place d s)
       (λ ks f due. due_all MayAskIt m.asked.commands (may_asked h) ks f due) m.asked.going

@@ -16,7 +16,7 @@ use Rattle.nfca_poll.specs.declared.inventory.Vcrowd.{Vcrowd}
 use Rattle.nfca_poll.specs.declared.inventory.Vcrowd.TheVariants.{Nobody}
 use Rattle.nfca_poll.specs.Inventory.{tries, inventory, inventory_all, inventory_of}
 use Rattle.nfca_poll.specs.Rounds.{finding}
-use Rattle.nfca_poll.specs.RoundEnds.{IsFrontOf}
+use Rattle.nfc_base.specs.Prefix.{IsPrefix}
 use Rattle.isodep_link.specs.Asking as exchange
 use Rattle.bench_script.specs.declared.command.DeviceId.{DeviceId}
 use Rattle.bench_script.specs.declared.command.DeviceId.TheVariants.{A, V}
@@ -128,7 +128,7 @@ InventoryEnds Tells ds cards (Err faults.BadAnswer) es x = ⊥
 -- missed its end. It was disturbed only where each of four rounds had noise. What was heard behind it is the inventory's.
 abbrev pub FindEnds : {X : Type 0} → (Result Everybody PollFault → X → Type 0) → List Device → Result (List Picked) PollFault → List Note → List Event → X → Type 0
 FindEnds Tells ds (Ok cards) behind es x =
-    IsFrontOf cards (crowd_of ds) × ((cards ≡ crowd_of ds) ⊎ MissedRound es)
+    IsPrefix cards (crowd_of ds) × ((cards ≡ crowd_of ds) ⊎ MissedRound es)
     × (others : Result Vcrowd PollFault) × (follows inventory behind ≡ Told others []) × InventoryEnds Tells ds cards others es x
 FindEnds Tells ds (Err faults.Nobody) behind es x = ⊥
 FindEnds Tells ds (Err faults.Disturbed) behind es x = Tells (Err faults.Disturbed) x × GaveUp es

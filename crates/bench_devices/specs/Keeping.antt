@@ -160,9 +160,9 @@ abbrev pub AreImages : List ℕ → BenchWorld → List Event → Type 0
 AreImages id w es = IfPlaced (λ d. AllByRecursion (IsStoreOf d) (images_of id w es)) (Unit {0}) (device_with id w.listeners)
 
 -- What some events left of what stays, by what may have changed.
-abbrev pub Leaves : Changes → BenchWorld → List Event → BenchWorld → Type 0
-Leaves NoStore old es new = map kept new.listeners ≡ map kept old.listeners
-Leaves (StoreOf id) old es new = AllKeepBut id old.listeners new.listeners × AreImages id old es
+abbrev pub LeavesDevices : Changes → BenchWorld → List Event → BenchWorld → Type 0
+LeavesDevices NoStore old es new = map kept new.listeners ≡ map kept old.listeners
+LeavesDevices (StoreOf id) old es new = AllKeepBut id old.listeners new.listeners × AreImages id old es
 
 -- something holds of each request of some events
 abbrev pub EachAsked : (Signal → Type 0) → List Event → Type 0

@@ -34,7 +34,7 @@ use Rattle.bench_devices.specs.Polling.{Told, asks, selecting, finding_all}
 use Rattle.bench_devices.specs.Answering.{HasPollCause, FindTells, TellsBy, GoesOnBy}
 use Rattle.bench_devices.specs.Reading.{AsksOf, ShowsOf}
 use Rattle.bench_devices.specs.Writing.{AsksWriteOf, ShowsWrite, KeepsWriteLaw}
-use Rattle.bench_devices.specs.Keeping.{ghosts, kept, IsSound, AreTame, Changes, NoStore, StoreOf, Leaves}
+use Rattle.bench_devices.specs.Keeping.{ghosts, kept, IsSound, AreTame, Changes, NoStore, StoreOf, LeavesDevices}
 
 -- A Type 4 tag and a peer have a link at most while they are active.
 abbrev pub IsTidy : Device → Type 0
@@ -78,14 +78,14 @@ pub record Stands (a : Moment (World Device)) (place : ℕ) (d : Device) : Type 
 pub record AskedPart (what : Changes) (due : List Note → Next) (old new : Moment (World Device)) : Type 0 where
   pub notes : List Note
   pub going : Going air due old new notes
-  pub same : Leaves what old.world going.events new.world
+  pub same : LeavesDevices what old.world going.events new.world
 
 -- So was all that is due.
 pub record Asked (what : Changes) (due : List Note → Next) (old new : Moment (World Device)) : Type 0 where
   pub notes : List Note
   pub going : Going air due old new notes
   pub over : due notes ≡ Over
-  pub same : Leaves what old.world going.events new.world
+  pub same : LeavesDevices what old.world going.events new.world
 
 -- Selecting a device ended so, and the field is lost exactly where a Break was used.
 pub record Selects (id : DeviceId) (r : Result SeenKind PollFault) (old new : Moment (World Device)) : Type 0 where

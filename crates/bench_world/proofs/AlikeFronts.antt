@@ -13,7 +13,7 @@ use Rattle.bench_script.specs.declared.command.DeviceId.TheVariants.{A, V}
 use Rattle.bench_world.specs.declared.entry.Answer.{Answer}
 use Rattle.bench_world.specs.Alike.{Alike}
 use Rattle.bench_world.specs.Asked.{asked_on_link}
-use Rattle.bench_world.specs.Legal.{State, Given, FrontOf, begun, changed, due, due_by, link_after, peers_after, state_after, world_after}
+use Rattle.bench_world.specs.Legal.{State, Given, FrontOf, world_at_start, changed, due, due_by, link_after, peers_after, state_after, world_after}
 use Rattle.bench_world.specs.Links.{OpenLink}
 use Rattle.bench_world.specs.Peers.{Peers}
 use Rattle.bench_world.specs.World.{WholeWorld}
@@ -61,7 +61,7 @@ was_sent s g c es lit over none =
     cc
 
 module _ (w v : WholeWorld) (same : SameWorld w v) (q : List Fate) (p : Peers) (g : Given) (c : Command) (es : List Event) where
-  pub began : SameWorld (begun (no_link w q p) g.joins c) (begun (no_link v q p) g.joins c)
+  pub began : SameWorld (world_at_start (no_link w q p) g.joins c) (world_at_start (no_link v q p) g.joins c)
   began = numbered (changed (no_link w q p) c).world (changed (no_link v q p) c).world (changed_world w v same q p c) g.joins.far
 
   none_asked : (f : Signal) → due (no_link w q p) g c [] ≡ Asks f → ⊥
@@ -71,7 +71,7 @@ module _ (w v : WholeWorld) (same : SameWorld w v) (q : List Fate) (p : Peers) (
   ]
 
   pub starts : {told : Option Answer} (u : State) → FrontOf (no_link w q p) g c es told u → FromReset es
-  starts u f = from_reset (due (no_link w q p) g c) none_asked (begun (no_link w q p) g.joins c) es f.turns f.each
+  starts u f = from_reset (due (no_link w q p) g c) none_asked (world_at_start (no_link w q p) g.joins c) es f.turns f.each
 
   -- what is due doesn't go by the world
   due_same : EachDue (due (no_link w q p) g c) [] es → EachDue (due (no_link v q p) g c) [] es
@@ -93,7 +93,7 @@ module _ (w v : WholeWorld) (same : SameWorld w v) (q : List Fate) (p : Peers) (
     accepted = accepts_same w v same q p c f.accepted;
     asks = asks_same w v same q p c g.asked f.asks;
     takes = f.takes;
-    turns = same_turns (begun (no_link w q p) g.joins c) (begun (no_link v q p) g.joins c) began es (starts u f) f.turns;
+    turns = same_turns (world_at_start (no_link w q p) g.joins c) (world_at_start (no_link v q p) g.joins c) began es (starts u f) f.turns;
     fates = subst (λ k. FatesFrom k es) (changed_queue w v same q p c) f.fates;
     each = due_same f.each;
     after = refl;
@@ -102,11 +102,11 @@ module _ (w v : WholeWorld) (same : SameWorld w v) (q : List Fate) (p : Peers) (
   module _ (start : FromReset es) where
     pub worlds_after : SameWorld (world_after (no_link w q p) g.joins c es) (world_after (no_link v q p) g.joins c es)
     worlds_after =
-        numbered _ _ (behind (begun (no_link w q p) g.joins c) (begun (no_link v q p) g.joins c) began es start) []
+        numbered _ _ (behind (world_at_start (no_link w q p) g.joins c) (world_at_start (no_link v q p) g.joins c) began es start) []
 
     pub world_after_same : (es ≡ [] → ⊥) → world_after (no_link w q p) g.joins c es ≡ world_after (no_link v q p) g.joins c es
     world_after_same some =
-        ap (λ (x : WholeWorld). with_numbers x []) (same_behind (begun (no_link w q p) g.joins c) (begun (no_link v q p) g.joins c) began es start some)
+        ap (λ (x : WholeWorld). with_numbers x []) (same_behind (world_at_start (no_link w q p) g.joins c) (world_at_start (no_link v q p) g.joins c) began es start some)
 
     -- both lead on alike
     leads_alike : (told : Option Answer) → (IsSome (link_after (no_link w q p) g.joins c es told) → es ≡ [] → ⊥)

@@ -10,7 +10,7 @@ use Rattle.nfca_poll.specs.declared.fault.Picked.{Picked}
 use Rattle.nfca_poll.specs.declared.fault.PollFault.{PollFault}
 use Rattle.nfca_poll.specs.declared.fault.PollFault.TheVariants as faults
 use Rattle.nfca_poll.specs.declared.inventory.Vcrowd.{Vcrowd}
-use Rattle.nfca_poll.specs.RoundEnds.{IsFrontOf}
+use Rattle.nfc_base.specs.Prefix.{IsPrefix}
 use Rattle.nfca_poll.specs.declared.inventory.Vcrowd.TheVariants.{Nobody}
 use Rattle.nfca_poll.specs.Inventory.{tries, inventory_all}
 use Rattle.nfcv_poll.specs.Tags.{FoundIf}
@@ -182,7 +182,7 @@ module _ (ds es : List Device) (same : SameDevices ds es) where
       ends_same : (r : Result (List Picked) PollFault) → FindEnds TellsFound ds r t.behind events answer → FindEnds TellsFound es r t.behind events answer
       ends_same (Ok cards) ends =
           let all : crowd_of ds ≡ crowd_of es = same_crowd ds es same in
-          (subst (IsFrontOf cards) all ends.0, subst (λ c. (cards ≡ c) ⊎ MissedRound events) all ends.1, ends.2, ends.3, inventory_same cards ends.2 ends.4)
+          (subst (IsPrefix cards) all ends.0, subst (λ c. (cards ≡ c) ⊎ MissedRound events) all ends.1, ends.2, ends.3, inventory_same cards ends.2 ends.4)
       ends_same (Err faults.Nobody) ends = ends
       ends_same (Err faults.Disturbed) ends = ends
       ends_same (Err faults.FieldLost) ends = ends

@@ -9,7 +9,7 @@ use Rattle.far_air.specs.FarEnds.{by_link}
 use Rattle.far_air.specs.FarLaws.{seen, shown}
 use Rattle.far_air.specs.FarTurns.{FarGoing}
 use Rattle.peer_air.specs.PeerFars.{peer_ends}
-use Rattle.link_calls.specs.Arriving.{Arrives, ArrivesCut, IsCounted}
+use Rattle.link_calls.specs.Arriving.{Arrives, ArrivesCut, IsCountedTo}
 use Rattle.bench_devices.specs.declared.device.Device.{Device}
 use Rattle.bench_devices.specs.Device.{devices, device_linked}
 use Rattle.bench_world.specs.World.{FarEnd, WholeWorld}
@@ -51,10 +51,10 @@ module _ (air : Air Device) (ends : Ends) (peers : Peers) (l : OpenLink) (settle
 
   -- the link is open then, and counted so; or it isn't
   abbrev pub GoesOn : Option OpenLink → Type 0
-  GoesOn link = IfLinked link (λ k. (linked_at place b.listeners ≡ true) × IsCounted first (drop (length air.trace) b.trace) k.initiator.core.number) (Unit {0})
+  GoesOn link = IfLinked link (λ k. (linked_at place b.listeners ≡ true) × IsCountedTo first (drop (length air.trace) b.trace) k.initiator.core.number) (Unit {0})
 
   abbrev Going : WholeWorld → Option OpenLink → Type 0
-  Going w link = IfLinked link (λ k. (end_numbered l.peer peers.numbers w.fars ≡ Some after.end) × IsCounted first events k.initiator.core.number) (Unit {0})
+  Going w link = IfLinked link (λ k. (end_numbered l.peer peers.numbers w.fars ≡ Some after.end) × IsCountedTo first events k.initiator.core.number) (Unit {0})
 
   long : length peers.numbers ≡ length b.listeners
   long = settled.places.numbers ∙ sym (as_many air ends peers l settled next plain b numbers after notes g)
@@ -69,7 +69,7 @@ module _ (air : Air Device) (ends : Ends) (peers : Peers) (l : OpenLink) (settle
   goes_on None h = tt
   goes_on (Some k) h = (
     end_there l.peer place peers.numbers b.listeners os after.end (opened air ends peers l settled).number long h.0 stands_then,
-    subst (λ es. IsCounted first es k.initiator.core.number) events_are h.1,
+    subst (λ es. IsCountedTo first es k.initiator.core.number) events_are h.1,
   )
 
   -- a command that want of memory cut off

@@ -23,7 +23,7 @@ use Rattle.dep_link.specs.Frames.{spelled}
 use Rattle.dep_link.specs.Payloads.{Cut, begins, cut_by}
 use Rattle.llcp_link.specs.Running.{AreBytes}
 use Rattle.snep_core.specs.Accord.{PeerState}
-use Rattle.link_calls.specs.Arriving.{Arrives, ArrivesCut, IsCounted, all_answered}
+use Rattle.link_calls.specs.Arriving.{Arrives, ArrivesCut, IsCountedTo, all_answered}
 use Rattle.nfca_poll.specs.Enquiry.{enquiring}
 use Rattle.nfca_poll.specs.Rounds.{device_of, picking}
 use Rattle.bench_script.specs.declared.command.DeviceId.{DeviceId}
@@ -64,7 +64,7 @@ cut_stays (Answer g x ∷ es) h c = cut_stays es h c
 cut_stays (Clash g x ∷ es) h c = cut_stays es h c
 
 -- so nothing is brought by such requests, and behind them all is counted as from the beginning
-pub nothing_brought : (n : ℕ) (es : List Event) → EachAsked BringsNothing es → (brought n es ≡ []) × IsCounted n es n
+pub nothing_brought : (n : ℕ) (es : List Event) → EachAsked BringsNothing es → (brought n es ≡ []) × IsCountedTo n es n
 nothing_brought n es h =
     let none : brought n es ≡ [] = ap (λ (c : Cut). c.payloads) (cut_stays es h (begins n)) in
     (none, cut_stays es h (begins n) ∙ ap (λ ps. let c : Cut = record { next = n; chain = []; payloads = ps } in c) (sym none))

@@ -16,7 +16,7 @@ use Rattle.air_core.specs.World.{World}
 use Rattle.air_core.proofs.PlainTurns.{noise_append}
 use Rattle.air_core.proofs.Turns.{back_of-append}
 use Rattle.dep_link.specs.Asking.{Standing, ExchangeTurns, MayReply}
-use Rattle.dep_link.specs.DepLinks.{DepSeen, Swap, Exchanged, Chained, PeerOf, ExchangedAs, brought, since, first_seen}
+use Rattle.dep_link.specs.DepLinks.{DepSeen, Swap, PayloadExchanged, Chained, PeerOf, ExchangedAs, brought, since, first_seen}
 use Rattle.dep_link.specs.Initiator.{InitState}
 use Rattle.snep_core.specs.Talk.{Step}
 use Rattle.link_calls.specs.Calls.{IsMade}
@@ -64,7 +64,7 @@ first_open : (ss : List Swap) (m b : DepSeen Device) → Chained ghosts device_e
 first_open [] m b c open_b = ap (λ (p : DepSeen Device). p.over) (sym c) ∙ open_b
 first_open (s ∷ ss) m b c open_b = c.1.begins
 
-swap_calm : (a b : DepSeen Device) (s : Swap) → Exchanged ghosts device_end a b s → b.over ≡ None → IsCalm a.air b.air
+swap_calm : (a b : DepSeen Device) (s : Swap) → PayloadExchanged ghosts device_end a b s → b.over ≡ None → IsCalm a.air b.air
 swap_calm a b s x open_b = by_steps s.did x.exchange
   where
     by_steps : (did : List FarStep) → ExchangedAs ghosts device_end a b x.peer s.out did → IsCalm a.air b.air

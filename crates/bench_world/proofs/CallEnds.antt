@@ -32,7 +32,7 @@ use Rattle.bench_world.specs.declared.entry.Loss.TheVariants as losses
 use Rattle.bench_world.specs.World.{FarEnd, stable}
 use Rattle.bench_world.specs.Calls.{OfEnd, told_loss, told_step, with_accepted}
 use Rattle.bench_world.specs.Links.{OpenLink}
-use Rattle.bench_world.specs.Legal.{Joins, CutCame, CutFront, CutStores, LeavesStable, end_of, world_after}
+use Rattle.bench_world.specs.Legal.{Joins, CutCame, CutFront, CutStores, LeavesStable, peer_end_of, world_after}
 use Rattle.bench_world.specs.Halting.{HaltAdds, PeerHalts}
 use Rattle.bench_world.specs.Obeying.{Machines, IsSettled, ObeyedBy, state_at, under}
 use Rattle.bench_world.specs.Opened.{IsOpen}
@@ -44,7 +44,7 @@ use Rattle.bench_world.proofs.OnCall.{IsCall, Law, broke, came, end, events, fro
 
 module _ (air : Air Device) (ends : FarEnds) (peers : Peers) (l : OpenLink) (settled : IsSettled (under ends peers (Some l) air)) where
   -- what holds of the far end holds of it in the state
-  pub of_end : (P : FarEnd → Type 0) → P (end air ends peers l settled) → OfEnd P (end_of (from_state air ends peers l settled) l)
+  pub of_end : (P : FarEnd → Type 0) → P (end air ends peers l settled) → OfEnd P (peer_end_of (from_state air ends peers l settled) l)
   of_end P p = subst (OfEnd P) (sym (end_is air ends peers l settled)) p
 
   module _ (c : Command) (call : Call) (is : IsCall air ends peers l settled c call) (joins : Joins) (b : Air Device) (j : InitState) (after : Choosing FarEnd) where

@@ -40,7 +40,7 @@ use Rattle.bench_world.specs.CompletingForging.{ForgesPlaced, ForgesQuietly, For
 use Rattle.bench_world.specs.Forging as forging
 use Rattle.bench_world.specs.Forging.{Forging, ForgeEnds, ForgeTells, Activates, Exchanges, Unlinked, bad_again, forge_noted, forge_stand, heard_atr, linked_by, then_forges, told_forging, told_walk}
 use Rattle.bench_world.specs.Journal.{asking_lines}
-use Rattle.bench_world.specs.Legal.{State, Given, LegalStep, AnswerLaw, ForgeLaw, begun, changed, due, first_state}
+use Rattle.bench_world.specs.Legal.{State, Given, LegalStep, AnswerLaw, ForgeLaw, world_at_start, changed, due, first_state}
 use Rattle.bench_world.specs.Linking.{IsFieldLost}
 use Rattle.bench_world.specs.Quiet.{AllPass}
 use Rattle.bench_world.specs.World.{WholeWorld, bench_air}
@@ -227,10 +227,10 @@ module _ (s t : State) (g : Given) (e : Entry) (id : List ℕ) (payloads : List 
   -- the device is of the kind that is told
   kind_is : (k : SeenKind) (behind : List Note) → selecting (A id) (receptions e.events) ≡ Told (Ok k) behind → seen_of d ≡ k
   kind_is k behind told =
-      let a : Moment WholeWorld = record { world = begun s g.joins (Forge id payloads); queue = s.queue; trace = [] } in
+      let a : Moment WholeWorld = record { world = world_at_start s g.joins (Forge id payloads); queue = s.queue; trace = [] } in
       let ident : IsIdent id = ident_of id d (with_sound s.world.field.listeners id d ready.tame.sound o.placed) o.named in
       kind_told id (forging.forging id payloads) (then_forges payloads) (λ hs. refl) (λ n. refl) (λ x ns. refl) a ident ready.tame ready.tidy refl e.events
-      (subst (λ c. AreTurns bench_air (begun s g.joins c) e.events) o.command step.front.turns)
+      (subst (λ c. AreTurns bench_air (world_at_start s g.joins c) e.events) o.command step.front.turns)
       (subst (λ c. FatesFrom (changed s c).queue e.events) o.command step.front.fates) (subst (λ c. EachDue (due s g c) [] e.events) o.command step.front.each) d o.placed k behind told
 
   told_so : (k : SeenKind) → law.tells.polled ≡ Ok k → selecting (A id) (receptions e.events) ≡ Told (Ok k) law.tells.behind
@@ -258,7 +258,7 @@ module _ (s t : State) (g : Given) (e : Entry) (id : List ℕ) (payloads : List 
       let none : noise e.events ≡ 0 = quiet_of s t g e (Forge id payloads) step o.command refl pass in
       record {
         lit = no_breaks e.events none;
-        round = first_round bench_air (begun s g.joins (Forge id payloads)) (due s g (Forge id payloads)) e.events (subst (λ c. AreTurns bench_air (begun s g.joins c) e.events) o.command step.front.turns)
+        round = first_round bench_air (world_at_start s g.joins (Forge id payloads)) (due s g (Forge id payloads)) e.events (subst (λ c. AreTurns bench_air (world_at_start s g.joins c) e.events) o.command step.front.turns)
             (subst (λ c. EachDue (due s g c) [] e.events) o.command step.front.each) refl (ap (λ c. due s g c (receptions e.events)) (sym o.command) ∙ step.over) none;
         waits = none_six none;
       }

@@ -30,7 +30,7 @@ use Rattle.bench_world.specs.declared.entry.Loss.TheVariants as losses
 use Rattle.bench_world.specs.Completing.{IsQuietOnce}
 use Rattle.bench_world.specs.CompletingLinks.{IsUndisturbedOpening, OpensPlaced, link_answer, LinkingsComplete, KindsTold}
 use Rattle.bench_world.specs.Journal.{asking_lines}
-use Rattle.bench_world.specs.Legal.{State, Given, LegalStep, AnswerLaw, LinkingLaw, begun, changed, due, first_state}
+use Rattle.bench_world.specs.Legal.{State, Given, LegalStep, AnswerLaw, LinkingLaw, world_at_start, changed, due, first_state}
 use Rattle.bench_world.specs.Linking.{TellsLoss, LinkEnds, LinkTells, IsFieldLost, own_general}
 use Rattle.bench_world.specs.Quiet.{AllPass}
 use Rattle.bench_world.specs.QuietLinks.{LinksQuietly, QuietLinkings}
@@ -152,9 +152,9 @@ module _ (s t : State) (g : Given) (e : Entry) (id : List ℕ) (miu window : ℕ
   -- the device is of the kind that is told
   kind_is : (k : SeenKind) (behind : List Note) → selecting (A id) (receptions e.events) ≡ Told (Ok k) behind → seen_of d ≡ k
   kind_is k behind told =
-      let a : Moment WholeWorld = record { world = begun s g.joins (Link id miu window); queue = s.queue; trace = [] } in
+      let a : Moment WholeWorld = record { world = world_at_start s g.joins (Link id miu window); queue = s.queue; trace = [] } in
       let ident : IsIdent id = ident_of id d (with_sound s.world.field.listeners id d ready.tame.sound o.placed) o.named in
-      kind_told id (linking (A id) (own_general miu)) (then_opens (own_general miu)) (λ hs. refl) (λ n. refl) (λ x ns. refl) a ident ready.tame ready.tidy refl e.events (subst (λ c. AreTurns bench_air (begun s g.joins c) e.events) o.command step.front.turns)
+      kind_told id (linking (A id) (own_general miu)) (then_opens (own_general miu)) (λ hs. refl) (λ n. refl) (λ x ns. refl) a ident ready.tame ready.tidy refl e.events (subst (λ c. AreTurns bench_air (world_at_start s g.joins c) e.events) o.command step.front.turns)
       (subst (λ c. FatesFrom (changed s c).queue e.events) o.command step.front.fates) (subst (λ c. EachDue (due s g c) [] e.events) o.command step.front.each) d o.placed k behind told
 
   opens_complete : IsUndisturbedOpening id miu e.events → e.answer ≡ link_answer (length s.peers.links + 1) d
@@ -186,7 +186,7 @@ module _ (s t : State) (g : Given) (e : Entry) (id : List ℕ) (miu window : ℕ
       let none : noise e.events ≡ 0 = quiet_of s t g e (Link id miu window) step o.command refl pass in
       record {
         lit = no_breaks e.events none;
-        round = first_round bench_air (begun s g.joins (Link id miu window)) (due s g (Link id miu window)) e.events (subst (λ c. AreTurns bench_air (begun s g.joins c) e.events) o.command step.front.turns)
+        round = first_round bench_air (world_at_start s g.joins (Link id miu window)) (due s g (Link id miu window)) e.events (subst (λ c. AreTurns bench_air (world_at_start s g.joins c) e.events) o.command step.front.turns)
             (subst (λ c. EachDue (due s g c) [] e.events) o.command step.front.each) refl (ap (λ c. due s g c (receptions e.events)) (sym o.command) ∙ step.over) none;
         waits = none_six none;
       }

@@ -30,7 +30,7 @@ use Rattle.bench_world.specs.declared.entry.Loss.{Loss}
 use Rattle.bench_world.specs.declared.entry.Loss.TheVariants as losses
 use Rattle.bench_world.specs.Calls.{CallAdds, CallTells, EachAdds, HadSixBad, IfLinked, IsTold, OfEnd, PeerAdds, PeerTells, GetTells, LookupTells, all_done, done_before, told_alone, told_asked, told_at_once, told_done, told_each, told_ending, told_job, told_jobs, told_one, told_several, told_step, told_call, told_closing, stands_on, stands_closing}
 use Rattle.bench_world.specs.CompletingLinks.{done_so, put_answer, puts_answer, value_answer, table_answer, get_answer, peer_answer, HadSixBadBy, HadSixBadOn, IsUndisturbedOn, AskedComplete, EachWithin, IsOkAsking, IsOkBy, IsValidAsking, IsValidBy, ValidIsOk}
-use Rattle.bench_world.specs.Legal.{State, Given, LegalStep, AnswerBy, CallLaw, end_of}
+use Rattle.bench_world.specs.Legal.{State, Given, LegalStep, AnswerBy, CallLaw, peer_end_of}
 use Rattle.link_calls.specs.Asking.{LinkAsking, Call, Does, Closes, Finding, Getting, Putting}
 use Rattle.bench_world.specs.Asked.{asked_on_link}
 use Rattle.bench_world.specs.Links.{OpenLink}
@@ -300,14 +300,14 @@ module _ (s t : State) (g : Given) (e : Entry) (l : OpenLink) (asked : LinkAskin
       told_peer call end law.more e.answer (call_ended call (stands_on l g.joins.own call e.events) e.events e.answer told lit none) adds tells
   answered_by Closes is told none lit end adds tells = closing_ended (stands_closing l g.joins.own e.events) e.events e.answer told lit none
 
-  pub complete : OfEnd (λ end. (e.answer ≡ peer_answer asked end) ↔ IsUndisturbedOn l g.joins.own e.command e.events) (end_of s l)
+  pub complete : OfEnd (λ end. (e.answer ≡ peer_answer asked end) ↔ IsUndisturbedOn l g.joins.own e.command e.events) (peer_end_of s l)
   complete =
       both_ends (λ end. PeerAdds asked end e.answer law.more) (λ end. PeerTells asked end e.answer) (λ end. (e.answer ≡ peer_answer asked end) ↔ IsUndisturbedOn l g.joins.own e.command e.events)
       (λ end adds tells. (
         λ so. undisturbed (subst GoesOn (sym so) (peer_goes_on asked end)),
         λ calm. answered_by asked asks law.told (λ six. calm.waits (had_six six)) calm.lit end adds tells,
       ))
-      (end_of s l) law.adds law.tells
+      (peer_end_of s l) law.adds law.tells
 
 pub asked_complete : AskedComplete
 asked_complete asked s t g e l step asks up = complete s t g e l asked step asks up

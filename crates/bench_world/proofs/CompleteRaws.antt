@@ -30,7 +30,7 @@ use Rattle.bench_world.specs.declared.entry.Entry.{Entry}
 use Rattle.bench_world.specs.declared.entry.Loss.TheVariants as losses
 use Rattle.bench_world.specs.Completing.{IsQuietOnce}
 use Rattle.bench_world.specs.CompletingRaws.{IsHeardOf, IsUndisturbedRaw, QuietRaws, RawsComplete, RawsQuietly, RawsPlaced}
-use Rattle.bench_world.specs.Legal.{State, Given, LegalStep, AnswerLaw, RawLaw, begun, due}
+use Rattle.bench_world.specs.Legal.{State, Given, LegalStep, AnswerLaw, RawLaw, world_at_start, due}
 use Rattle.bench_world.specs.Linking.{IsFieldLost}
 use Rattle.bench_world.specs.Quiet.{AllPass}
 use Rattle.bench_world.specs.Rawing.{Rawing, Activates, Dark, RawEnds, Sends, Strays, Unlinked, raw_behind, raw_first, raw_heard, raw_heard_atr, raw_linked_by, raw_noted, raw_stand, told_rawing}
@@ -141,7 +141,7 @@ module _ (s t : State) (g : Given) (e : Entry) (id : DeviceId) (frames : List Si
 
   quiet_once : noise e.events ≡ 0 → (i : DeviceId) → id ≡ i → IsQuietOnce i e.events
   quiet_once none (A x) is =
-      first_round bench_air (begun s g.joins (Raw id frames)) (due s g (Raw id frames)) e.events (subst (λ c. AreTurns bench_air (begun s g.joins c) e.events) o.command step.front.turns)
+      first_round bench_air (world_at_start s g.joins (Raw id frames)) (due s g (Raw id frames)) e.events (subst (λ c. AreTurns bench_air (world_at_start s g.joins c) e.events) o.command step.front.turns)
       (subst (λ c. EachDue (due s g c) [] e.events) o.command step.front.each) (ap (λ k. due s g (Raw k frames) []) is)
       (ap (λ c. due s g c (receptions e.events)) (sym o.command) ∙ step.over) none
   quiet_once none (V x) is = few_noisy (noisy_tries (inventory_of x) e.events) (no_noisy _ e.events none)

@@ -7,7 +7,7 @@ use Rattle.dep_pdu.specs.declared.frame.DepFrame.TheVariants.{AtrReq, AtrRes, In
 use Rattle.dep_link.specs.Payloads.{Cut, begins, cut_by, joined, taken}
 use Rattle.dep_link.specs.Exchange.{frames_of}
 use Rattle.dep_link.specs.DepLinks.{brought}
-use Rattle.link_calls.specs.Arriving.{IsCounted}
+use Rattle.link_calls.specs.Arriving.{IsCountedTo}
 use Rattle.link_calls.proofs.Arriving.{cut_more}
 
 -- a cut with payloads before its own
@@ -43,7 +43,7 @@ cut_behind : (ps : List (List ℕ)) (c : Cut) (vs : List DepFrame) → cut_by (b
 cut_behind ps c [] = refl
 cut_behind ps c (v ∷ vs) = ap (λ d. cut_by d vs) (taken_behind ps c v) ∙ cut_behind ps (taken c v) vs
 
-module _ (first n : ℕ) (xs ys : List Event) (before : IsCounted first xs n) where
+module _ (first n : ℕ) (xs ys : List Event) (before : IsCountedTo first xs n) where
   abbrev came : List (List ℕ)
   came = brought first xs
 
@@ -56,7 +56,7 @@ module _ (first n : ℕ) (xs ys : List Event) (before : IsCounted first xs n) wh
   pub brought_on : brought first (xs ++ ys) ≡ came ++ brought n ys
   brought_on = ap (λ (c : Cut). c.payloads) cut_on
 
-  pub counted_on : (next : ℕ) → IsCounted n ys next → IsCounted first (xs ++ ys) next
+  pub counted_on : (next : ℕ) → IsCountedTo n ys next → IsCountedTo first (xs ++ ys) next
   counted_on next after =
       let C : List (List ℕ) → Cut = λ ps. record { next = next; chain = []; payloads = ps } in
       cut_on ∙ ap (behind came) after ∙ ap C (sym brought_on)

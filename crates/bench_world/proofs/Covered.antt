@@ -21,7 +21,7 @@ use Rattle.bench_world.specs.World.{FarEnd, Stable, WholeWorld, stable}
 use Rattle.bench_world.specs.Asked.{asked_on_link, slot_messages}
 use Rattle.bench_world.specs.Forging.{opens_link}
 use Rattle.bench_world.specs.Inbox.{came_on_link, chosen}
-use Rattle.bench_world.specs.Legal.{State, Given, Joins, AnswerBy, AnswerLaw, EachLegal, ForgeLeaves, FrontOf, LegalStep, begun, link_alone, peers_forged, state_after, world_after}
+use Rattle.bench_world.specs.Legal.{State, Given, Joins, AnswerBy, AnswerLaw, EachLegal, ForgeLeaves, FrontOf, LegalStep, world_at_start, link_alone, peers_forged, state_after, world_after}
 use Rattle.bench_world.specs.LinkLaw.{gained_aside, is_raw, peer_under}
 use Rattle.bench_world.specs.Links.{OpenLink, accepted_at, begun_if, end_numbered, ended, ended_unless, is_with, with_last_ended, with_link_if}
 use Rattle.bench_world.specs.Opened.{AreNumbered}
@@ -122,33 +122,33 @@ module _ (w : WholeWorld) (q : List Fate) (p : Peers) (ys : List Story) (g : Giv
       → AnswerLaw (from o) g c es a → Covers t
   covers_by o Skip es t stand all calm front law = absurd law
   covers_by o (Fates fates) es t stand all calm front law =
-      unsent o stand all (Fates fates) es t front (nothing_sent (begun (from o) g.joins (Fates fates)) es front.turns front.each) all
+      unsent o stand all (Fates fates) es t front (nothing_sent (world_at_start (from o) g.joins (Fates fates)) es front.turns front.each) all
   covers_by o (PlaceT2 id blocks head) es t stand all calm front law =
       let c : Command = PlaceT2 id blocks head in
-      unsent o stand all c es t front (nothing_sent (begun (from o) g.joins c) es front.turns front.each) (tag_so o stand all)
+      unsent o stand all c es t front (nothing_sent (world_at_start (from o) g.joins c) es front.turns front.each) (tag_so o stand all)
   covers_by o (PlaceT3 id blocks head) es t stand all calm front law =
       let c : Command = PlaceT3 id blocks head in
-      unsent o stand all c es t front (nothing_sent (begun (from o) g.joins c) es front.turns front.each) (tag_so o stand all)
+      unsent o stand all c es t front (nothing_sent (world_at_start (from o) g.joins c) es front.turns front.each) (tag_so o stand all)
   covers_by o (PlaceT4 id code container head) es t stand all calm front law =
       let c : Command = PlaceT4 id code container head in
-      unsent o stand all c es t front (nothing_sent (begun (from o) g.joins c) es front.turns front.each) (tag_so o stand all)
+      unsent o stand all c es t front (nothing_sent (world_at_start (from o) g.joins c) es front.turns front.each) (tag_so o stand all)
   covers_by o (PlaceT5 id blocks size head) es t stand all calm front law =
       let c : Command = PlaceT5 id blocks size head in
-      unsent o stand all c es t front (nothing_sent (begun (from o) g.joins c) es front.turns front.each) (tag_so o stand all)
+      unsent o stand all c es t front (nothing_sent (world_at_start (from o) g.joins c) es front.turns front.each) (tag_so o stand all)
   covers_by o (PlacePeer id lr miu window limit) es t stand all calm front law =
       let c : Command = PlacePeer id lr miu window limit in
-      unsent o stand all c es t front (nothing_sent (begun (from o) g.joins c) es front.turns front.each)
+      unsent o stand all c es t front (nothing_sent (world_at_start (from o) g.joins c) es front.turns front.each)
       (subst Covered (sym (placed_view w q p ys o stand g (Some a) id lr miu window limit))
       (λ n. covered_peer (from o) ys stand (record { limit = limit; accepted = [] }) refl n (all n)))
   covers_by o (Lock id block) es t stand all calm front law =
-      unsent o stand all (Lock id block) es t front (nothing_sent (begun (from o) g.joins (Lock id block)) es front.turns front.each) all
+      unsent o stand all (Lock id block) es t front (nothing_sent (world_at_start (from o) g.joins (Lock id block)) es front.turns front.each) all
   covers_by o (Busy id count times) es t stand all calm front law =
-      unsent o stand all (Busy id count times) es t front (nothing_sent (begun (from o) g.joins (Busy id count times)) es front.turns front.each) all
+      unsent o stand all (Busy id count times) es t front (nothing_sent (world_at_start (from o) g.joins (Busy id count times)) es front.turns front.each) all
   covers_by o (Offer id key value) es t stand all calm front law =
-      unsent o stand all (Offer id key value) es t front (nothing_sent (begun (from o) g.joins (Offer id key value)) es front.turns front.each)
+      unsent o stand all (Offer id key value) es t front (nothing_sent (world_at_start (from o) g.joins (Offer id key value)) es front.turns front.each)
       (subst (λ ks. Covered (view_by p ks)) (sym (held_offered key value (bytes_of id) w.field.listeners w.fars stand.places.fars)) all)
   covers_by o (Remove id) es t stand all calm front law =
-      unsent o stand all (Remove id) es t front (nothing_sent (begun (from o) g.joins (Remove id)) es front.turns front.each)
+      unsent o stand all (Remove id) es t front (nothing_sent (world_at_start (from o) g.joins (Remove id)) es front.turns front.each)
       (less_by (is_with o (placed_under (bytes_of id) w.field.listeners p.numbers)))
     where
       ds : List Device
@@ -168,9 +168,9 @@ module _ (w : WholeWorld) (q : List Fate) (p : Peers) (ys : List Story) (g : Giv
           less_so (ended o w.fars p) (closed.base.held, closed.base.apart) (ended_so o stand all (Remove id) es)
       less_by false = less_so p (base_held (view_of (from o)) o ys stand.stand) all
   covers_by o (Dump id) es t stand all calm front law =
-      unsent o stand all (Dump id) es t front (nothing_sent (begun (from o) g.joins (Dump id)) es front.turns front.each) all
+      unsent o stand all (Dump id) es t front (nothing_sent (world_at_start (from o) g.joins (Dump id)) es front.turns front.each) all
   covers_by o (Inbox id) es t stand all calm front law =
-      unsent o stand all (Inbox id) es t front (nothing_sent (begun (from o) g.joins (Inbox id)) es front.turns front.each) all
+      unsent o stand all (Inbox id) es t front (nothing_sent (world_at_start (from o) g.joins (Inbox id)) es front.turns front.each) all
   covers_by o Find es t stand all calm front law = subst Covers (sym front.after) (calm_so o stand all Find es (ap (λ (z : Stable). z.ends) law.stays))
   covers_by o Crowd es t stand all calm front law = subst Covers (sym front.after) (calm_so o stand all Crowd es (ap (λ (z : Stable). z.ends) law.stays))
   covers_by o Poll3 es t stand all calm front law = subst Covers (sym front.after) (calm_so o stand all Poll3 es (ap (λ (z : Stable). z.ends) law.stays))

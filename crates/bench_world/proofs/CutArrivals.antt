@@ -11,7 +11,7 @@ use Rattle.llcp_link.specs.Taking.{taken_from}
 use Rattle.llcp_link.specs.Taking as taking
 use Rattle.llcp_link.specs.Units.{units}
 use Rattle.snep_core.specs.Payloads.{AcceptsPuts, AcceptsSome, AllPut, accepted_from}
-use Rattle.llcp_conn.specs.Window.{IsFront}
+use Rattle.nfc_base.specs.Prefix.{IsPrefix}
 use Rattle.snep_core.specs.Server.{Received as Accepted, serving}
 use Rattle.llcp_pdu.specs.Wire.{sap_count}
 use Rattle.snep_core.specs.Session.{Offer}
@@ -54,14 +54,14 @@ use Rattle.bench_world.proofs.Tales.{accepted_in, accepted_of, gained_by, goes_o
 use Rattle.bench_world.proofs.Unfinished.{short_front}
 use Rattle.bench_world.proofs.Unlinking.{same_numbers}
 
-front_then : (a b c : List Accepted) → IsFront a b → IsFront b c → IsFront a c
+front_then : (a b c : List Accepted) → IsPrefix a b → IsPrefix b c → IsPrefix a c
 front_then a b c (r, e) (q, d) = (r ++ q, d ∙ ap (λ z. z ++ q) e ∙ append_assoc a r q)
 
 same_rest : (a b c : List (List ℕ)) → a ++ b ≡ a ++ c → b ≡ c
 same_rest a b c e = sym (drop-append_seam a b) ∙ ap (drop (length a)) e ∙ drop-append_seam a c
 
 -- Of each client's SAP: where what was accepted is the first of what the payloads put, so is what was gained.
-puts_at_least : (c limit : ℕ) (us : List (List (List ℕ))) (had gained whole : List Accepted) → IsFront (had ++ gained) whole → (all : List (List ℕ)) → accepted_from c whole ≡ accepted_from c had ++ all
+puts_at_least : (c limit : ℕ) (us : List (List (List ℕ))) (had gained whole : List Accepted) → IsPrefix (had ++ gained) whole → (all : List (List ℕ)) → accepted_from c whole ≡ accepted_from c had ++ all
     → AllPut limit us all → PutsAtLeast limit us (accepted_from c gained)
 puts_at_least c limit us had gained whole (rest, e) all accepted put =
     let from : List Accepted → List (List ℕ) = accepted_from c in
@@ -164,20 +164,20 @@ module _ (n : ℕ) (s t : State) (y : Story) (on : UpTo n s y) (x : Stretch) whe
           ∙ ap (λ o. (taken_from serving (giving_values o mid) last_one.0.payload).service.accepted) last_one.3
           ∙ ap (λ p. (taken_from serving (giving_values on.table mid) p).service.accepted) last_one.2
 
-      new_front : IsFront new end.service.accepted
-      new_front = subst (IsFront new) (sym end_is) some.front
+      new_front : IsPrefix new end.service.accepted
+      new_front = subst (IsPrefix new) (sym end_is) some.front
 
-      grows : IsFront there.service.accepted mid.service.accepted
+      grows : IsPrefix there.service.accepted mid.service.accepted
       grows =
           let whole_bytes = bytes_are on.table x.joins.far stop.before (bytes_first stop.before (stop.last ∷ []) (subst (AllByRecursion AreBytes) stop.split stop.bytes)) in
-          let P : FarEnd → Type 0 = λ b. IsFront (end_behind b y.arrivals).service.accepted (end_behind (end_behind b y.arrivals) firsts).service.accepted in
+          let P : FarEnd → Type 0 = λ b. IsPrefix (end_behind b y.arrivals).service.accepted (end_behind (end_behind b y.arrivals) firsts).service.accepted in
           subst P (sym on.begins) (arrivals_front on.old y.general y.arrivals firsts on.bytes whole_bytes)
         where
           bytes_first : (xs zs : List (List ℕ)) → AllByRecursion AreBytes (xs ++ zs) → AllByRecursion AreBytes xs
           bytes_first [] zs h = tt
           bytes_first (z ∷ xs) zs h = (h.0, bytes_first xs zs h.1)
 
-      first : IsFront there.service.accepted new
+      first : IsPrefix there.service.accepted new
       first = front_then there.service.accepted mid.service.accepted new grows some.before
 
       all_gained : y.begun.service.accepted ++ (y.gained ++ gained_by y.peer s t) ≡ new
@@ -187,18 +187,18 @@ module _ (n : ℕ) (s t : State) (y : Story) (on : UpTo n s y) (x : Stretch) whe
           ap (λ xs. y.begun.service.accepted ++ (y.gained ++ xs)) so ∙ sym (append_assoc y.begun.service.accepted y.gained first.0)
           ∙ ap (λ xs. xs ++ first.0) (sym on.accepted) ∙ sym first.1
 
-      gained_front : IsFront (y.begun.service.accepted ++ next.gained) (end_behind y.begun next.arrivals).service.accepted
+      gained_front : IsPrefix (y.begun.service.accepted ++ next.gained) (end_behind y.begun next.arrivals).service.accepted
       gained_front =
-          subst (λ a. IsFront a (end_behind y.begun next.arrivals).service.accepted) (sym all_gained)
-          (subst (λ (e : FarEnd). IsFront new e.service.accepted) (sym (all_end n s y on x stop.bytes)) new_front)
+          subst (λ a. IsPrefix a (end_behind y.begun next.arrivals).service.accepted) (sym all_gained)
+          (subst (λ (e : FarEnd). IsPrefix new e.service.accepted) (sym (all_end n s y on x stop.bytes)) new_front)
 
-      at_least : (before : List Arrival) (last : Arrival) → next.arrivals ≡ before ++ last ∷ [] → IsFront (end_behind y.begun before).service.accepted (y.begun.service.accepted ++ next.gained)
+      at_least : (before : List Arrival) (last : Arrival) → next.arrivals ≡ before ++ last ∷ [] → IsPrefix (end_behind y.begun before).service.accepted (y.begun.service.accepted ++ next.gained)
       at_least before last split =
           let parts : (y.arrivals ++ firsts) ++ last_one.0 ∷ [] ≡ before ++ last ∷ [] =
           append_assoc y.arrivals firsts (last_one.0 ∷ []) ∙ ap (λ xs. y.arrivals ++ xs) (sym all_are ∙ sym (came_is n s y on x stop.bytes)) ∙ split in
           let same : before ≡ y.arrivals ++ firsts = sym (last_equal (y.arrivals ++ firsts) before last_one.0 last parts).0 in
           let ends : end_behind y.begun before ≡ mid = ap (end_behind y.begun) same ∙ behind_then y.begun y.arrivals firsts in
-          subst (IsFront (end_behind y.begun before).service.accepted) (sym all_gained) (subst (λ (e : FarEnd). IsFront e.service.accepted new) (sym ends) some.before)
+          subst (IsPrefix (end_behind y.begun before).service.accepted) (sym all_gained) (subst (λ (e : FarEnd). IsPrefix e.service.accepted new) (sym ends) some.before)
 
       put_all : (c : ℕ) → c < sap_count
           → AcceptsPuts c y.begun.service.limit y.begun.miu (arrival_marks c y.begun next.arrivals) y.begun.service.accepted (end_behind y.begun next.arrivals).service.accepted

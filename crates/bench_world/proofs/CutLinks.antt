@@ -15,7 +15,7 @@ use Rattle.snep_core.specs.Talk.{client_sap, sap_of_slot}
 use Rattle.bench_script.specs.Messages.{message_of}
 use Rattle.bench_world.specs.Asked.{IsOnLink, asked_on_link, slot_messages}
 use Rattle.bench_world.specs.Calls.{OfEnd, PeerMayAdd}
-use Rattle.bench_world.specs.Legal.{State, Given, Joins, Accepts, CutFront, begun, CutLeft, CutShort, EachLegal, CutStores, ForgeCutLeaves, FrontOf, end_of, first_state, state_after, world_after}
+use Rattle.bench_world.specs.Legal.{State, Given, Joins, Accepts, CutFront, world_at_start, CutLeft, CutShort, EachLegal, CutStores, ForgeCutLeaves, FrontOf, peer_end_of, first_state, state_after, world_after}
 use Rattle.bench_world.specs.Halting.{ForgeHalts, HaltAdded, HaltLeaves, Halts, PeerHalts, RawHalts}
 use Rattle.bench_world.specs.Rawing.{raw_opens}
 use Rattle.bench_devices.specs.AnyFrame.{peer_place, peers_in}
@@ -129,7 +129,7 @@ module _ (w : WholeWorld) (q : List Fate) (p : Peers) (ys : List Story) (g : Giv
       by : (o : Option LinkAsking) → asked_on_link c ≡ o → IsSome o → halts_so c t
       by None e some = off some
       by (Some asked) e some =
-          let adds : OfEnd (λ end. PeerMayAdd asked end h.more) (end_of on l) = subst (λ o. OfEnd (λ end. HaltAdded o end h.more) (end_of on l)) e h.adds in
+          let adds : OfEnd (λ end. PeerMayAdd asked end h.more) (peer_end_of on l) = subst (λ o. OfEnd (λ end. HaltAdded o end h.more) (peer_end_of on l)) e h.adds in
           let accepted : map held t.world.fars ≡ with_held h.more l.peer p.numbers (map held w.fars) = more_held t.world w h.more l.peer p.numbers h.ends in
           let many : length t.world.fars ≡ length w.fars = as_many_talked w q p ys l stand g None c asked e may es h.more adds t.world accepted in
           let places : HavePlaces t.world.field.listeners p.numbers t.world.fars =
@@ -170,7 +170,7 @@ module _ (s t : State) (joins : Joins) (c : Command) (cut : List Event) (ys : Li
       let ds : List Device = s.world.field.listeners in
       let ms : List Device = h.mid.world.field.listeners in
       let d : Command = Raw h.id h.frames in
-      let first : WholeWorld = begun s h.given.joins d in
+      let first : WholeWorld = world_at_start s h.given.joins d in
       let few : peers_in ds ≤ 1 = h.front.accepted.one in
       let mid_is : h.mid.world ≡ world_after s h.given.joins d h.before = ap (λ (x : State). x.world) h.front.after in
       let first_stay : AllStayDevices ds (world_after s h.given.joins d h.before).field.listeners = (far_stay h.before first).stay in

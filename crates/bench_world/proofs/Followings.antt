@@ -11,7 +11,7 @@ use Rattle.bench_world.specs.Following.{BeginAlike, Compares, Follows, FollowsAl
 use Rattle.bench_world.specs.Legal.{Joins}
 use Rattle.bench_world.specs.Obeying.{Benched, IsCutOffBy, IsSettled, Machines, Makes, state_at, untraced}
 use Rattle.bench_world.specs.ReadBack.{AreOnAir}
-use Rattle.bench_world.specs.Showing.{IsBetween, MayShow, shown_of}
+use Rattle.bench_world.specs.Showing.{IsBetweenCommands, MayShow, shown_of}
 use Rattle.bench_world.proofs.Benches.{both_ways, made_legal, made_quiet, seen}
 use Rattle.bench_world.proofs.Strays.{begins_with, none_begins, none_has}
 use Rattle.bench_world.proofs.Unfinished.{unfinished}
@@ -22,7 +22,7 @@ as_follows f old new line c events other follows = follows
 
 module _ (rs : List (List Entry)) (a k : Machines) (js ks : List Entry) (line : ℕ) (c : Command) (e : Entry) (told : List Event)
     (settled : IsSettled a) (cuts : CutsWell (state_at a)) (shows : MayShow (state_at a) c) (m : Makes (shown_of (state_at a) c told) a k line c e) (air : AreOnAir e.events) where
-  between : IsBetween (state_at a)
+  between : IsBetweenCommands (state_at a)
   between = record { machines = a; settled = settled; is = refl; cuts = cuts }
 
   all_told : told ≡ e.events → ks ≡ js ++ e ∷ [] → FollowsAll (seen rs js a false) (seen rs ks k false) line c told

@@ -38,7 +38,7 @@ use Rattle.peer_air.specs.SwapTurns.{Stands as StandsThere}
 use Rattle.peer_air.proofs.PeerEnds.{counted_step}
 use Rattle.llcp_link.specs.Counting.{AnswersCounted, RestartsCounted, StopsCounted}
 use Rattle.llcp_link.specs.State.{restarted}
-use Rattle.llcp_conn.specs.Window.{IsFront}
+use Rattle.nfc_base.specs.Prefix.{IsPrefix}
 use Rattle.snep_core.specs.Server.{serving}
 use Rattle.link_calls.specs.Arriving.{Arrives, ArrivesCut}
 use Rattle.link_calls.specs.Carrying.{IsWalked, IsWalkEnded, IsWalkShort}
@@ -564,7 +564,7 @@ module _ (ends : Ends) (peers : Peers) (old : Air Device) (id : List ℕ) (paylo
           there_d : get_or os place None ≡ Some e
           there_d = set_there ends place far e there
 
-          ends_more : setting_of e ≡ setting_of far → (front : IsFront far.service.accepted e.service.accepted) → bare d.listeners os ≡ with_accepted front.0 n peers.numbers (bare old.listeners ends)
+          ends_more : setting_of e ≡ setting_of far → (front : IsPrefix far.service.accepted e.service.accepted) → bare d.listeners os ≡ with_accepted front.0 n peers.numbers (bare old.listeners ends)
           ends_more set front = bare_alike d.listeners old.listeners os long ∙ bare_more n place peers.numbers old.listeners ends far e front.0 first_numbered places.numbers there set front.1
 
           range_is : (w : WholeWorld) → seen device_linked peer_ends (moment d).world os [] ≡ w → with_link (range_of e) peers ≡ with_link_within n st.world.fars w.fars peers
@@ -681,7 +681,7 @@ module _ (ends : Ends) (peers : Peers) (old : Air Device) (id : List ℕ) (paylo
             set : setting_of after.end ≡ setting_of far
             set = setting ∙ setting_one
 
-            ends_then : (front : IsFront far.service.accepted after.end.service.accepted) → (stable (world_after st J c all)).ends ≡ with_accepted front.0 n peers.numbers (stable st.world).ends
+            ends_then : (front : IsPrefix far.service.accepted after.end.service.accepted) → (stable (world_after st J c all)).ends ≡ with_accepted front.0 n peers.numbers (stable st.world).ends
             ends_then front = ap (λ (w : WholeWorld). (stable w).ends) (sym world_new) ∙ ends_more new after.end same_new set front
 
             -- it was answered
@@ -690,7 +690,7 @@ module _ (ends : Ends) (peers : Peers) (old : Air Device) (id : List ℕ) (paylo
                 → (noise t.going.events ≡ 0 → bad_receptions t.going.events ≡ 0) → ObeyedBy J before (left_so new after.end) c answer
             answered_so arrived answer told_so over lost noisy calm =
                 let arrives : Arrives 0 all begun_half after = subst (λ xs. Arrives 0 xs begun_half after) (sym parts) (all_arrive t.going.events after (subst (λ xs. Arrives p.0.core.number xs half after) added arrived)) in
-                let front : IsFront far.service.accepted after.end.service.accepted = grows far forged_general counts all after (inl arrives) in
+                let front : IsPrefix far.service.accepted after.end.service.accepted = grows far forged_general counts all after (inl arrives) in
                 let no_first : 0 < breaks opening.0.events → ⊥ = λ some.
                 (let lost_at : came ≡ Err causes.FieldLost = o.lost.1 (rest_breaks chosen.events o.speaks.events no_break (subst (λ xs. 0 < breaks xs) until some)) in
                 let clash : ◌≡◌ {A = Result (InitState × ArrayVec ℕ) EndCause} (Ok p) (Err causes.FieldLost) = sym is ∙ lost_at in cc) in
@@ -732,7 +732,7 @@ module _ (ends : Ends) (peers : Peers) (old : Air Device) (id : List ℕ) (paylo
             short_so arrived =
                 let arrives : ArrivesCut 0 all begun_half after =
                 subst (λ xs. ArrivesCut 0 xs begun_half after) (sym parts) (all_arrive_cut t.going.events after (subst (λ xs. ArrivesCut p.0.core.number xs half after) added arrived)) in
-                let front : IsFront far.service.accepted after.end.service.accepted = grows far forged_general counts all after arrives in
+                let front : IsPrefix far.service.accepted after.end.service.accepted = grows far forged_general counts all after arrives in
                 cut_off new ends_new after.numbers (first_notes ++ t.notes) whole same_new (with_link (range_of after.end) peers) (peers_so None)
                 (subst (λ v. ForgeCutLeaves v st J id payloads all) (sym opens_true) (record {
                   peer = n;
@@ -780,7 +780,7 @@ module _ (ends : Ends) (peers : Peers) (old : Air Device) (id : List ℕ) (paylo
 
             halted : ForgeHalts J st c d.trace (state_at (left_so d stopped.end))
             halted =
-                let grown : IsFront far.service.accepted stopped.end.service.accepted = grows far forged_general counts d.trace stopped arrives_d in
+                let grown : IsPrefix far.service.accepted stopped.end.service.accepted = grows far forged_general counts d.trace stopped arrives_d in
                 record {
                   id = id;
                   payloads = payloads;

@@ -19,7 +19,7 @@ use Rattle.dep_link.specs.Initiator.{InitState}
 use Rattle.llcp_link.specs.Counting.{RestartsCounted}
 use Rattle.llcp_link.specs.Running.{AreBytes}
 use Rattle.llcp_link.specs.State.{restarted}
-use Rattle.llcp_conn.specs.Window.{IsFront}
+use Rattle.nfc_base.specs.Prefix.{IsPrefix}
 use Rattle.snep_core.specs.Server.{Received, serving}
 use Rattle.snep_core.proofs.CutOff.{cut_off_accepts}
 use Rattle.link_calls.specs.Arriving.{ArrivesCut, all_answered}
@@ -78,20 +78,20 @@ times_of general zero far after e = ap (λ (c : Choosing FarEnd). c.end) e
 times_of general (suc n) far after (mid, before, last) = (mid.end, times_of general n far mid before, ap (λ (c : Choosing FarEnd). c.end) last)
 
 -- What it accepted stays, whatever arrives.
-front_then : (a b c : List Received) → IsFront a b → IsFront b c → IsFront a c
+front_then : (a b c : List Received) → IsPrefix a b → IsPrefix b c → IsPrefix a c
 front_then a b c (r, e) (q, d) = (r ++ q, d ∙ ap (λ z. z ++ q) e ∙ append_assoc a r q)
 
 answered_front : (old : FarEnd) (general : List ℕ) (ns : List ℕ) (ps : List (List ℕ)) → AllByRecursion AreBytes ps
-    → IsFront old.service.accepted (all_answered ps (record { end = restarted serving old general; numbers = ns })).end.service.accepted
+    → IsPrefix old.service.accepted (all_answered ps (record { end = restarted serving old general; numbers = ns })).end.service.accepted
 answered_front old general ns ps bytes =
     let begin : FarEnd = restarted serving old general in
-    subst (λ (e : FarEnd). IsFront old.service.accepted e.service.accepted) (sym (answered_is ps ns begin.service.table begin))
+    subst (λ (e : FarEnd). IsPrefix old.service.accepted e.service.accepted) (sym (answered_is ps ns begin.service.table begin))
     (arrivals_front old general [] _ tt (bytes_are begin.service.table ns ps bytes))
 
 pub grows : (old : FarEnd) (general : List ℕ) (ns : List ℕ) (es : List Event) (after : Choosing FarEnd) → ArrivesCut 0 es (record { end = restarted serving old general; numbers = ns }) after
-    → IsFront old.service.accepted after.end.service.accepted
+    → IsPrefix old.service.accepted after.end.service.accepted
 grows old general ns es after (inl came) =
-    subst (λ (c : Choosing FarEnd). IsFront old.service.accepted c.end.service.accepted) (sym came.after_is) (answered_front old general ns (brought 0 es) came.bytes)
+    subst (λ (c : Choosing FarEnd). IsPrefix old.service.accepted c.end.service.accepted) (sym came.after_is) (answered_front old general ns (brought 0 es) came.bytes)
 grows old general ns es after (inr stop) =
     let C : Choosing FarEnd = record { end = restarted serving old general; numbers = ns } in
     let firsts : AllByRecursion AreBytes stop.before = all_first AreBytes stop.before (stop.last ∷ []) (subst (AllByRecursion AreBytes) stop.split stop.bytes) in

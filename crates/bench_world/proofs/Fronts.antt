@@ -50,7 +50,7 @@ use Rattle.bench_world.specs.declared.entry.Answer.{Answer as Told}
 use Rattle.bench_world.proofs.Numbers.{UsesFars}
 use Rattle.bench_world.specs.Links.{OpenLink}
 use Rattle.bench_world.specs.Peers.{Peers}
-use Rattle.bench_world.specs.Legal.{State, Given, Joins, IsAskedBy, FrontOf, changed, due, begun, world_after, peers_after, link_after, state_after}
+use Rattle.bench_world.specs.Legal.{State, Given, Joins, IsAskedBy, FrontOf, changed, due, world_at_start, world_after, peers_after, link_after, state_after}
 
 -- the far ends above a field, one place a device
 abbrev pub Ends : Type 0
@@ -165,7 +165,7 @@ none_hand s g c (Clash f x ∷ es) quiet asked each first w = absurd cc
 
 none_in_front : {told : Option Told} (s t : State) (g : Given) (c : Command) (es : List Event) → (UsesFars c → ⊥) → FrontOf s g c es told t → (w : BenchWorld) → NoneHands devices w es
 none_in_front s t g c es quiet front w =
-    none_hand s g c es quiet front.asks front.each (ap back_of front.turns.made ∙ trace_first bench_air (begun s g.joins c) front.turns.moves) w
+    none_hand s g c es quiet front.asks front.each (ap back_of front.turns.made ∙ trace_first bench_air (world_at_start s g.joins c) front.turns.moves) w
 
 does_quietly : {told : Option Told} (s t : State) (g : Given) (c : Command) (es : List Event) → (UsesFars c → ⊥) → FrontOf s g c es told t → (w : WholeWorld) → DoesQuietly devices device_linked peer_ends w es
 does_quietly s t g c es quiet front w = quiet_fields devices device_linked peer_ends w es (none_in_front s t g c es quiet front w.field)
@@ -178,7 +178,7 @@ pub record OnField (s : State) (c : Command) (es : List Event) (t : State) : Typ
 
 pub on_field : {told : Option Told} (s t : State) (g : Given) (c : Command) (es : List Event) → (UsesFars c → ⊥) → FrontOf s g c es told t → OnField s c es t
 on_field s t g c es quiet front =
-    let q : DoesQuietly devices device_linked peer_ends (begun s g.joins c) es = does_quietly s t g c es quiet front (begun s g.joins c) in
+    let q : DoesQuietly devices device_linked peer_ends (world_at_start s g.joins c) es = does_quietly s t g c es quiet front (world_at_start s g.joins c) in
     record {
       turns = q.turns.0 front.turns;
       field = ap (λ (x : State). x.world.field) front.after ∙ q.field;
@@ -187,7 +187,7 @@ on_field s t g c es quiet front =
 
 -- the field of the state after a front
 pub field_after : {told : Option Told} (s t : State) (g : Given) (c : Command) (es : List Event) → (UsesFars c → ⊥) → FrontOf s g c es told t → (world_after s g.joins c es).field ≡ replay air (changed s c).world.field es
-field_after s t g c es quiet front = (does_quietly s t g c es quiet front (begun s g.joins c)).field
+field_after s t g c es quiet front = (does_quietly s t g c es quiet front (world_at_start s g.joins c)).field
 
 -- So it leaves the links as the command itself does.
 same_peers : (s : State) (joins : Joins) (c : Command) (es : List Event) (told : Option Told) → (UsesFars c → ⊥) → peers_after s joins c es told ≡ (changed s c).peers

@@ -23,7 +23,7 @@ use Rattle.bench_devices.specs.Keeping.{Fixed, fixed, Kept, kept, AllStayDevices
 use Rattle.bench_devices.specs.Placed.{device_with, without, with_changed}
 use Rattle.bench_world.specs.declared.entry.Entry.{Entry}
 use Rattle.bench_world.specs.World.{WholeWorld, bench_air, Stable, stable}
-use Rattle.bench_world.specs.Legal.{State, Given, AnswerLaw, ReadLaw, FindLaw, CrowdLaw, SenseLaw, Read3Law, WritingLaw, Writing3Law, LinkingLaw, CallLaw, AnswerBy, LegalStep, EachLegal, begun, changed, due, due_by, world_after, state_after}
+use Rattle.bench_world.specs.Legal.{State, Given, AnswerLaw, ReadLaw, FindLaw, CrowdLaw, SenseLaw, Read3Law, WritingLaw, Writing3Law, LinkingLaw, CallLaw, AnswerBy, LegalStep, EachLegal, world_at_start, changed, due, due_by, world_after, state_after}
 use Rattle.bench_world.specs.Behind.{Touches, LeaveAlone}
 use Rattle.snep_core.specs.Talk.{client_sap, sap_of_slot}
 use Rattle.bench_script.specs.Messages.{message_of}
@@ -199,8 +199,8 @@ busy_own count times (T3 p) = refl
 pub nothing_happened : (s t : State) (g : Given) (e : Entry) → LegalStep s g e t → (c : Command) → e.command ≡ c → ((ns : List Note) → due s g c ns ≡ Over) → t ≡ state_after s g.joins c [] (Some e.answer)
 nothing_happened s t g e step c is over =
     let each : EachDue (due s g c) [] e.events = subst (λ k. EachDue (due s g k) [] e.events) is step.front.each in
-    let turns : AreTurns bench_air (begun s g.joins c) e.events = subst (λ k. AreTurns bench_air (begun s g.joins k) e.events) is step.front.turns in
-    let none : e.events ≡ [] = nothing_sent (begun s g.joins c) e.events turns (over_all e.events [] each) in
+    let turns : AreTurns bench_air (world_at_start s g.joins c) e.events = subst (λ k. AreTurns bench_air (world_at_start s g.joins k) e.events) is step.front.turns in
+    let none : e.events ≡ [] = nothing_sent (world_at_start s g.joins c) e.events turns (over_all e.events [] each) in
     step.front.after ∙ ap (λ k. state_after s g.joins k e.events (Some e.answer)) is ∙ ap (λ es. state_after s g.joins c es (Some e.answer)) none
   where
     over_all : (es before : List Event) → EachDue (due s g c) before es → EachDue (λ ns. Over) before es
@@ -220,7 +220,7 @@ module _ (id : DeviceId) (s t : State) (g : Given) (e : Entry) (d : Device) (ste
   asking_step : (c : Command) → e.command ≡ c → (changed s c).world.field ≡ s.world.field → (stable (world_after s g.joins c e.events)).devices ≡ (stable (changed s c).world).devices
       → IsAlike (bytes_of id) d t.world.field.listeners
   asking_step c is still stays =
-      let w : WholeWorld = begun s g.joins c in
+      let w : WholeWorld = world_at_start s g.joins c in
       let now : List Device = (replay bench_air w e.events).field.listeners in
       let after : t ≡ state_after s g.joins c e.events (Some e.answer) = step.front.after ∙ ap (λ k. state_after s g.joins k e.events (Some e.answer)) is in
       let there : device_with (bytes_of id) w.field.listeners ≡ Some d = ap (λ (x : BenchWorld). device_with (bytes_of id) x.listeners) still ∙ found in

@@ -28,7 +28,7 @@ use Rattle.bench_world.specs.declared.entry.Answer.TheVariants as answers
 use Rattle.bench_devices.specs.declared.polling.SeenKind.{SeenKind}
 use Rattle.bench_devices.specs.declared.polling.SeenKind.TheVariants as seen
 use Rattle.bench_devices.specs.CardAsking.{tag_next}
-use Rattle.bench_world.specs.Answering.{TagTells, TellsFault, TellsFound, CutTag, tags_answer, poll_answer, told_by}
+use Rattle.bench_world.specs.Answering.{TagTells, TellsFault, TellsFound, CutTag, tags_answer, poll_answer, read_answer}
 use Rattle.bench_devices.specs.TagAsking.{then_asks, tag_due}
 use Rattle.bench_devices.specs.Kinds.{IfRead}
 use Rattle.bench_devices.specs.Device.{air, devices, device_linked, StablePart, stable_of, device_store, how_of, size_of, seen_of, is_tag, may_be_read}
@@ -40,7 +40,7 @@ use Rattle.bench_world.specs.Reading.{Tells, TellsOf, ReadAsks}
 use Rattle.bench_devices.specs.Reading.{AsksOf, ShowsOf}
 use Rattle.bench_world.specs.Legal.{State, Given, no_joins, Accepts, IsAskedBy, AnswerLaw, FrontOf, changed, due, world_after, state_after}
 use Rattle.bench_devices.specs.Placed.{OfPlaced, IfPlaced, device_with}
-use Rattle.bench_devices.specs.Keeping.{Kept, kept, IsSound, Changes, NoStore, Leaves}
+use Rattle.bench_devices.specs.Keeping.{Kept, kept, IsSound, Changes, NoStore, LeavesDevices}
 use Rattle.bench_devices.specs.Phases.{AskedPart, AsksSome, SelectionCut, ReadsSome, FailsRead, IsIdle, Selects, SelectsAt, Reads, Searches, SearchesField, SearchCut}
 use Rattle.bench_world.specs.Obeying.{Machines, state_at, HasPlaces, KeepsLink, IsSettled, Obeyed, ObeyedUnlinked, IsCutOff, CutOffUnlinked}
 use Rattle.bench_world.specs.World.{WholeWorld, bench_air, stable}
@@ -186,7 +186,7 @@ pub asks_so : (what : Changes) (os : Upon) (old new : Air Device) (c : Command) 
     → (g : Going air (due (above os old) (asks_for asked) c) (moment old) (moment new) ns) → due (above os old) (asks_for asked) c ns ≡ Over → IsAskedBy (above os old) c asked
     → NoneHands devices (moment old).world g.events → state_after (above os old) no_joins c g.events (Some answer) ≡ plain_after (above os old) c g.events
     → AnswerLaw (above os old) (asks_for asked) c g.events answer
-    → Leaves what (moment old).world g.events (moment new).world → Obeyed (beneath os old) (beneath os new) c answer
+    → LeavesDevices what (moment old).world g.events (moment new).world → Obeyed (beneath os old) (beneath os new) c answer
 asks_so what os old new c asked ns answer idle places keeps accepted still g over asked_by none plain law left =
     let st : State = above os old in
     let trace : new.trace ≡ g.events = trace_is old new (due st (asks_for asked) c) ns g idle in
@@ -215,7 +215,7 @@ pub asks_obeyed : (what : Changes) (c : Command) → (UsesFars c → ⊥) → (o
     → Accepts (above os old) c → changed (above os old) c ≡ above os old
     → (g : Going air (due (above os old) (asks_for asked) c) (moment old) (moment new) ns) → due (above os old) (asks_for asked) c ns ≡ Over → IsAskedBy (above os old) c asked
     → AnswerLaw (above os old) (asks_for asked) c g.events answer
-    → Leaves what (moment old).world g.events (moment new).world → Obeyed (beneath os old) (beneath os new) c answer
+    → LeavesDevices what (moment old).world g.events (moment new).world → Obeyed (beneath os old) (beneath os new) c answer
 asks_obeyed what c quiet os old new asked ns answer idle places keeps accepted still g over asked_by law left =
     asks_so what os old new c asked ns answer idle places keeps accepted still g over asked_by (none_in c quiet os old new asked ns g asked_by)
     (links_stay (above os old) no_joins c g.events (Some answer) quiet) law left
@@ -461,7 +461,7 @@ peer_obeyed old mid id place idle s peer = λ ends peers places.
     }) s.selects.asked.same
 
 -- a tag was selected and read
-module _ (old mid new : Air Device) (id : DeviceId) (place : ℕ) (read : Result Found ReadFault) (answer : Answer) (told : told_by read ≡ Some answer) (idle : IsIdle old)
+module _ (old mid new : Air Device) (id : DeviceId) (place : ℕ) (read : Result Found ReadFault) (answer : Answer) (told : read_answer read ≡ Some answer) (idle : IsIdle old)
     (s : SelectsAt id place (moment old) (moment mid)) (tag : may_be_read s.device ≡ true) (r : Reads (moment mid) (moment new) s.device read) where
   abbrev with_id : IsWith old.listeners (bytes_of id) (kept s.device)
   with_id = selected_with old mid id place idle s

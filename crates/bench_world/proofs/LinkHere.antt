@@ -24,7 +24,7 @@ use Rattle.bench_world.specs.Answering.{poll_answer}
 use Rattle.bench_world.specs.World.{FarEnd}
 use Rattle.bench_world.specs.Linking.{own_general, new_client}
 use Rattle.bench_world.specs.Opened.{IsServed}
-use Rattle.bench_world.specs.LinkedAt.{restarts, begun, NotOpened, moved_at, LinkLeft, OpensAt}
+use Rattle.bench_world.specs.LinkedAt.{restarts, machines_at_start, NotOpened, moved_at, LinkLeft, OpensAt}
 use Rattle.bench_world.specs.Legal.{MayLink, CutFront, no_joins}
 use Rattle.bench_world.specs.Obeying.{Machines, state_at, under, HasPlaces, IsSettled, Obeyed}
 use Rattle.bench_world.proofs.Unlinking.{upon}
@@ -96,11 +96,11 @@ module _ (m : Machines) (settled : IsSettled m) (unlinked : m.link ≡ None) (id
           (in_this left_none (answers.LinkEnded loss)
           (ended_link m.ends m.peers m.air id miu rw settled.idle there may mid place s peer served.end o.after served.stands o.air o.came asked cause loss came told))
 
-      opened_now : (p : InitState × ArrayVec ℕ) → o.came ≡ Ok p → now ≡ begun (moved_at (upon m mid) o.air place o.after) served.peer (length served.end.service.accepted) p.0 (new_client miu rw p.1.items)
+      opened_now : (p : InitState × ArrayVec ℕ) → o.came ≡ Ok p → now ≡ machines_at_start (moved_at (upon m mid) o.air place o.after) served.peer (length served.end.service.accepted) p.0 (new_client miu rw p.1.items)
           → Obeyed m now (Link id miu rw) (answers.Linked (length m.peers.links + 1))
       opened_now p came is =
           subst (λ x. Obeyed m x (Link id miu rw) (answers.Linked (length m.peers.links + 1))) (sym is)
-          (in_this (begun (moved_at (upon m mid) o.air place o.after) served.peer (length served.end.service.accepted) p.0 (new_client miu rw p.1.items)) (answers.Linked (length m.peers.links + 1))
+          (in_this (machines_at_start (moved_at (upon m mid) o.air place o.after) served.peer (length served.end.service.accepted) p.0 (new_client miu rw p.1.items)) (answers.Linked (length m.peers.links + 1))
           (opened_link m.ends m.peers m.air id miu rw settled.idle there may mid place s peer served.end o.after served.stands o.air o.came asked served.peer served.numbered p came))
 
       by_cases : (came : Result (InitState × ArrayVec ℕ) EndCause) (r : Result Told_answer ObeyFault) → o.came ≡ came

@@ -25,7 +25,7 @@ use Rattle.bench_world.specs.World.{FarEnd, WholeWorld, Stable, bench_air, stabl
 use Rattle.bench_world.specs.Forging.{forged_general, opens_link}
 use Rattle.link_calls.specs.Asking.{LinkAsking, Does, Closes, Finding, Getting, put_from, Putting}
 use Rattle.bench_world.specs.Calls.{AllAdd, OfEnd, asked_behind, told_asked, with_accepted}
-use Rattle.bench_world.specs.Legal.{State, Given, Joins, Accepts, IsPeerPlaced, AnswerBy, AnswerLaw, ForgeLeaves, FrontOf, LegalStep, EachLegal, begun, changed, due, due_by, end_of, first_state, link_after, link_left, peers_after, peers_forged, peers_left, world_after, state_after, RawOpensPeer}
+use Rattle.bench_world.specs.Legal.{State, Given, Joins, Accepts, IsPeerPlaced, AnswerBy, AnswerLaw, ForgeLeaves, FrontOf, LegalStep, EachLegal, world_at_start, changed, due, due_by, peer_end_of, first_state, link_after, link_left, peers_after, peers_forged, peers_left, world_after, state_after, RawOpensPeer}
 use Rattle.bench_world.specs.Rawing.{raw_opens}
 use Rattle.nfc_base.specs.Signal.{Signal}
 use Rattle.bench_devices.specs.AnyFrame.{peer_place, peers_in}
@@ -36,7 +36,7 @@ use Rattle.bench_world.specs.Linking.{LinkTells, link_if, own_general}
 use Rattle.bench_world.specs.LinkLaw.{AreCounted, KeepsLinkLaw, by_link, numbers_by_link, opener_of, openers_in, told_link, told_links}
 use Rattle.bench_world.specs.Links.{OpenLink, end_numbered, ended, ended_unless, is_with, with_link_if, with_link_within}
 use Rattle.bench_world.specs.Peers.{Peers, new_end, next_number, placed_under}
-use Rattle.bench_world.specs.Stories.{Opener, ByForge, ByLink, Story, Stretch, Beginning, BeginsAndEnds, NothingBegins, beginning, begun_by, first_of, new_story, story_if, story_within, whole_of, last_goes_on, open_goes_on, puts_in, stretch_of, ByRaw}
+use Rattle.bench_world.specs.Stories.{Opener, ByForge, ByLink, Story, Stretch, Beginning, BeginsAndEnds, NothingBegins, beginning, begun_by, story_of, new_story, story_if, story_within, whole_of, last_goes_on, open_goes_on, puts_in, stretch_of, ByRaw}
 use Rattle.bench_world.proofs.Talks.{on_link, still_on}
 use Rattle.bench_world.proofs.AtNumbers.{AreHeld, Held, held, held_at, held_offered, at_own_place, more_held, same_held, with_held}
 use Rattle.bench_world.proofs.FarStays.{far_stay}
@@ -85,7 +85,7 @@ module _ (w : WholeWorld) (q : List Fate) (p : Peers) (ys : List Story) (o : Opt
   places_behind c es ps devices many numbers =
       let now : WholeWorld = world_after s g.joins c es in
       places_stay w.field.listeners now.field.listeners p.numbers ps w.fars now.fars
-      (subst (λ ds. AllStayDevices ds now.field.listeners) devices (far_stay es (begun s g.joins c)).stay) many numbers stand.places
+      (subst (λ ds. AllStayDevices ds now.field.listeners) devices (far_stay es (world_at_start s g.joins c)).stay) many numbers stand.places
 
   -- a tag is placed, and a peer
   pub tag_placed : (c : Command) (es : List Event) → (changed s c).link ≡ o → (behind c []).link ≡ o → puts_in c told ≡ [] → beginning c es told ≡ NothingBegins
@@ -254,7 +254,7 @@ module _ (w : WholeWorld) (q : List Fate) (p : Peers) (ys : List Story) (o : Opt
 
   pub raw_after : peers_in w.field.listeners ≤ 1 → RawOpensPeer raw_from id frames es → Stand raw_then (stories_behind raw_from (record { command = raws; joins = g.joins; events = es; told = told }) raw_then ys)
   raw_after few opens =
-      let first : WholeWorld = begun raw_from g.joins raws in
+      let first : WholeWorld = world_at_start raw_from g.joins raws in
       let now : WholeWorld = world_after raw_from g.joins raws es in
       let many : length now.fars ≡ length w.fars = all_long es first stand.places.fars ∙ same_many w.field.listeners now.field.listeners (far_stay es first).stay ∙ sym stand.places.fars in
       raw_stands w q p ys o stand g.joins told id frames es few raw_then (all_grow es (peer_place w.field.listeners) first stand.places.fars few refl) refl refl
@@ -276,7 +276,7 @@ module _ (w : WholeWorld) (q : List Fate) (p : Peers) (ys : List Story) (l : Ope
   open_held = (base_held (view_of on) (Some l) ys stand.stand).0
 
   -- What a command on the link added, whatever it asks.
-  module _ (c : Command) (asked : LinkAsking) (asks : asked_on_link c ≡ Some asked) (may : Accepts on c) (es : List Event) (more : List Accepted) (adds : OfEnd (λ end. AddsBy asked told end more) (end_of on l)) where
+  module _ (c : Command) (asked : LinkAsking) (asks : asked_on_link c ≡ Some asked) (may : Accepts on c) (es : List Event) (more : List Accepted) (adds : OfEnd (λ end. AddsBy asked told end more) (peer_end_of on l)) where
     abbrev x : Stretch
     x = record { command = c; joins = g.joins; events = es; told = told }
 
@@ -289,7 +289,7 @@ module _ (w : WholeWorld) (q : List Fate) (p : Peers) (ys : List Story) (l : Ope
         let ts : List Told = tolds_of asked told in
         let P : List (Option Held) → Type 0 = λ ks. (z : Opened (view_by p ks) l.peer (last_goes_on (goes_on on x t) ys)) × (AreTold ts → IsInStep z.now.story) in
         subst P (sym accepted)
-        (talk_over on t l ys stand.stand x ws (apart_of on c asked asks may) ts (puts_asked c asked asks told) more (over_end (λ e. AddsBy asked told e more) (λ e. AllAdd ws e ts more) (λ e. adds_all asked told e more) (end_of on l) adds)
+        (talk_over on t l ys stand.stand x ws (apart_of on c asked asks may) ts (puts_asked c asked asks told) more (over_end (λ e. AddsBy asked told e more) (λ e. AllAdd ws e ts more) (λ e. adds_all asked told e more) (peer_end_of on l) adds)
         (unless_numbers left (Some l) now.fars p) accepted)
 
     pub talk_so : (now : WholeWorld) (queue : List Fate) (left : Option OpenLink) → HavePlaces now.field.listeners p.numbers now.fars → map held now.fars ≡ with_held more l.peer p.numbers (map held w.fars)
@@ -344,7 +344,7 @@ module _ (w : WholeWorld) (q : List Fate) (p : Peers) (ys : List Story) (stand :
 
   none_sent : (c : Command) (asked : LinkAsking) → asked_on_link c ≡ Some asked → (es : List Event) (t : State) → FrontOf off_link g c es told t → es ≡ []
   none_sent c asked asks es t front =
-      nothing_sent (begun off_link g.joins c) es front.turns
+      nothing_sent (world_at_start off_link g.joins c) es front.turns
       (due_weaker (λ ns. Over) (due off_link g c) (λ ns n e d. sym (ap (λ o. due_by o off_link g c ns) asks) ∙ e) [] es front.each)
 
   after_none : (c : Command) (asked : LinkAsking) → asked_on_link c ≡ Some asked → state_after off_link g.joins c [] told ≡ quiet_then
@@ -390,50 +390,50 @@ module _ (w : WholeWorld) (q : List Fate) (p : Peers) (ys : List Story) (g : Giv
   step_by : (o : Option OpenLink) (c : Command) (es : List Event) (t : State) → Stand (from o) ys → FrontOf (from o) g c es (Some a) t → AnswerLaw (from o) g c es a → so o c es t
   step_by o Skip es t stand front law = absurd law
   step_by o (Fates fates) es t stand front law =
-      quietly w q p ys o stand g (Some a) (Fates fates) es t front (nothing_sent (begun (from o) g.joins (Fates fates)) es front.turns front.each)
+      quietly w q p ys o stand g (Some a) (Fates fates) es t front (nothing_sent (world_at_start (from o) g.joins (Fates fates)) es front.turns front.each)
       (nothing_changed w q p ys o stand g (Some a) (Fates fates) es refl refl refl refl refl stand.places)
   step_by o (PlaceT2 id blocks head) es t stand front law =
       let c : Command = PlaceT2 id blocks head in
-      quietly w q p ys o stand g (Some a) c es t front (nothing_sent (begun (from o) g.joins c) es front.turns front.each)
+      quietly w q p ys o stand g (Some a) c es t front (nothing_sent (world_at_start (from o) g.joins c) es front.turns front.each)
       (tag_placed w q p ys o stand g (Some a) c es refl refl refl refl (ap (λ ks. record { numbers = p.numbers ++ None ∷ []; placed = next_number p; links = p.links; held = ks }) (map-append held w.fars (None ∷ [])))
       (places_more w.field.listeners _ p.numbers None w.fars None (many_numbers (from o) ys stand) (λ peer. absurd cc) stand.places))
   step_by o (PlaceT4 id code container head) es t stand front law =
       let c : Command = PlaceT4 id code container head in
-      quietly w q p ys o stand g (Some a) c es t front (nothing_sent (begun (from o) g.joins c) es front.turns front.each)
+      quietly w q p ys o stand g (Some a) c es t front (nothing_sent (world_at_start (from o) g.joins c) es front.turns front.each)
       (tag_placed w q p ys o stand g (Some a) c es refl refl refl refl (ap (λ ks. record { numbers = p.numbers ++ None ∷ []; placed = next_number p; links = p.links; held = ks }) (map-append held w.fars (None ∷ [])))
       (places_more w.field.listeners _ p.numbers None w.fars None (many_numbers (from o) ys stand) (λ peer. absurd cc) stand.places))
   step_by o (PlaceT3 id blocks head) es t stand front law =
       let c : Command = PlaceT3 id blocks head in
-      quietly w q p ys o stand g (Some a) c es t front (nothing_sent (begun (from o) g.joins c) es front.turns front.each)
+      quietly w q p ys o stand g (Some a) c es t front (nothing_sent (world_at_start (from o) g.joins c) es front.turns front.each)
       (tag_placed w q p ys o stand g (Some a) c es refl refl refl refl (ap (λ ks. record { numbers = p.numbers ++ None ∷ []; placed = next_number p; links = p.links; held = ks }) (map-append held w.fars (None ∷ [])))
       (places_more w.field.listeners _ p.numbers None w.fars None (many_numbers (from o) ys stand) (λ peer. absurd cc) stand.places))
   step_by o (PlaceT5 id blocks size head) es t stand front law =
       let c : Command = PlaceT5 id blocks size head in
-      quietly w q p ys o stand g (Some a) c es t front (nothing_sent (begun (from o) g.joins c) es front.turns front.each)
+      quietly w q p ys o stand g (Some a) c es t front (nothing_sent (world_at_start (from o) g.joins c) es front.turns front.each)
       (tag_placed w q p ys o stand g (Some a) c es refl refl refl refl (ap (λ ks. record { numbers = p.numbers ++ None ∷ []; placed = next_number p; links = p.links; held = ks }) (map-append held w.fars (None ∷ [])))
       (places_more w.field.listeners _ p.numbers None w.fars None (many_numbers (from o) ys stand) (λ peer. absurd cc) stand.places))
   step_by o (PlacePeer id lr miu window limit) es t stand front law =
       let c : Command = PlacePeer id lr miu window limit in
-      quietly w q p ys o stand g (Some a) c es t front (nothing_sent (begun (from o) g.joins c) es front.turns front.each) (peer_placed w q p ys o stand g (Some a) id lr miu window limit es)
+      quietly w q p ys o stand g (Some a) c es t front (nothing_sent (world_at_start (from o) g.joins c) es front.turns front.each) (peer_placed w q p ys o stand g (Some a) id lr miu window limit es)
   step_by o (Lock id block) es t stand front law =
       let c : Command = Lock id block in
-      quietly w q p ys o stand g (Some a) c es t front (nothing_sent (begun (from o) g.joins c) es front.turns front.each)
+      quietly w q p ys o stand g (Some a) c es t front (nothing_sent (world_at_start (from o) g.joins c) es front.turns front.each)
       (nothing_changed w q p ys o stand g (Some a) c es refl refl refl refl refl (places_changed (device_locked block) (locked_kind block) (bytes_of id) w.field.listeners p.numbers w.fars stand.places))
   step_by o (Busy id count times) es t stand front law =
       let c : Command = Busy id count times in
-      quietly w q p ys o stand g (Some a) c es t front (nothing_sent (begun (from o) g.joins c) es front.turns front.each)
+      quietly w q p ys o stand g (Some a) c es t front (nothing_sent (world_at_start (from o) g.joins c) es front.turns front.each)
       (nothing_changed w q p ys o stand g (Some a) c es refl refl refl refl refl (places_changed (device_busy count times) (busy_kind count times) (bytes_of id) w.field.listeners p.numbers w.fars stand.places))
   step_by o (Offer id key value) es t stand front law =
       let c : Command = Offer id key value in
-      quietly w q p ys o stand g (Some a) c es t front (nothing_sent (begun (from o) g.joins c) es front.turns front.each) (offered_here w q p ys o stand g (Some a) id key value es)
+      quietly w q p ys o stand g (Some a) c es t front (nothing_sent (world_at_start (from o) g.joins c) es front.turns front.each) (offered_here w q p ys o stand g (Some a) id key value es)
   step_by o (Remove id) es t stand front law =
       let c : Command = Remove id in
-      quietly w q p ys o stand g (Some a) c es t front (nothing_sent (begun (from o) g.joins c) es front.turns front.each) (removed_here w q p ys o stand g (Some a) id es)
+      quietly w q p ys o stand g (Some a) c es t front (nothing_sent (world_at_start (from o) g.joins c) es front.turns front.each) (removed_here w q p ys o stand g (Some a) id es)
   step_by o (Dump id) es t stand front law =
-      quietly w q p ys o stand g (Some a) (Dump id) es t front (nothing_sent (begun (from o) g.joins (Dump id)) es front.turns front.each)
+      quietly w q p ys o stand g (Some a) (Dump id) es t front (nothing_sent (world_at_start (from o) g.joins (Dump id)) es front.turns front.each)
       (nothing_changed w q p ys o stand g (Some a) (Dump id) es refl refl refl refl refl stand.places)
   step_by o (Inbox id) es t stand front law =
-      quietly w q p ys o stand g (Some a) (Inbox id) es t front (nothing_sent (begun (from o) g.joins (Inbox id)) es front.turns front.each)
+      quietly w q p ys o stand g (Some a) (Inbox id) es t front (nothing_sent (world_at_start (from o) g.joins (Inbox id)) es front.turns front.each)
       (nothing_changed w q p ys o stand g (Some a) (Inbox id) es refl refl refl refl refl stand.places)
   step_by o Find es t stand front law =
       after_front o Find es t front (reset w q p ys o stand g (Some a) Find es refl refl refl refl refl (same_held (world_after (from o) g.joins Find es) w (ap (λ (z : Stable). z.ends) law.stays)))
@@ -510,8 +510,8 @@ module _ {X : Type 0} (M : Story → List X) (E : Command → List Event → Ans
       → all_of M (stories_behind s (stretch_of g.joins e) t ys) ≡ all_of M ys ++ E e.command e.events e.answer
   step_all s t g e ys stand legal =
       let x : Stretch = stretch_of g.joins e in
-      let begun : List Story = begun_by (beginning e.command e.events (Some e.answer)) (goes_on s x t) s t in
-      all_append M (open_goes_on (changed s e.command).link (goes_on s x t) ys) begun ∙ ap (λ zs. zs ++ all_of M begun) (open_all (changed s e.command).link s t x ys)
+      let world_at_start : List Story = begun_by (beginning e.command e.events (Some e.answer)) (goes_on s x t) s t in
+      all_append M (open_goes_on (changed s e.command).link (goes_on s x t) ys) world_at_start ∙ ap (λ zs. zs ++ all_of M world_at_start) (open_all (changed s e.command).link s t x ys)
       ∙ ap (λ zs. all_of M ys ++ zs) (begins s t g e.command e.events e.answer ys (stories_behind s x t ys) stand (step s t g e ys stand legal) legal.front legal.answered)
 
   all_along : (s t : State) (gs : List Given) (es : List Entry) (ys : List Story) → Stand s ys → EachLegal s gs es t
@@ -530,7 +530,7 @@ module _ {X : Type 0} (M : Story → List X) (E : Command → List Event → Ans
 abbrev OneBegins : List Story → ℕ → List ℕ → Type 0
 OneBegins ys n general = (peer : ℕ) × (end : FarEnd) × (ys ≡ new_story n ByLink peer general end ∷ [])
 
-end_at : (n : ℕ) (general : List ℕ) (peer : ℕ) (o : Option FarEnd) (k : Held) → held o ≡ Some k → OneBegins (first_of n general peer o) n general
+end_at : (n : ℕ) (general : List ℕ) (peer : ℕ) (o : Option FarEnd) (k : Held) → held o ≡ Some k → OneBegins (story_of n general peer o) n general
 end_at n general peer None k is = absurd cc
 end_at n general peer (Some end) k is = (peer, end, refl)
 

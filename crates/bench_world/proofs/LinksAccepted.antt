@@ -10,7 +10,7 @@ use Rattle.bench_world.specs.declared.entry.Answer.TheVariants as answers
 use Rattle.bench_world.specs.declared.entry.Entry.{Entry}
 use Rattle.bench_world.specs.declared.inbox.LinkRange.{LinkRange}
 use Rattle.bench_world.specs.World.{FarEnd}
-use Rattle.bench_world.specs.Inbox.{inbox_at, inbox_of, came_on_link, chosen, told_of}
+use Rattle.bench_world.specs.Inbox.{inbox_at, inbox_of, came_on_link, chosen, received_on}
 use Rattle.bench_world.specs.Legal.{State, Given, Joins, Accepts, IsPeerPlaced, AnswerLaw, LegalStep, EachLegal, first_state, inbox_now}
 use Rattle.std.specs.Prelude.{get_or, not}
 use Rattle.bench_world.specs.LinkLaw.{gained_aside, AreCounted, KeepsLinkLaw, LinksAccept, LinkLaw, TellsInbox, numbers_by_link, told_by_stories, peer_under}
@@ -31,7 +31,7 @@ use Rattle.bench_world.proofs.SameStories.{same_from}
 
 -- An inbox on the way.
 inbox_so : (v : View) (o : Option OpenLink) (ys : List Story) → StandBy v o ys → (peer : ℕ) (k : Held) → at v peer ≡ Some k
-    → inbox_of v.links peer k.accepted ≡ told_of 0 (chosen (λ n. not (came_on_link v.links peer n)) 0 k.accepted) ++ told_by_stories ys peer
+    → inbox_of v.links peer k.accepted ≡ received_on 0 (chosen (λ n. not (came_on_link v.links peer n)) 0 k.accepted) ++ told_by_stories ys peer
 inbox_so v None ys stand peer k found = closed_told v peer k found ys stand
 inbox_so v (Some l) ys stand peer k found = open_told v peer k found l.peer ys stand
 
@@ -41,7 +41,7 @@ end_there links peer k (Some end) is =
     let same : record { limit = end.service.limit; accepted = end.service.accepted } ≡ k = cc in
     ap (λ (h : Held). inbox_of links peer h.accepted) same
 
-inbox_told : (s : State) (ys : List Story) (id : DeviceId) (peer : ℕ) → Stand s ys → peer_under id s ≡ Some peer → inbox_now s id ≡ told_of 0 (gained_aside s peer) ++ told_by_stories ys peer
+inbox_told : (s : State) (ys : List Story) (id : DeviceId) (peer : ℕ) → Stand s ys → peer_under id s ≡ Some peer → inbox_now s id ≡ received_on 0 (gained_aside s peer) ++ told_by_stories ys peer
 inbox_told s ys id peer stand is =
     let ds : List Device = s.world.field.listeners in
     let both = base_held (view_of s) s.link ys stand.stand in
@@ -49,7 +49,7 @@ inbox_told s ys id peer stand is =
     let end : Option FarEnd = placed_under (bytes_of id) ds s.world.fars in
     ap (λ n. inbox_at s.peers.links n end) is ∙ end_there s.peers.links peer there.0 end (sym (held_under (bytes_of id) ds s.world.fars) ∙ there.2)
     ∙ inbox_so (view_of s) s.link ys stand.stand peer there.0 there.1
-    ∙ ap (λ xs. told_of 0 (chosen (λ n. not (came_on_link s.peers.links peer n)) 0 xs) ++ told_by_stories ys peer)
+    ∙ ap (λ xs. received_on 0 (chosen (λ n. not (came_on_link s.peers.links peer n)) 0 xs) ++ told_by_stories ys peer)
     (sym (accepted_as (end_numbered peer s.peers.numbers s.world.fars) (get_or s.peers.gone peer None) there.0 (held_at peer s.peers.numbers s.world.fars ∙ there.1)))
 
 inbox_here : (s t : State) (g : Given) (e : Entry) (ys : List Story) (id : DeviceId) → Stand s ys → LegalStep s g e t → e.command ≡ Inbox id → TellsInbox s ys id e.answer

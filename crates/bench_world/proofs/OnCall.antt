@@ -44,7 +44,7 @@ use Rattle.bench_world.specs.Calls.{IsTold, OfEnd, link_behind, slots_behind, st
 use Rattle.bench_world.specs.Links.{OpenLink, accepted_by, end_numbered, ended, ended_unless, with_last_ended}
 use Rattle.bench_world.specs.Arriving.{ArrivesAt, ArrivesCutAt}
 use Rattle.bench_world.specs.Asked.{IsOnLink}
-use Rattle.bench_world.specs.Legal.{State, Given, Joins, Accepts, AnswerLaw, Came, CutCame, CutFront, CutStores, FrontOf, IsAskedBy, LeavesStable, begun, changed, due, end_of, joins_for, link_after, peers_after, state_after, world_after}
+use Rattle.bench_world.specs.Legal.{State, Given, Joins, Accepts, AnswerLaw, Came, CutCame, CutFront, CutStores, FrontOf, IsAskedBy, LeavesStable, world_at_start, changed, due, peer_end_of, joins_for, link_after, peers_after, state_after, world_after}
 use Rattle.bench_world.specs.Halting.{HaltAdds, HaltLeaves, PeerHalts}
 use Rattle.bench_world.specs.Obeying.{Machines, HasPlaces, IsSettled, KeepsLink, ObeyedBy, linked_at, state_at, under}
 use Rattle.bench_world.specs.Opened.{AreNumbered, AreServed}
@@ -98,7 +98,7 @@ module _ (air : Air Device) (ends : FarEnds) (peers : Peers) (l : OpenLink) (set
     each_due : EachDue (due from_state given c) [] es
     each_due = due_weaker (due from_state given c) next (λ ns n e d. same ns ∙ e) [] es (going air ends peers l settled next plain b joins.far after notes g).each
 
-    turns_then : AreTurns bench_air (begun from_state given.joins c) es
+    turns_then : AreTurns bench_air (world_at_start from_state given.joins c) es
     turns_then = subst (λ (s : State). AreTurns bench_air (with_numbers s.world joins.far) es) (sym still) (going air ends peers l settled next plain b joins.far after notes g).turns
 
     fates_then : FatesFrom (changed from_state c).queue es
@@ -192,7 +192,7 @@ module _ (air : Air Device) (ends : FarEnds) (peers : Peers) (l : OpenLink) (set
 
       -- ... and left by that
       module _ (stopped : FarEnd) (more : List Received) (set : setting_of stopped ≡ setting_of end) (adds : stopped.service.accepted ≡ end.service.accepted ++ more)
-          (fits : OfEnd (λ e. HaltAdds c e more) (end_of from_state l)) (on_link : IsOnLink c) (counts : List ℕ)
+          (fits : OfEnd (λ e. HaltAdds c e more) (peer_end_of from_state l)) (on_link : IsOnLink c) (counts : List ℕ)
           (came : ArrivesCut l.initiator.core.number (drop (length air.trace) d.trace) (record { end = end; numbers = joins.far }) (record { end = stopped; numbers = counts })) where
         abbrev ends_left : FarEnds
         ends_left = slice_set ends place (Some stopped)

@@ -33,7 +33,7 @@ use Rattle.bench_devices.specs.Writing.{AsksWriteOf}
 use Rattle.bench_script.specs.Messages.{message_of}
 use Rattle.nfc_base.specs.TagLinks.{plain_state}
 use Rattle.tag_writer.proofs.OneWrite.{one_write as one_write_list}
-use Rattle.bench_world.specs.Legal.{State, Given, Joins, IsAskedBy, AnswerBy, AnswerLaw, CallLaw, FrontOf, EachLegal, begun, changed, due, state_after, first_state}
+use Rattle.bench_world.specs.Legal.{State, Given, Joins, IsAskedBy, AnswerBy, AnswerLaw, CallLaw, FrontOf, EachLegal, world_at_start, changed, due, state_after, first_state}
 use Rattle.snep_core.specs.Talk.{client_sap, sap_of_slot}
 use Rattle.bench_script.specs.declared.command.DeviceId.TheVariants.{A}
 use Rattle.link_calls.specs.Asking.{LinkAsking, Does, Closes, Finding, Getting, put_from, Putting}
@@ -152,7 +152,7 @@ module _ (s : State) (c : Command) (g h : Given) (es fs : List Event) (a b : Ans
   same_events =
       let r : FrontOf s g c fs (Some b) u = subst (λ k. FrontOf s k c fs (Some b) u) same_given q in
       let at_end : due s g c (receptions fs) ≡ Over = subst (λ k. due s k c (receptions fs) ≡ Over) same_given over in
-      one_course bench_air (due s g c) (begun s g.joins c) (changed s c).queue es fs p.turns r.turns p.fates r.fates p.each r.each done at_end
+      one_course bench_air (due s g c) (world_at_start s g.joins c) (changed s c).queue es fs p.turns r.turns p.fates r.fates p.each r.each done at_end
 
   pub same_answers : AnswerLaw s g c es a → AnswerLaw s h c fs b → a ≡ b
   same_answers x y = one_answer s c g.asked g.joins g.joins es a b (λ asking l at is. refl) x (subst (λ k. AnswerLaw s k c es b) same_given (subst (λ k. AnswerLaw s h c k b) (sym same_events) y))

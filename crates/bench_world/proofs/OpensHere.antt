@@ -19,14 +19,14 @@ use Rattle.bench_world.specs.declared.entry.Answer.{Answer}
 use Rattle.bench_world.specs.declared.entry.Answer.TheVariants as answers
 use Rattle.bench_world.specs.World.{FarEnd}
 use Rattle.bench_world.specs.Linking.{own_general, new_client}
-use Rattle.bench_world.specs.LinkedAt.{restarts, NotOpened, begun, moved_at, LinkLeft, OpensAt}
+use Rattle.bench_world.specs.LinkedAt.{restarts, NotOpened, machines_at_start, moved_at, LinkLeft, OpensAt}
 use Rattle.bench_world.specs.Obeying.{Machines}
 
 module _ (m : Machines) (place miu rw n : ℕ) (far : FarEnd) (new : Air Device) (after : FarEnd) (r : Result (InitState × ArrayVec ℕ) LinkEnd)
     (asks : OpensAny restarts (Answers serving 0) m.air far new after (own_general miu) (by_cause r)) where
   -- ATR_RES came
   pub opens_ok : (i : InitState) (told : ArrayVec ℕ) → r ≡ Ok (i, told) → (result : Result Answer ObeyFault) (now : Machines)
-      → OnOk result (now ≡ begun (moved_at m new place after) n (length far.service.accepted) i (new_client miu rw told.items)) → IfOk result (λ a. a ≡ answers.Linked (length m.peers.links + 1))
+      → OnOk result (now ≡ machines_at_start (moved_at m new place after) n (length far.service.accepted) i (new_client miu rw told.items)) → IfOk result (λ a. a ≡ answers.Linked (length m.peers.links + 1))
       → IfErr result (λ e. e ≡ faults.Memory) → OnErr result (now ≡ moved_at m new place after) → OpensAt m now place miu rw n far result
   opens_ok i told is result now opened linked wanting same = record {
     air = new;
@@ -36,7 +36,7 @@ module _ (m : Machines) (place miu rw n : ℕ) (far : FarEnd) (new : Air Device)
     left = by_result result opened linked wanting same;
   }
     where
-      by_result : (q : Result Answer ObeyFault) → OnOk q (now ≡ begun (moved_at m new place after) n (length far.service.accepted) i (new_client miu rw told.items))
+      by_result : (q : Result Answer ObeyFault) → OnOk q (now ≡ machines_at_start (moved_at m new place after) n (length far.service.accepted) i (new_client miu rw told.items))
           → IfOk q (λ a. a ≡ answers.Linked (length m.peers.links + 1)) → IfErr q (λ e. e ≡ faults.Memory) → OnErr q (now ≡ moved_at m new place after)
           → LinkLeft (moved_at m new place after) miu rw n (length far.service.accepted) (Ok (i, told)) q now
       by_result (Ok a) o l w s = (l, o)

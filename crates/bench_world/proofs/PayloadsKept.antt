@@ -29,7 +29,7 @@ use Rattle.bench_world.specs.ByPayloads.{IsByPayloads, IfPayloads}
 use Rattle.link_calls.specs.Asking.{Call, LinkAsking, Does, Closes, Finding, Getting, put_from, Putting}
 use Rattle.bench_world.specs.Asked.{asked_on_link, slot_messages}
 use Rattle.bench_world.specs.Calls.{IfLinked, asked_behind, call_behind, link_behind, slots_behind, stands_on}
-use Rattle.bench_world.specs.Legal.{State, Given, AnswerBy, AnswerLaw, CallLaw, EachLegal, ForgeLeaves, LinkingLaw, begun, changed, due, is_linked_to, link_after, link_left, peers_left, state_after, unlinked, world_after}
+use Rattle.bench_world.specs.Legal.{State, Given, AnswerBy, AnswerLaw, CallLaw, EachLegal, ForgeLeaves, LinkingLaw, world_at_start, changed, due, is_linked_to, link_after, link_left, peers_left, state_after, unlinked, world_after}
 use Rattle.bench_world.specs.Linking.{link_if, own_general}
 use Rattle.bench_world.specs.Links.{OpenLink, begun_if, end_numbered, ended_unless, is_number, is_with}
 use Rattle.bench_world.specs.Rawing.{raw_opens}
@@ -154,10 +154,10 @@ module _ (s : State) (g : Given) (ys : List Story) (h : KeptIn s ys) where
       subst (KeptIn t) (sym (ap (λ (b : Beginning). zs ++ begun_by b (goes_on s (stretch c es answer) t) s t) none ∙ append-nil zs)) kept
 
   -- where nothing is due nothing was sent
-  quiet : (c : Command) (es : List Event) (answer : Answer) → ((ns : List Note) → due s g c ns ≡ Over) → AreTurns bench_air (begun s g.joins c) es → EachDue (due s g c) [] es
+  quiet : (c : Command) (es : List Event) (answer : Answer) → ((ns : List Note) → due s g c ns ≡ Over) → AreTurns bench_air (world_at_start s g.joins c) es → EachDue (due s g c) [] es
       → beginning c [] (Some answer) ≡ NothingBegins → GoesOn (changed s c).link c [] answer → Goal c es answer
   quiet c es answer over turns each none goal =
-      subst (λ xs. Goal c xs answer) (sym (nothing_sent (begun s g.joins c) es turns (over_all es [] each))) (plain c [] answer none goal)
+      subst (λ xs. Goal c xs answer) (sym (nothing_sent (world_at_start s g.joins c) es turns (over_all es [] each))) (plain c [] answer none goal)
     where
       over_all : (es before : List Event) → EachDue (due s g c) before es → EachDue (λ ns. Over) before es
       over_all [] before q = tt
@@ -286,7 +286,7 @@ module _ (s : State) (g : Given) (ys : List Story) (h : KeptIn s ys) where
       plain c es answer none (subst (λ o. Kept o t (open_goes_on (changed s c).link (goes_on s (stretch c es answer) t) ys)) (sym gone)
       (subst (λ o. Kept None t (open_goes_on o (goes_on s (stretch c es answer) t) ys)) (sym ended) (none_kept s.link s t ys h)))
 
-  step_kept : (c : Command) (es : List Event) (answer : Answer) → AreTurns bench_air (begun s g.joins c) es → EachDue (due s g c) [] es → AnswerLaw s g c es answer → Goal c es answer
+  step_kept : (c : Command) (es : List Event) (answer : Answer) → AreTurns bench_air (world_at_start s g.joins c) es → EachDue (due s g c) [] es → AnswerLaw s g c es answer → Goal c es answer
   step_kept Skip es answer turns each law = absurd law
   step_kept (Fates fates) es answer turns each law = quiet (Fates fates) es answer (λ ns. refl) turns each refl (same_kept (Fates fates) answer refl refl refl)
   step_kept (PlaceT2 id blocks head) es answer turns each law =

@@ -9,21 +9,21 @@ use Rattle.llcp_link.specs.Running.{AreBytes}
 use Rattle.llcp_link.specs.State.{restarted}
 use Rattle.llcp_link.specs.Units.{units}
 use Rattle.snep_core.specs.Payloads.{AcceptsPuts, AllPut, accepted_from}
-use Rattle.llcp_conn.specs.Window.{IsFront}
+use Rattle.nfc_base.specs.Prefix.{IsPrefix}
 use Rattle.snep_core.specs.Server.{Received as Accepted, serving}
 use Rattle.llcp_pdu.specs.Wire.{sap_count}
 use Rattle.snep_core.specs.Session.{Offer}
-use Rattle.link_calls.specs.Arriving.{IsCounted, all_answered}
+use Rattle.link_calls.specs.Arriving.{IsCountedTo, all_answered}
 use Rattle.bench_script.specs.declared.command.Command.{Command}
 use Rattle.bench_world.specs.declared.entry.Answer.{Answer}
 use Rattle.bench_world.specs.World.{FarEnd}
 use Rattle.bench_world.specs.Arrivals.{Arrival, arrival_marks, arrivals_of, end_behind, giving_values, payloads_of}
 use Rattle.bench_world.specs.Arriving.{ArrivesAt, BeginsAt}
-use Rattle.bench_world.specs.ByPayloads.{IfOpenedBy, IfPayloads, AcceptsUntil, IsByPayloads, Place, end_there, marks_there}
+use Rattle.bench_world.specs.ByPayloads.{IfOpenedBy, IfPayloads, AcceptsUntil, IsByPayloads, PlaceInArrivals, end_there, marks_there}
 use Rattle.bench_world.specs.Calls.{IfLinked, OfEnd}
 use Rattle.bench_world.specs.Legal.{State, Joins}
 use Rattle.bench_world.specs.Links.{OpenLink, end_numbered}
-use Rattle.bench_world.specs.Stories.{Opener, ByForge, ByRaw, ByLink, Story, Stretch, arrived_by, brought_by, first_of, last_goes_on, new_story, open_goes_on, story_if, values_in, values_of}
+use Rattle.bench_world.specs.Stories.{Opener, ByForge, ByRaw, ByLink, Story, Stretch, arrived_by, brought_by, story_of, last_goes_on, new_story, open_goes_on, story_if, values_in, values_of}
 use Rattle.bench_world.proofs.CountedOn.{brought_on, counted_on}
 use Rattle.bench_world.proofs.PutsTold.{accepted_more}
 use Rattle.bench_world.proofs.ServerRuns.{AreOfBytes, answered_is, arrivals_front, arrivals_put, behind_then, bytes_are, bytes_then, payloads_are, payloads_then, place_front, place_puts}
@@ -38,7 +38,7 @@ pub record OnLink (l : OpenLink) (s : State) (y : Story) : Type 0 where
   pub bytes : AreOfBytes y.arrivals
   pub payloads : payloads_of y.arrivals ≡ brought 0 y.events
   pub accepted : (end_behind y.begun y.arrivals).service.accepted ≡ y.begun.service.accepted ++ y.gained
-  pub counted : IsCounted 0 y.events l.initiator.core.number
+  pub counted : IsCountedTo 0 y.events l.initiator.core.number
   pub table : List Offer
   pub stands : end_numbered l.peer s.peers.numbers s.world.fars ≡ Some (giving_values table (end_behind y.begun y.arrivals))
 
@@ -50,7 +50,7 @@ pub record UpTo (n : ℕ) (s : State) (y : Story) : Type 0 where
   pub bytes : AreOfBytes y.arrivals
   pub payloads : payloads_of y.arrivals ≡ brought 0 y.events
   pub accepted : (end_behind y.begun y.arrivals).service.accepted ≡ y.begun.service.accepted ++ y.gained
-  pub counted : IsCounted 0 y.events n
+  pub counted : IsCountedTo 0 y.events n
   pub table : List Offer
   pub gives : values_in y.peer s ≡ table
   pub had : accepted_in y.peer s ≡ (end_behind y.begun y.arrivals).service.accepted
@@ -99,15 +99,15 @@ by_payloads y old begins bytes payloads accepted = record {
 
     Ordered : FarEnd → Type 0
     Ordered l =
-        (p : Place l y.arrivals)
+        (p : PlaceInArrivals l y.arrivals)
         → ((c : ℕ) → c < sap_count → AcceptsPuts c l.service.limit l.miu (marks_there p c) l.service.accepted (end_there p).service.accepted)
-        × IsFront (end_there p).service.accepted (end_behind l y.arrivals).service.accepted
+        × IsPrefix (end_there p).service.accepted (end_behind l y.arrivals).service.accepted
 
     ordered : Ordered y.begun
     ordered = subst Ordered (sym begins) (λ p. (place_puts old y.general y.arrivals bytes p, place_front old y.general y.arrivals bytes p))
 
-    until : (p : Place y.begun y.arrivals) → AcceptsUntil y p
-    until p = record { puts = (ordered p).0; front = subst (IsFront (end_there p).service.accepted) accepted (ordered p).1 }
+    until : (p : PlaceInArrivals y.begun y.arrivals) → AcceptsUntil y p
+    until p = record { puts = (ordered p).0; front = subst (IsPrefix (end_there p).service.accepted) accepted (ordered p).1 }
 
 -- More was done on it, by what more arrived.
 module _ (n : ℕ) (s : State) (y : Story) (on : UpTo n s y) (x : Stretch) (bytes : AllByRecursion AreBytes (brought n x.events)) where
@@ -150,12 +150,12 @@ module _ (n : ℕ) (s : State) (y : Story) (on : UpTo n s y) (x : Stretch) (byte
     abbrev gained : List Accepted
     gained = gained_by y.peer s t
 
-    grows : IsFront here.service.accepted end_then.service.accepted
+    grows : IsPrefix here.service.accepted end_then.service.accepted
     grows =
-        let P : FarEnd → Type 0 = λ b. IsFront (end_behind b y.arrivals).service.accepted (end_behind (end_behind b y.arrivals) (arrivals_of on.table x.joins.far payloads)).service.accepted in
+        let P : FarEnd → Type 0 = λ b. IsPrefix (end_behind b y.arrivals).service.accepted (end_behind (end_behind b y.arrivals) (arrivals_of on.table x.joins.far payloads)).service.accepted in
         subst P (sym on.begins) (arrivals_front on.old y.general y.arrivals (arrivals_of on.table x.joins.far payloads) on.bytes (bytes_are on.table x.joins.far payloads bytes))
 
-    gains : IsFront here.service.accepted end_then.service.accepted → end_then.service.accepted ≡ here.service.accepted ++ gained
+    gains : IsPrefix here.service.accepted end_then.service.accepted → end_then.service.accepted ≡ here.service.accepted ++ gained
     gains (rest, e) =
         let so : gained ≡ rest =
         ap (λ xs. drop (length xs) (accepted_in y.peer t)) on.had ∙ ap (drop (length here.service.accepted)) (now ∙ e) ∙ drop-append_seam here.service.accepted rest in
@@ -169,7 +169,7 @@ module _ (n : ℕ) (s : State) (y : Story) (on : UpTo n s y) (x : Stretch) (byte
     pub more_payloads : IsByPayloads (goes_on s x t y)
     more_payloads = by_payloads (goes_on s x t y) on.old on.begins all_bytes all_payloads accepted_is
 
-    pub more_on : (k : OpenLink) → IsCounted n x.events k.initiator.core.number → y.peer ≡ k.peer
+    pub more_on : (k : OpenLink) → IsCountedTo n x.events k.initiator.core.number → y.peer ≡ k.peer
         → (table : List Offer) → end_numbered y.peer t.peers.numbers t.world.fars ≡ Some (giving_values table end_then) → OnLink k t (goes_on s x t y)
     more_on k counted own table stands = record {
       own = own;
@@ -309,7 +309,7 @@ came_kept l s t x ys now h numbers came peer = by now came.going peer
         accepted_there l s t y on end.service.accepted
         (ap accepted_of end_is ∙ above_is came.new.end.service.accepted (end_numbered l.peer s.peers.numbers t.world.fars) came.accepted ∙ ap (λ (e : FarEnd). e.service.accepted) new_is)
 
-    by : (now : Option OpenLink) → IfLinked now (λ k. (end_numbered l.peer s.peers.numbers t.world.fars ≡ Some came.new.end) × IsCounted l.initiator.core.number x.events k.initiator.core.number) (Unit {0})
+    by : (now : Option OpenLink) → IfLinked now (λ k. (end_numbered l.peer s.peers.numbers t.world.fars ≡ Some came.new.end) × IsCountedTo l.initiator.core.number x.events k.initiator.core.number) (Unit {0})
         → ((k : OpenLink) → now ≡ Some k → k.peer ≡ l.peer) → Kept now t (last_goes_on (goes_on s x t) ys)
     by None g p = ended_kept l s ys h (goes_on s x t) t (keeps_payloads (goes_on s x t y) (more_payloads l.initiator.core.number s y (up_to l s y on) x came.arrives.bytes t accepted))
     by (Some k) g p =
@@ -332,7 +332,7 @@ begun_kept (Some l) s t number general ys all numbers begins first = by (end_num
     end_is = ap (λ ns. end_numbered l.peer ns t.world.fars) numbers
 
     by : (before : Option FarEnd) → OfEnd (λ old. end_numbered l.peer s.peers.numbers t.world.fars ≡ Some (restarted serving old general)) before
-        → Kept (Some l) t (ys ++ first_of number general l.peer (end_numbered l.peer t.peers.numbers t.world.fars))
+        → Kept (Some l) t (ys ++ story_of number general l.peer (end_numbered l.peer t.peers.numbers t.world.fars))
     by None b = absurd b
     by (Some old) b =
         let end : FarEnd = restarted serving old general in
@@ -348,5 +348,5 @@ begun_kept (Some l) s t number general ys all numbers begins first = by (end_num
           table = end.service.table;
           stands = end_is ∙ b;
         } in
-        subst (λ x. Kept (Some l) t (ys ++ first_of number general l.peer x)) (sym (end_is ∙ b))
+        subst (λ x. Kept (Some l) t (ys ++ story_of number general l.peer x)) (sym (end_is ∙ b))
         (record { all = all_more KeepsPayloads ys y all (keeps_payloads y (on_payloads l t y on)); going = record { before = ys; last = y; split = refl; on = on } })

@@ -21,7 +21,7 @@ use Rattle.bench_world.specs.Legal.{State, IsPeerPlaced, inbox_now}
 use Rattle.bench_world.specs.Obeying.{Machines, state_at, IsSettled, Obeyed, FarAt, linked_at, with_end}
 use Rattle.bench_world.specs.declared.inbox.LinkRange.{LinkRange}
 use Rattle.bench_world.specs.Peers.{with_place_changed, placed_under, end_offered}
-use Rattle.bench_world.specs.Inbox.{chosen, told_of, inbox_at}
+use Rattle.bench_world.specs.Inbox.{chosen, received_on, inbox_at}
 use Rattle.snep_core.specs.Server.{Received as Accepted, messages_of, sources_of}
 use Rattle.bench_world.specs.World.{FarEnd}
 use Rattle.bench_world.proofs.PlacesKept.{served_offered}
@@ -116,28 +116,28 @@ all_chosen : (n : ℕ) (ms : List Accepted) → chosen (λ i. true) n ms ≡ ms
 all_chosen n [] = refl
 all_chosen n (m ∷ ms) = ap (λ xs. m ∷ xs) (all_chosen (n + 1) ms)
 
-pub on_no_link : (peer : ℕ) (o : FarEnd) → told_of 0 o.service.accepted ≡ inbox_at [] (Some peer) (Some o)
-on_no_link peer o = ap (told_of 0) (sym (all_chosen 0 o.service.accepted)) ∙ sym (append-nil (told_of 0 (chosen (λ i. true) 0 o.service.accepted)))
+pub on_no_link : (peer : ℕ) (o : FarEnd) → received_on 0 o.service.accepted ≡ inbox_at [] (Some peer) (Some o)
+on_no_link peer o = ap (received_on 0) (sym (all_chosen 0 o.service.accepted)) ∙ sym (append-nil (received_on 0 (chosen (λ i. true) 0 o.service.accepted)))
 
 -- what is told of the messages from a place on
 pub told_next : (ms : List Accepted) (i : ℕ) (m : List ℕ) (s : ℕ) → i < length ms → m ≡ slice_index_or (messages_of ms) i m → s ≡ slice_index (sources_of ms) i
-    → told_of 0 (drop i ms) ≡ record { link = 0; source = s; message = m } ∷ told_of 0 (drop (suc i) ms)
+    → received_on 0 (drop i ms) ≡ record { link = 0; source = s; message = m } ∷ received_on 0 (drop (suc i) ms)
 told_next [] i m s within at from = absurd (omega (arith, within))
 told_next (x ∷ ms) zero m s within at from =
     let R : ℕ → List ℕ → Received = λ y k. record { link = 0; source = y; message = k } in
-    ap (λ r. r ∷ told_of 0 ms) (ap (λ y. R y x.message) (sym from) ∙ ap (R s) (sym at))
+    ap (λ r. r ∷ received_on 0 ms) (ap (λ y. R y x.message) (sym from) ∙ ap (R s) (sym at))
 told_next (x ∷ ms) (suc i) m s within at from = told_next ms i m s (omega (arith, within)) at from
 
 pub told_more : (ms : List Accepted) (told all : List Received) (i : ℕ) (m : List ℕ) (s : ℕ) → i < length (messages_of ms) → m ≡ slice_index_or (messages_of ms) i m → s ≡ slice_index (sources_of ms) i
-    → told ++ told_of 0 (drop i ms) ≡ all → (told ++ record { link = 0; source = s; message = m } ∷ []) ++ told_of 0 (drop (i + 1) ms) ≡ all
+    → told ++ received_on 0 (drop i ms) ≡ all → (told ++ record { link = 0; source = s; message = m } ∷ []) ++ received_on 0 (drop (i + 1) ms) ≡ all
 told_more ms told all i m s within at from is =
     let one : Received = record { link = 0; source = s; message = m } in
     let few : i < length ms = omega (arith, within, length-map ms (λ (r : Accepted). r.message)) in
     let next : i + 1 ≡ suc i = omega arith in
-    ap (λ n. (told ++ one ∷ []) ++ told_of 0 (drop n ms)) next ∙ append_assoc told (one ∷ []) (told_of 0 (drop (suc i) ms)) ∙ sym (ap (λ xs. told ++ xs) (told_next ms i m s few at from)) ∙ is
+    ap (λ n. (told ++ one ∷ []) ++ received_on 0 (drop n ms)) next ∙ append_assoc told (one ∷ []) (received_on 0 (drop (suc i) ms)) ∙ sym (ap (λ xs. told ++ xs) (told_next ms i m s few at from)) ∙ is
 
 -- what is told where a number and a far end stand
-pub told_where : (number : Option ℕ) (end : Option FarEnd) (l : FarEnd) → is_some number ≡ true → end ≡ Some l → told_of 0 l.service.accepted ≡ inbox_at [] number end
+pub told_where : (number : Option ℕ) (end : Option FarEnd) (l : FarEnd) → is_some number ≡ true → end ≡ Some l → received_on 0 l.service.accepted ≡ inbox_at [] number end
 told_where None end l some has = absurd (let clash : false ≡ true = some in cc)
 told_where (Some peer) end l some has = on_no_link peer l ∙ sym (ap (inbox_at [] (Some peer)) has)
 

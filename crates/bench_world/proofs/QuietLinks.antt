@@ -21,7 +21,7 @@ use Rattle.bench_world.specs.declared.entry.Entry.{Entry}
 use Rattle.bench_world.specs.declared.entry.Loss.TheVariants as losses
 use Rattle.bench_world.specs.Calls.{AllAdd, CallAdds, EachAdds, HadSixBad, IsTold, MessageAdds, OfEnd, PeerAdds, asked_behind, told_asked, told_call, told_each, link_behind, slots_behind, stands_on}
 use Rattle.bench_world.specs.CompletingLinks.{peer_answer, IsUndisturbedOn}
-use Rattle.bench_world.specs.Legal.{State, Given, LegalStep, CallLaw, changed, link_left, world_after, end_of}
+use Rattle.bench_world.specs.Legal.{State, Given, LegalStep, CallLaw, changed, link_left, world_after, peer_end_of}
 use Rattle.link_calls.specs.Asking.{LinkAsking, Call, Does, Closes, Finding, Getting, Putting}
 use Rattle.bench_world.specs.Asked.{asked_on_link}
 use Rattle.bench_world.specs.Links.{OpenLink}
@@ -157,7 +157,7 @@ module _ (s t : State) (g : Given) (e : Entry) (step : LegalStep s g e t) (pass 
   none_had : HadSixBad asked l g.joins.own e.events → ⊥
   none_had six = calm.waits (had_six s t g e l asked step asks up six)
 
-  pub quietly : OfEnd (IsQuietly s l asked e.answer t) (end_of s l) × StaysBehind asked l t
+  pub quietly : OfEnd (IsQuietly s l asked e.answer t) (peer_end_of s l) × StaysBehind asked l t
   quietly = (
     both_ends (λ end. PeerAdds asked end e.answer law.more) (λ end. (e.answer ≡ peer_answer asked end) ↔ IsUndisturbedOn l g.joins.own e.command e.events) (IsQuietly s l asked e.answer t)
         (λ end adds so. record {
@@ -166,7 +166,7 @@ module _ (s t : State) (g : Given) (e : Entry) (step : LegalStep s g e t) (pass 
           gains = gains asked law.told none_had end adds;
           ends = ap (λ (w : WholeWorld). (stable w).ends) world ∙ law.ends;
         })
-        (end_of s l) law.adds (complete s t g e l asked step asks up),
+        (peer_end_of s l) law.adds (complete s t g e l asked step asks up),
     stays asked law.told none_had link_then,
   )
 

@@ -14,7 +14,7 @@ use Rattle.far_air.specs.FarEnds.{by_link, first_far, later_fars, moved, numbers
 use Rattle.far_air.specs.FarWorld.{all_meet, device_after, reply_at}
 use Rattle.peer_air.specs.PeerFars.{peer_ends}
 use Rattle.llcp_link.specs.Taking.{brought, taken_from}
-use Rattle.llcp_conn.specs.Window.{IsFront}
+use Rattle.nfc_base.specs.Prefix.{IsPrefix}
 use Rattle.snep_core.specs.Server.{Received as Accepted, ServerState, serving}
 use Rattle.snep_core.proofs.CallsKeep.{giving_keeps}
 use Rattle.snep_core.proofs.CutOff.{taking_adds}
@@ -29,10 +29,10 @@ use Rattle.bench_world.proofs.AtNumbers.{Held, adding, adding_none, all_rests, h
 use Rattle.bench_world.proofs.FarStays.{one_event}
 
 -- an end that takes a payload and gives one accepted no less
-left_front : (a : FarEnd) (payload : List ℕ) (n : ℕ) → IsFront a.service.accepted (peer_ends.left a payload n).service.accepted
+left_front : (a : FarEnd) (payload : List ℕ) (n : ℕ) → IsPrefix a.service.accepted (peer_ends.left a payload n).service.accepted
 left_front a payload n =
     let whole : FarEnd = taken_from serving a payload in
-    subst (IsFront a.service.accepted) (sym (giving_keeps serving (λ (s : ServerState). s.accepted ≡ whole.service.accepted) (λ s c miu h. h) n whole refl)) (taking_adds a (brought a payload))
+    subst (IsPrefix a.service.accepted) (sym (giving_keeps serving (λ (s : ServerState). s.accepted ≡ whole.service.accepted) (λ s c miu h. h) n whole refl)) (taking_adds a (brought a payload))
 
 record Grows (before behind : Option Held) : Type 0 where
   pub more : List Accepted
@@ -44,7 +44,7 @@ moved_grows (Restarts general) None n = record { more = []; is = refl }
 moved_grows (Restarts general) (Some a) n = record { more = []; is = sym (adding_none (held (Some a))) }
 moved_grows (Hands payload) None n = record { more = []; is = refl }
 moved_grows (Hands payload) (Some a) n =
-    let front : IsFront a.service.accepted (peer_ends.left a payload n).service.accepted = left_front a payload n in
+    let front : IsPrefix a.service.accepted (peer_ends.left a payload n).service.accepted = left_front a payload n in
     let limit : (peer_ends.left a payload n).service.limit ≡ a.service.limit = ap (λ (z : Setting). z.limit) (answered_set payload n a) in
     record {
       more = front.0;

@@ -24,7 +24,7 @@ use Rattle.far_air.proofs.FarTurns.{far_goes_then, speaks_far}
 use Rattle.peer_air.specs.PeerFars.{peer_ends}
 use Rattle.peer_air.proofs.PeerEnds.{counted_step}
 use Rattle.llcp_link.specs.Counting.{AnswersCounted, RestartsCounted, StopsCounted}
-use Rattle.llcp_conn.specs.Window.{IsFront}
+use Rattle.nfc_base.specs.Prefix.{IsPrefix}
 use Rattle.snep_core.specs.Server.{serving}
 use Rattle.snep_core.proofs.CutOff.{cut_off_accepts}
 use Rattle.link_calls.specs.Staying.{setting_of}
@@ -287,7 +287,7 @@ module _ (ends : Ends) (peers : Peers) (old : Air Device) (id : DeviceId) (frame
           many_d : length d.listeners ≡ length new.listeners
           many_d = ap length devices_d ∙ halted_long place f new.listeners
 
-          front_d : IsFront after.end.service.accepted stopped.end.service.accepted
+          front_d : IsPrefix after.end.service.accepted stopped.end.service.accepted
           front_d = (cut_off_accepts after.end stopped.end here.payload here.stops).before
 
           ends_d : bare d.listeners (shows.with' stopped.end) ≡ with_accepted front_d.0 n peers.numbers (bare new.listeners os)

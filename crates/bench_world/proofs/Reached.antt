@@ -26,7 +26,7 @@ use Rattle.bench_devices.proofs.CardBytes.{cons_bytes}
 use Rattle.bench_devices.proofs.PeerMade.{busy_made}
 use Rattle.bench_world.specs.declared.entry.Entry.{Entry}
 use Rattle.bench_world.specs.Journal.{NumberedLine, AreEntriesOf, asking_lines}
-use Rattle.bench_world.specs.Legal.{State, Given, Accepts, IsFree, LegalStep, EachLegal, changed, begun, first_state, memory_of}
+use Rattle.bench_world.specs.Legal.{State, Given, Accepts, IsFree, LegalStep, EachLegal, changed, world_at_start, first_state, memory_of}
 use Rattle.bench_world.specs.QuietHearing.{AllAlong}
 use Rattle.bench_world.specs.World.{WholeWorld, bench_air}
 use Rattle.bench_world.proofs.FarStays.{StayAll, far_stay}
@@ -256,7 +256,7 @@ ready_changed s line Unlink sp is r = r
 -- So does a step.
 pub ready_step : (s t : State) (g : Given) (line : List ℕ) (e : Entry) → Spells line e.command → LegalStep s g e t → IsReady s.world.field.listeners → IsReady t.world.field.listeners
 ready_step s t g line e sp step r =
-    let w : WholeWorld = begun s g.joins e.command in
+    let w : WholeWorld = world_at_start s g.joins e.command in
     let here : IsReady w.field.listeners = ready_changed s line e.command sp step.front.accepted r in
     let now : List Device = (replay bench_air w e.events).field.listeners in
     let stays : StayAll w.field.listeners now = far_stay e.events w in

@@ -10,7 +10,7 @@ use Rattle.t5t_tag.proofs.Bytes.{equal_bytes}
 use Rattle.tlv_area.specs.Form.{Form, Message}
 use Rattle.tag_reader.specs.Kinds.{IsStoreForm}
 use Rattle.tag_writer.specs.Place.{TakesNot}
-use Rattle.tag_writer.specs.Law.{Written, IsEmptied, IsWritten, Leaves}
+use Rattle.tag_writer.specs.Law.{Written, IsEmptied, IsWritten, LeavesStore}
 use Rattle.bench_script.specs.declared.command.Command.{Command}
 use Rattle.bench_script.specs.declared.command.Command.TheVariants.{Read}
 use Rattle.bench_script.specs.declared.command.DeviceId.{DeviceId}
@@ -114,8 +114,8 @@ module _ (id : DeviceId) (tag : Device) (m : Msg) (answer : Answer) (message : L
   new_is_read done =
       let writes : ShowsWrite (message_of m) tag (Ok tt) = (behind.done (r.answered ∙ done)).shows in
       let passes = keeps.takes writes.place writes.takes in
-      let left : Leaves (how_of tag) (size_of tag) (message_of m) writes.place (device_store tag) Written last =
-      subst (λ a. Leaves (how_of tag) (size_of tag) (message_of m) writes.place (device_store tag) (ending_told a) last) done passes.leaves in
+      let left : LeavesStore (how_of tag) (size_of tag) (message_of m) writes.place (device_store tag) Written last =
+      subst (λ a. LeavesStore (how_of tag) (size_of tag) (message_of m) writes.place (device_store tag) (ending_told a) last) done passes.leaves in
       one_message last message (message_of m) form left.holds
 
   module _ (old : List ℕ) (held : IsStoreForm (how_of tag) (size_of tag) (device_store tag) (Message old)) (not_old : message ≡ old → ⊥) (not_empty : message ≡ [] → ⊥) (not_new : message ≡ message_of m → ⊥) where

@@ -2,13 +2,13 @@
 use Rattle.std.proofs.Common.{◌≡◌, ℕ, ◌<◌, List, [], ◌∷◌, ◌++◌, Bool, true, false, if◌then◌else◌, refl, sym, ◌∙◌, ap, subst, arith}
 use Rattle.std.specs.List.{AllByRecursion}
 use Rattle.nfc_base.specs.Choosing.{first_number, later_numbers}
-use Rattle.llcp_link.specs.Running.{Acted, AreBytes, Else, Gives, Takes, end_of, marks_of}
+use Rattle.llcp_link.specs.Running.{Acted, AreBytes, Else, Gives, Takes, end_after_acts, marks_of}
 use Rattle.llcp_link.specs.State.{restarted}
 use Rattle.llcp_link.specs.Taking.{brought, items, steps, taken_from}
 use Rattle.llcp_link.specs.Units.{Mark, marks}
 use Rattle.llcp_link.proofs.StepsSoFar.{steps_more}
 use Rattle.snep_core.specs.Payloads.{AcceptsPuts, AcceptsThere, IsServerRun}
-use Rattle.llcp_conn.specs.Window.{IsFront}
+use Rattle.nfc_base.specs.Prefix.{IsPrefix}
 use Rattle.snep_core.specs.Server.{ServerState, serving}
 use Rattle.llcp_pdu.specs.Wire.{sap_count}
 use Rattle.snep_core.specs.Session.{Offer}
@@ -17,7 +17,7 @@ use Rattle.link_calls.specs.Arriving.{all_answered}
 use Rattle.link_calls.specs.Staying.{Setting}
 use Rattle.link_calls.proofs.Settings.{answered_set}
 use Rattle.bench_world.specs.Arrivals.{Arrival, arrival_marks, arrivals_of, end_after, end_at, end_behind, giving_values, payloads_of}
-use Rattle.bench_world.specs.ByPayloads.{Place, end_there, marks_there}
+use Rattle.bench_world.specs.ByPayloads.{PlaceInArrivals, end_there, marks_there}
 use Rattle.bench_world.specs.World.{FarEnd}
 
 -- all payloads that came are bytes
@@ -48,7 +48,7 @@ run_does l [] bytes = tt
 run_does l (a ∷ more) bytes =
     (record { miu = refl; served = refl; service = (a.table, refl) }, ((bytes.0, refl), (refl, run_does (end_after l a) more bytes.1)))
 
-run_end : (l : FarEnd) (xs : List Arrival) → end_of l (run_of l xs) ≡ end_behind l xs
+run_end : (l : FarEnd) (xs : List Arrival) → end_after_acts l (run_of l xs) ≡ end_behind l xs
 run_end l [] = refl
 run_end l (a ∷ more) = run_end (end_after l a) more
 
@@ -61,7 +61,7 @@ to_does l [] next bytes = (record { miu = refl; served = refl; service = (next.t
 to_does l (a ∷ more) next bytes =
     (record { miu = refl; served = refl; service = (a.table, refl) }, ((bytes.0, refl), (refl, to_does (end_after l a) more next bytes.1)))
 
-to_end : (l : FarEnd) (xs : List Arrival) (next : Arrival) → end_of l (run_to l xs next) ≡ end_at (end_behind l xs) next
+to_end : (l : FarEnd) (xs : List Arrival) (next : Arrival) → end_after_acts l (run_to l xs next) ≡ end_at (end_behind l xs) next
 to_end l [] next = refl
 to_end l (a ∷ more) next = to_end (end_after l a) more next
 
@@ -124,13 +124,13 @@ module _ (old : FarEnd) (general : List ℕ) where
   arrivals_put xs bytes c few =
       let P : List Mark → FarEnd → Type 0 = λ ms e. AcceptsPuts c old.service.limit old.miu ms old.service.accepted e.service.accepted in
       subst (P (arrival_marks c begin xs)) (run_end begin xs)
-      (subst (λ ms. P ms (end_of begin (run_of begin xs))) (run_marks c begin xs) (payloads_accepted old general (run_of begin xs) (run_does begin xs bytes) c few))
+      (subst (λ ms. P ms (end_after_acts begin (run_of begin xs))) (run_marks c begin xs) (payloads_accepted old general (run_of begin xs) (run_does begin xs bytes) c few))
 
   -- what was accepted stays, and more is accepted behind it
   pub arrivals_front : (xs more : List Arrival) → AreOfBytes xs → AreOfBytes more
-      → IsFront (end_behind begin xs).service.accepted (end_behind (end_behind begin xs) more).service.accepted
+      → IsPrefix (end_behind begin xs).service.accepted (end_behind (end_behind begin xs) more).service.accepted
   arrivals_front xs more bytes then_ =
-      let here : FarEnd = end_of begin (run_of begin xs) in
+      let here : FarEnd = end_after_acts begin (run_of begin xs) in
       let law : AcceptsThere old begin _ = accepted_in_order old general (record {
         before = run_of begin xs;
         run = run_does begin xs bytes;
@@ -140,12 +140,12 @@ module _ (old : FarEnd) (general : List ℕ) where
         behind = [];
         split = nothing_in here.readable;
       }) in
-      let front : IsFront here.service.accepted (end_of here (run_of here more)).service.accepted = law.front (run_of here more) (run_does here more then_) in
-      let P : FarEnd → Type 0 = λ e. IsFront e.service.accepted (end_behind e more).service.accepted in
-      subst P (run_end begin xs) (subst (λ (e : FarEnd). IsFront here.service.accepted e.service.accepted) (run_end here more) front)
+      let front : IsPrefix here.service.accepted (end_after_acts here (run_of here more)).service.accepted = law.front (run_of here more) (run_does here more then_) in
+      let P : FarEnd → Type 0 = λ e. IsPrefix e.service.accepted (end_behind e more).service.accepted in
+      subst P (run_end begin xs) (subst (λ (e : FarEnd). IsPrefix here.service.accepted e.service.accepted) (run_end here more) front)
 
   -- so it is at each place on the way
-  module _ (xs : List Arrival) (bytes : AreOfBytes xs) (p : Place begin xs) where
+  module _ (xs : List Arrival) (bytes : AreOfBytes xs) (p : PlaceInArrivals begin xs) where
     abbrev until : FarEnd
     until = end_behind begin p.before
 
@@ -156,7 +156,7 @@ module _ (old : FarEnd) (general : List ℕ) where
     run = run_to begin p.before p.next
 
     abbrev here : FarEnd
-    here = end_of begin run
+    here = end_after_acts begin run
 
     here_is : here ≡ there
     here_is = to_end begin p.before p.next
@@ -209,13 +209,13 @@ module _ (old : FarEnd) (general : List ℕ) where
     rest_does : IsServerRun left rest
     rest_does = subst (λ l. IsServerRun l rest) (sym left_is) (refl, run_does (end_after until p.next) p.more last.1)
 
-    rest_end : end_of left rest ≡ end_behind begin xs
+    rest_end : end_after_acts left rest ≡ end_behind begin xs
     rest_end =
         run_end (end_after until p.next) p.more ∙ sym (behind_then begin p.before (p.next ∷ p.more))
         ∙ ap (end_behind begin) (sym p.split)
 
-    pub place_front : IsFront (end_there p).service.accepted (end_behind begin xs).service.accepted
+    pub place_front : IsPrefix (end_there p).service.accepted (end_behind begin xs).service.accepted
     place_front =
-        let front : IsFront (steps serving here p.came).service.accepted (end_of left rest).service.accepted = law.front rest rest_does in
-        subst (λ (e : FarEnd). IsFront (steps serving e p.came).service.accepted (end_behind begin xs).service.accepted) here_is
-        (subst (λ (e : FarEnd). IsFront (steps serving here p.came).service.accepted e.service.accepted) rest_end front)
+        let front : IsPrefix (steps serving here p.came).service.accepted (end_after_acts left rest).service.accepted = law.front rest rest_does in
+        subst (λ (e : FarEnd). IsPrefix (steps serving e p.came).service.accepted (end_behind begin xs).service.accepted) here_is
+        (subst (λ (e : FarEnd). IsPrefix (steps serving here p.came).service.accepted e.service.accepted) rest_end front)

@@ -21,7 +21,7 @@ use Rattle.bench_devices.specs.Placed.{device_with, without, with_changed, OfPla
 use Rattle.bench_world.specs.declared.entry.Answer.{Answer}
 use Rattle.bench_world.specs.declared.entry.Entry.{Entry}
 use Rattle.bench_world.specs.Journal.{AreEntriesOf, asking_lines, LeadsTo}
-use Rattle.bench_world.specs.Legal.{State, Given, Joins, Accepts, IsFree, FrontOf, LegalStep, EachLegal, changed, begun, first_state}
+use Rattle.bench_world.specs.Legal.{State, Given, Joins, Accepts, IsFree, FrontOf, LegalStep, EachLegal, changed, world_at_start, first_state}
 use Rattle.bench_world.specs.World.{WholeWorld, bench_air}
 use Rattle.bench_world.proofs.FarStays.{far_stay}
 use Rattle.bench_world.specs.Taking.{IsTaken, AreSpelled, AreAccepted, AreTaken, LinesDecide, standing_from, standing_of}
@@ -265,7 +265,7 @@ changes_alike s t Unlink alike = alike
 -- a step leads on alike, whatever was sent in it
 step_alike : {told : Option Answer} (u s t : State) (g : Given) (c : Command) (es : List Event) → AreAlike u s → FrontOf s g c es told t → AreAlike (changed u c) t
 step_alike u s t g c es alike front =
-    let w : WholeWorld = begun s g.joins c in
+    let w : WholeWorld = world_at_start s g.joins c in
     changes_alike u s c alike ∙ sym (stay_alike w.field.listeners (replay bench_air w es).field.listeners (far_stay es w).stay) ∙ sym (ap (λ (x : State). map shape x.world.field.listeners) front.after)
 
 -- The lines of a legal journal are taken, and lead on alike.

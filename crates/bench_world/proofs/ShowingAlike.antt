@@ -15,12 +15,12 @@ use Rattle.bench_devices.specs.Device.{device_linked, devices}
 use Rattle.bench_world.specs.declared.entry.Answer.{Answer}
 use Rattle.bench_world.specs.Asked.{asked_on_link}
 use Rattle.bench_world.specs.Calls.{asked_behind, due_asked, link_behind, stands_on, told_asked}
-use Rattle.bench_world.specs.Legal.{Accepts, Given, Joins, State, begun, changed, due, link_after, link_left, peers_after, peers_left, state_after, world_after}
+use Rattle.bench_world.specs.Legal.{Accepts, Given, Joins, State, world_at_start, changed, due, link_after, link_left, peers_after, peers_left, state_after, world_after}
 use Rattle.bench_world.specs.Links.{OpenLink, accepted_by, end_numbered, ended_unless, is_number, with_last_ended}
 use Rattle.bench_world.specs.Peers.{Peers}
 use Rattle.bench_world.specs.World.{FarEnd, WholeWorld, bench_air}
 use Rattle.bench_world.specs.Alike.{Alike}
-use Rattle.bench_world.specs.Showing.{IsBetween, shown_of}
+use Rattle.bench_world.specs.Showing.{IsBetweenCommands, shown_of}
 use Rattle.bench_world.proofs.FarDevices.{ShowsWell}
 use Rattle.bench_world.proofs.ShowingFar.{HasEnded}
 use Rattle.bench_world.proofs.ShowingLink.{begun_on, due_on_link, far_on, own_on, shown_on}
@@ -87,8 +87,8 @@ open_ended (Does call) l own es a h = behind_came l call (stands_on l own call e
 open_ended Closes l own es a h = absurd cc
 
 -- turns of a command on the open link that are over, by some numbers, and by those that they show
-module _ (s : State) (c : Command) (asked : LinkAsking) (on : asked_on_link c ≡ Some asked) (l : OpenLink) (open_ : s.link ≡ Some l) (b : IsBetween s) (g : Given) (es : List Event) (a : Answer)
-    (turns : AreTurns bench_air (begun s g.joins c) es) (each : EachDue (due s g c) [] es) (over : due s g c (receptions es) ≡ Over) where
+module _ (s : State) (c : Command) (asked : LinkAsking) (on : asked_on_link c ≡ Some asked) (l : OpenLink) (open_ : s.link ≡ Some l) (b : IsBetweenCommands s) (g : Given) (es : List Event) (a : Answer)
+    (turns : AreTurns bench_air (world_at_start s g.joins c) es) (each : EachDue (due s g c) [] es) (over : due s g c (receptions es) ≡ Over) where
   abbrev pub shown : Joins
   shown = shown_of s c (es ++ [])
 
@@ -114,7 +114,7 @@ module _ (s : State) (c : Command) (asked : LinkAsking) (on : asked_on_link c �
   same_link = link_is g.joins ∙ sym (own.behind (Some a) done) ∙ sym (link_is shown)
 
   abbrev behind : Joins → WholeWorld
-  behind joins = replay bench_air (begun s joins c) es
+  behind joins = replay bench_air (world_at_start s joins c) es
 
   abbrev from : List ℕ → WholeWorld
   from ns = replay bench_air (with_numbers s.world ns) es

@@ -13,7 +13,7 @@ use Rattle.bench_devices.specs.AnyFrame.{peers_in}
 use Rattle.bench_devices.specs.Device.{device_linked, devices}
 use Rattle.bench_world.specs.declared.entry.Answer.{Answer}
 use Rattle.bench_world.specs.Asked.{asked_on_link}
-use Rattle.bench_world.specs.Legal.{FrontOf, Given, Joins, State, begun, changed, due, joins_for, link_after, no_joins, peers_forged, state_after, world_after}
+use Rattle.bench_world.specs.Legal.{FrontOf, Given, Joins, State, world_at_start, changed, due, joins_for, link_after, no_joins, peers_forged, state_after, world_after}
 use Rattle.bench_world.specs.Rawing.{raw_opens}
 use Rattle.bench_world.specs.World.{WholeWorld, bench_air}
 use Rattle.bench_world.proofs.OneJournal.{same_events}
@@ -24,7 +24,7 @@ use Rattle.bench_world.proofs.ShowingTags.{none_handed}
 pub record IsFree (s : State) (c : Command) : Type 0 where
   none : peers_in s.world.field.listeners ≡ 0
   due_same : (g h : Given) (ns : List Note) → due s g c ns ≡ due s h c ns
-  world_is : (j : Joins) → begun s j c ≡ with_numbers s.world j.far
+  world_is : (j : Joins) → world_at_start s j c ≡ with_numbers s.world j.far
   left : (j k : Joins) (es : List Event) (told : Option Answer) → world_after s j c es ≡ world_after s k c es → state_after s j c es told ≡ state_after s k c es told
 
 -- It has none, or they are such ones.
@@ -84,7 +84,7 @@ module _ (s : State) (c : Command) (kind : IsNumberless s c) (g h : Given) (es f
   same_joins : ((joins : Joins) → joins_for c joins ≡ no_joins) → h.joins ≡ g.joins
   same_joins none = q.takes ∙ none h.joins ∙ sym (p.takes ∙ none g.joins)
 
-  free_turns : IsFree s c → AreTurns bench_air (begun s h.joins c) es
+  free_turns : IsFree s c → AreTurns bench_air (world_at_start s h.joins c) es
   free_turns f =
       subst (λ w. AreTurns bench_air w es) (sym (f.world_is h.joins))
       (turns_free devices device_linked peer_ends (with_numbers s.world g.joins.far) es h.joins.far (none_handed (with_numbers s.world g.joins.far) es f.none)
@@ -97,7 +97,7 @@ module _ (s : State) (c : Command) (kind : IsNumberless s c) (g h : Given) (es f
       by : IsNumberless s c → es ≡ fs
       by (inl none) = same_events s c g h es fs a b t u p q done over (same_joins none)
       by (inr f) =
-          one_course bench_air (due s h c) (begun s h.joins c) (changed s c).queue es fs (free_turns f) q.turns p.fates q.fates
+          one_course bench_air (due s h c) (world_at_start s h.joins c) (changed s c).queue es fs (free_turns f) q.turns p.fates q.fates
           (due_weaker (due s h c) (due s g c) (λ ns n e d. f.due_same h g ns ∙ e) [] es p.each) q.each (f.due_same h g (receptions es) ∙ done) over
 
   -- and leaves the same

@@ -34,7 +34,7 @@ use Rattle.bench_world.specs.Opened.{IsOpen}
 use Rattle.bench_world.specs.World.{FarEnd, WholeWorld, bench_air}
 use Rattle.bench_world.proofs.OnLink.{linked_in}
 use Rattle.bench_world.specs.Cutting.{CutsReplies, GivesShort, WorldCuts}
-use Rattle.bench_world.specs.Showing.{IsBetween}
+use Rattle.bench_world.specs.Showing.{IsBetweenCommands}
 use Rattle.bench_world.proofs.SizedStates.{replies_short}
 use Rattle.bench_world.proofs.SizedWalks.{AskedNameFits, call_outs, closing_outs}
 use Rattle.bench_world.proofs.SizedWorld.{Above, all_among, far_so, first_so, later_so}
@@ -90,7 +90,7 @@ abbrev pub HasEnded : LinkAsking → OpenLink → List ℕ → List Event → Ty
 HasEnded (Does call) l own es = HasCome by_client (call_stand own (call_begins l.client call) l.initiator (receptions es))
 HasEnded Closes l own es = HasClosed (closing_stand own (closes l.client) l.initiator (receptions es))
 
-module _ (s : State) (l : OpenLink) (b : IsBetween s) (open_ : s.link ≡ Some l) (far : List ℕ) where
+module _ (s : State) (l : OpenLink) (b : IsBetweenCommands s) (open_ : s.link ≡ Some l) (far : List ℕ) where
   abbrev opened : IsOpen b.machines.air b.machines.ends b.machines.peers l
   opened = opened_at s l b open_
 

@@ -23,10 +23,10 @@ use Rattle.bench_devices.specs.Device.{device_end, device_linked, devices}
 use Rattle.bench_world.specs.declared.entry.Answer.{Answer}
 use Rattle.bench_world.specs.Cutting.{CutsReplies, GivesShort, WorldCuts}
 use Rattle.bench_world.specs.Forging.{forging}
-use Rattle.bench_world.specs.Legal.{FrontOf, Given, IsPayload, Joins, State, begun, due}
+use Rattle.bench_world.specs.Legal.{FrontOf, Given, IsPayload, Joins, State, world_at_start, due}
 use Rattle.bench_world.specs.Obeying.{state_at}
 use Rattle.bench_world.specs.ShownForged.{behind_opening, forged_shown}
-use Rattle.bench_world.specs.Showing.{BeginsSame, IsBetween}
+use Rattle.bench_world.specs.Showing.{BeginsSame, IsBetweenCommands}
 use Rattle.bench_world.specs.World.{FarEnd, WholeWorld, bench_air}
 use Rattle.bench_world.proofs.FarDevices.{ShowsWell, TalksTo, walk_shows}
 use Rattle.bench_world.proofs.ShowingAtr.{talks_then}
@@ -78,7 +78,7 @@ all_short [] h = tt
 all_short (p ∷ ps) h = (h.0.1, all_short ps h.1)
 
 -- A bench stands so between two commands.
-start_of : (s : State) (b : IsBetween s) (far : List ℕ) → MayBegin (with_numbers s.world far)
+start_of : (s : State) (b : IsBetweenCommands s) (far : List ℕ) → MayBegin (with_numbers s.world far)
 start_of s b far = subst (λ (t : State). MayBegin (with_numbers t.world far)) (sym b.is) there
   where
     there : MayBegin (with_numbers (state_at b.machines).world far)
@@ -92,12 +92,12 @@ start_of s b far = subst (λ (t : State). MayBegin (with_numbers t.world far)) (
       fars = refl;
     }
 
-module _ (s : State) (b : IsBetween s) (g : Given) (id : List ℕ) (payloads : List (List ℕ)) (may : AllByRecursion IsPayload payloads) where
+module _ (s : State) (b : IsBetweenCommands s) (g : Given) (id : List ℕ) (payloads : List (List ℕ)) (may : AllByRecursion IsPayload payloads) where
   abbrev c : Command
   c = Forge id payloads
 
   abbrev w : WholeWorld
-  w = begun s g.joins c
+  w = world_at_start s g.joins c
 
   start : MayBegin w
   start = start_of s b g.joins.far
@@ -162,7 +162,7 @@ module _ (s : State) (b : IsBetween s) (g : Given) (id : List ℕ) (payloads : L
   pub begins_forged : (h : Given) (es rest fs more : List Event) (p q : Option Answer) (t u : State) → h.joins ≡ forged_shown (es ++ more)
       → FrontOf s g c (es ++ rest) p t → due s g c (receptions (es ++ rest)) ≡ Over → FrontOf s h c fs q u → due s h c (receptions fs) ≡ Over → BeginsSame es rest fs
   begins_forged h es rest fs more p q t u is front over front_by over_by =
-      begins_same bench_air (due s g c) (due s h c) w (begun s h.joins c) s.queue es rest fs front.turns front.each front.fates over front_by.turns front_by.each front_by.fates over_by more
+      begins_same bench_air (due s g c) (due s h c) w (world_at_start s h.joins c) s.queue es rest fs front.turns front.each front.fates over front_by.turns front_by.each front_by.fates over_by more
       (λ turned tail split turns each.
       let all : es ++ rest ≡ turned ++ (tail ++ rest) = ap (λ z. z ++ rest) split ∙ append_assoc turned tail rest in
       let far : far_shown 0 (behind_opening (turned ++ (tail ++ more))) ≡ h.joins.far =
@@ -171,5 +171,5 @@ module _ (s : State) (b : IsBetween s) (g : Given) (id : List ℕ) (payloads : L
       (forge_shows turned (tail ++ more) turns each (fates_front s.queue turned (tail ++ rest) (subst (FatesFrom s.queue) all front.fates))).turns in
       same_by turned (tail ++ more) (subst (λ ks. AreTurns bench_air (with_numbers w ks) turned) far made) each)
     where
-      same_by : (turned more : List Event) → AreTurns bench_air (begun s h.joins c) turned → EachDue (due s g c) [] turned → GoesSame bench_air (begun s h.joins c) (due s g c) (due s h c) turned more
+      same_by : (turned more : List Event) → AreTurns bench_air (world_at_start s h.joins c) turned → EachDue (due s g c) [] turned → GoesSame bench_air (world_at_start s h.joins c) (due s g c) (due s h c) turned more
       same_by turned more turns each = record { turns = turns; each = each; asks = λ f x tail is e. e; over = λ e. e; over_back = λ e. e }

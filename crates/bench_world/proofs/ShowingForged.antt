@@ -15,10 +15,10 @@ use Rattle.bench_devices.specs.Device.{device_linked, devices}
 use Rattle.bench_world.specs.declared.entry.Answer.{Answer}
 use Rattle.bench_world.specs.Alike.{Alike}
 use Rattle.bench_world.specs.Forging.{forging, opens_link}
-use Rattle.bench_world.specs.Legal.{Given, IsPayload, Joins, State, begun, peers_forged, state_after, unlinked, world_after}
+use Rattle.bench_world.specs.Legal.{Given, IsPayload, Joins, State, world_at_start, peers_forged, state_after, unlinked, world_after}
 use Rattle.bench_world.specs.Links.{accepted_at, with_link, with_link_if}
 use Rattle.bench_world.specs.Peers.{Peers, placed_under}
-use Rattle.bench_world.specs.Showing.{IsBetween}
+use Rattle.bench_world.specs.Showing.{IsBetweenCommands}
 use Rattle.bench_world.specs.ShownForged.{forged_shown}
 use Rattle.bench_world.specs.World.{FarEnd, WholeWorld, bench_air}
 use Rattle.bench_world.proofs.ShowingAlike.{all_accept}
@@ -37,7 +37,7 @@ forged_same : (v : Bool) (s : State) (id : List ℕ) (xs ys : List (Option FarEn
 forged_same false s id xs ys e = refl
 forged_same true s id xs ys e = within_same (placed_under id s.world.field.listeners s.peers.numbers) s.world.fars xs ys (unlinked s).peers e
 
-module _ (s : State) (b : IsBetween s) (g : Given) (id : List ℕ) (payloads : List (List ℕ)) (may : AllByRecursion IsPayload payloads) (es : List Event) (a : Answer) where
+module _ (s : State) (b : IsBetweenCommands s) (g : Given) (id : List ℕ) (payloads : List (List ℕ)) (may : AllByRecursion IsPayload payloads) (es : List Event) (a : Answer) where
   abbrev c : Command
   c = Forge id payloads
 
@@ -45,12 +45,12 @@ module _ (s : State) (b : IsBetween s) (g : Given) (id : List ℕ) (payloads : L
   shown = forged_shown (es ++ [])
 
   abbrev behind : Joins → WholeWorld
-  behind joins = replay bench_air (begun s joins c) es
+  behind joins = replay bench_air (world_at_start s joins c) es
 
   abbrev after : Joins → State
   after joins = state_after s joins c es (Some a)
 
-  pub forged_alike : AreTurns bench_air (begun s g.joins c) es → EachDue (forging id payloads) [] es → FatesFrom s.queue es → Alike (after g.joins) (after shown)
+  pub forged_alike : AreTurns bench_air (world_at_start s g.joins c) es → EachDue (forging id payloads) [] es → FatesFrom s.queue es → Alike (after g.joins) (after shown)
   forged_alike turns each fates =
       let k : ForgesWell s b g id payloads may shown.far es = forge_shows s b g id payloads may es [] turns each fates in
       let dark : SameDark devices device_linked peer_ends (behind g.joins) (behind shown) = k.alike in

@@ -14,7 +14,7 @@ use Rattle.bench_world.specs.Calls.{told_asked}
 use Rattle.bench_world.specs.Legal.{FrontOf, Given, IsPayload, Joins, LegalStep, State, due, state_after}
 use Rattle.bench_world.specs.Links.{OpenLink}
 use Rattle.bench_world.specs.Alike.{Alike}
-use Rattle.bench_world.specs.Showing.{EntriesLeaveAlike, EventsTell, IsBetween, MayShow, shown_of}
+use Rattle.bench_world.specs.Showing.{EntriesLeaveAlike, EventsTell, IsBetweenCommands, MayShow, shown_of}
 use Rattle.bench_world.proofs.ShowingAlike.{alike_back, alike_on, alike_same, alike_shown, same_none, told_shown}
 use Rattle.bench_world.specs.ShownForged.{forged_shown}
 use Rattle.bench_world.proofs.ShowingAlone.{IsForge, IsNumberless, alone_left, numberless}
@@ -22,7 +22,7 @@ use Rattle.bench_world.proofs.ShowingForged.{forged_alike}
 use Rattle.bench_world.proofs.ShowingLink.{none_happens}
 
 -- a front that is over, by some numbers
-told_by_shown : (s t : State) (g : Given) (c : Command) (es : List Event) (a : Answer) → IsBetween s → FrontOf s g c es (Some a) t → due s g c (receptions es) ≡ Over
+told_by_shown : (s t : State) (g : Given) (c : Command) (es : List Event) (a : Answer) → IsBetweenCommands s → FrontOf s g c es (Some a) t → due s g c (receptions es) ≡ Over
     → (asked : LinkAsking) (l : OpenLink) → asked_on_link c ≡ Some asked → s.link ≡ Some l → told_asked asked l (shown_of s c (es ++ [])).own es ≡ told_asked asked l g.joins.own es
 told_by_shown s t g c es a b front over asked l on open_ = told_shown s c asked on l open_ b g es a front.turns front.each over
 
@@ -35,7 +35,7 @@ events_tell s t u g h e f between step step_by same events asked l on open_ =
     sym (told_by_shown s t g e.command e.events e.answer between step.front step.over asked l on open_)
     ∙ told_by_shown s u h e.command e.events f.answer between front over asked l on open_
 
-module _ (s t u : State) (g h : Given) (e : Entry) (between : IsBetween s) (swapped : MayShow s e.command) (p : LegalStep s g e t) (q : LegalStep s h e u) where
+module _ (s t u : State) (g h : Given) (e : Entry) (between : IsBetweenCommands s) (swapped : MayShow s e.command) (p : LegalStep s g e t) (q : LegalStep s h e u) where
   abbrev after : Joins → State
   after joins = state_after s joins e.command e.events (Some e.answer)
 

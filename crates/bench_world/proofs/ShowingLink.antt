@@ -14,10 +14,10 @@ use Rattle.bench_script.specs.declared.command.Command.TheVariants.{Skip, Fates,
 use Rattle.bench_world.specs.declared.entry.Answer.{Answer}
 use Rattle.bench_world.specs.Asked.{asked_on_link}
 use Rattle.bench_world.specs.Calls.{due_asked, due_if}
-use Rattle.bench_world.specs.Legal.{Accepts, FrontOf, Given, Joins, State, begun, changed, due, due_by}
+use Rattle.bench_world.specs.Legal.{Accepts, FrontOf, Given, Joins, State, world_at_start, changed, due, due_by}
 use Rattle.bench_world.specs.Links.{OpenLink}
 use Rattle.bench_world.specs.World.{bench_air}
-use Rattle.bench_world.specs.Showing.{BeginsSame, IsBetween, first_pni, joins_shown, shown_by, shown_of}
+use Rattle.bench_world.specs.Showing.{BeginsSame, IsBetweenCommands, first_pni, joins_shown, shown_by, shown_of}
 use Rattle.bench_world.proofs.FarDevices.{ShowsWell}
 use Rattle.bench_world.proofs.ShowingFar.{CutsOn, HasEnded, far_goes}
 use Rattle.bench_world.proofs.ShowingOwn.{OwnSame, own_same, link_cuts}
@@ -59,7 +59,7 @@ changes_none s (Puts puts) asked e = refl
 changes_none s Unlink asked e = refl
 
 -- what a bench keeps holds in the midst of a command
-pub cuts_on : (s : State) (joins : Joins) (c : Command) → IsBetween s → CutsOn (begun s joins c)
+pub cuts_on : (s : State) (joins : Joins) (c : Command) → IsBetweenCommands s → CutsOn (world_at_start s joins c)
 cuts_on s joins c b before = midst_cuts s joins c before b.cuts
 
 module _ (s : State) (c : Command) (asked : LinkAsking) (on : asked_on_link c ≡ Some asked) where
@@ -75,12 +75,12 @@ module _ (s : State) (c : Command) (asked : LinkAsking) (on : asked_on_link c �
   pub due_on_none : s.link ≡ None → (g : Given) (ns : List Note) → due s g c ns ≡ Over
   due_on_none none g ns = ap (λ o. due_by o s g c ns) on ∙ ap (λ o. due_if o (λ k. due_asked asked k g.joins.own ns)) none
 
-  pub begun_on : (joins : Joins) → begun s joins c ≡ with_numbers s.world joins.far
+  pub begun_on : (joins : Joins) → world_at_start s joins c ≡ with_numbers s.world joins.far
   begun_on joins = ap (λ (t : State). with_numbers t.world joins.far) (changes_none s c asked on)
 
-  module _ (l : OpenLink) (open_ : s.link ≡ Some l) (b : IsBetween s) (g h : Given) where
+  module _ (l : OpenLink) (open_ : s.link ≡ Some l) (b : IsBetweenCommands s) (g h : Given) where
     -- turns of the command, each due, and events that stand behind them
-    module _ (turned more : List Event) (shown : h.joins ≡ shown_of s c (turned ++ more)) (turns : AreTurns bench_air (begun s g.joins c) turned) (each : EachDue (due s g c) [] turned) where
+    module _ (turned more : List Event) (shown : h.joins ≡ shown_of s c (turned ++ more)) (turns : AreTurns bench_air (world_at_start s g.joins c) turned) (each : EachDue (due s g c) [] turned) where
       numbers_are : h.joins ≡ joins_shown l.initiator.core.number (turned ++ more)
       numbers_are = shown ∙ shown_on l open_ (turned ++ more)
 
@@ -99,12 +99,12 @@ module _ (s : State) (c : Command) (asked : LinkAsking) (on : asked_on_link c �
             far_goes s l b open_ g.joins.far asked g.joins.own turned more (subst (λ w. AreTurns bench_air w turned) (begun_on g.joins) turns) each_asked
             (subst (λ o. IfSome o AskedNameFits) on (accepted_name_fits s c may)) (subst CutsOn (begun_on g.joins) (cuts_on s g.joins c b))
 
-        pub turns_on : AreTurns bench_air (begun s h.joins c) turned
+        pub turns_on : AreTurns bench_air (world_at_start s h.joins c) turned
         turns_on =
             subst (λ w. AreTurns bench_air w turned) (sym (begun_on h.joins))
             (subst (λ (j : Joins). AreTurns bench_air (with_numbers s.world j.far) turned) (sym numbers_are) far_on.turns)
 
-        pub goes_on_link : GoesSame bench_air (begun s h.joins c) (due s g c) (due s h c) turned more
+        pub goes_on_link : GoesSame bench_air (world_at_start s h.joins c) (due s g c) (due s h c) turned more
         goes_on_link =
             let k = own_on in
             let D : (ns : List Note) → due s g c ns ≡ due_asked asked l g.joins.own ns = λ ns. due_on_link l open_ g ns in
@@ -121,7 +121,7 @@ module _ (s : State) (c : Command) (asked : LinkAsking) (on : asked_on_link c �
     pub begins_on_link : (es rest fs more : List Event) (p q : Option Answer) (t u : State) → h.joins ≡ shown_of s c (es ++ more)
         → FrontOf s g c (es ++ rest) p t → due s g c (receptions (es ++ rest)) ≡ Over → FrontOf s h c fs q u → due s h c (receptions fs) ≡ Over → BeginsSame es rest fs
     begins_on_link es rest fs more p q t u shown front over front_by over_by =
-        begins_same bench_air (due s g c) (due s h c) (begun s g.joins c) (begun s h.joins c) (changed s c).queue es rest fs front.turns front.each front.fates over
+        begins_same bench_air (due s g c) (due s h c) (world_at_start s g.joins c) (world_at_start s h.joins c) (changed s c).queue es rest fs front.turns front.each front.fates over
         front_by.turns front_by.each front_by.fates over_by more
         (λ turned tail is turns each.
         goes_on_link turned (tail ++ more) (shown ∙ ap (shown_of s c) (ap (λ z. z ++ more) is ∙ append_assoc turned tail more)) turns each front.accepted)
@@ -129,4 +129,4 @@ module _ (s : State) (c : Command) (asked : LinkAsking) (on : asked_on_link c �
   -- where no link is open nothing happens
   pub none_happens : s.link ≡ None → (g : Given) (es : List Event) (told : Option Answer) (t : State) → FrontOf s g c es told t → es ≡ []
   none_happens none g es told t front =
-      nothing_more bench_air (due s g c) [] es (due_on_none none g []) (ap back_of front.turns.made ∙ trace_first bench_air (begun s g.joins c) front.turns.moves) front.each
+      nothing_more bench_air (due s g c) [] es (due_on_none none g []) (ap back_of front.turns.made ∙ trace_first bench_air (world_at_start s g.joins c) front.turns.moves) front.each

@@ -16,7 +16,7 @@ use Rattle.bench_world.specs.Legal.{State}
 use Rattle.bench_world.specs.Links.{OpenLink}
 use Rattle.bench_world.specs.Opened.{IsOpen}
 use Rattle.bench_world.specs.Cutting.{LinkCuts}
-use Rattle.bench_world.specs.Showing.{IsBetween}
+use Rattle.bench_world.specs.Showing.{IsBetweenCommands}
 use Rattle.link_numbers.proofs.Resting.{call_within, closes_within}
 
 -- What was asked on a link goes the same way by these numbers as by those: the same is due, it is over at once, and the same is told then.
@@ -54,9 +54,9 @@ own_same Closes l js turned more rested within each =
     record { each = k.each; asks = k.asks; over = k.over; over_back = k.over_back; told = λ e. ap told_closing (k.stands e); behind = λ answer e. refl }
 
 -- The link that is open between two commands: it stands as an open link does, and its initiator rests.
-pub opened_at : (s : State) (l : OpenLink) (b : IsBetween s) → s.link ≡ Some l → IsOpen b.machines.air b.machines.ends b.machines.peers l
+pub opened_at : (s : State) (l : OpenLink) (b : IsBetweenCommands s) → s.link ≡ Some l → IsOpen b.machines.air b.machines.ends b.machines.peers l
 opened_at s l b open_ =
     subst (λ o. IfLinked o (λ k. IsOpen b.machines.air b.machines.ends b.machines.peers k) (Unit {0})) (sym (ap (λ (t : State). t.link) b.is) ∙ open_) b.settled.link
 
-pub link_cuts : (s : State) (l : OpenLink) → IsBetween s → s.link ≡ Some l → LinkCuts l
+pub link_cuts : (s : State) (l : OpenLink) → IsBetweenCommands s → s.link ≡ Some l → LinkCuts l
 link_cuts s l b open_ = subst (λ o. IfLinked o LinkCuts (Unit {0})) open_ b.cuts.link

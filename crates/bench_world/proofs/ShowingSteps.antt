@@ -11,7 +11,7 @@ use Rattle.bench_world.specs.declared.entry.Answer.{Answer}
 use Rattle.bench_world.specs.Asked.{asked_on_link}
 use Rattle.bench_world.specs.Legal.{FrontOf, Given, IsPayload, State, due}
 use Rattle.bench_world.specs.Links.{OpenLink}
-use Rattle.bench_world.specs.Showing.{BeginsSame, IsBetween, MayShow, NumbersShow, shown_of}
+use Rattle.bench_world.specs.Showing.{BeginsSame, IsBetweenCommands, MayShow, NumbersShow, shown_of}
 use Rattle.bench_world.proofs.ShowingAlone.{IsForge, IsNumberless, alone_events, numberless}
 use Rattle.bench_world.proofs.ShowingForge.{begins_forged}
 use Rattle.bench_world.proofs.ShowingLink.{begins_on_link, none_happens}
@@ -20,7 +20,7 @@ use Rattle.bench_world.proofs.ShowingLink.{begins_on_link, none_happens}
 begins_all : (es rest fs : List Event) → fs ≡ es ++ rest → BeginsSame es rest fs
 begins_all es rest fs is = record { other = rest; begins = is; ends = λ none. none; ended = λ none fresh. none }
 
-module _ (s t u : State) (g h : Given) (c : Command) (es rest more fs : List Event) (a b : Answer) (between : IsBetween s) (swapped : MayShow s c)
+module _ (s t u : State) (g h : Given) (c : Command) (es rest more fs : List Event) (a b : Answer) (between : IsBetweenCommands s) (swapped : MayShow s c)
     (p : FrontOf s g c (es ++ rest) (Some a) t) (done : due s g c (receptions (es ++ rest)) ≡ Over) (q : FrontOf s h c fs (Some b) u) (over : due s h c (receptions fs) ≡ Over)
     (shown : h.joins ≡ shown_of s c (es ++ more)) where
   by_link : (asked : LinkAsking) → asked_on_link c ≡ Some asked → (o : Option OpenLink) → s.link ≡ o → BeginsSame es rest fs

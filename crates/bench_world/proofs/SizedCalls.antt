@@ -176,7 +176,7 @@ goes_on_short l jobs idle h = either {X = Step} (AtEnd Short) (nat_lt idle most_
 settled_short : (l : EndState) (jobs : List OnSap) (idle : ℕ) → Short l → AtEnd Short (talk.settled l jobs idle)
 settled_short l jobs idle h = either {X = Step} (AtEnd Short) (all_over jobs) _ _ (λ e. h) (λ e. goes_on_short l jobs idle h)
 
-told_by_short : (l : EndState) (jobs : List OnSap) (came : List CameTo) (idle : ℕ) (o : Option (List OnSap)) → Short l → AtEnd Short (talk.told_by l jobs came idle o)
+told_by_short : (l : EndState) (jobs : List OnSap) (came : List CameTo) (idle : ℕ) (o : Option (List OnSap)) → Short l → AtEnd Short (talk.call_behind l jobs came idle o)
 told_by_short l jobs came idle None h = all_forgotten_short jobs l h
 told_by_short l jobs came idle (Some now) h = settled_short (all_emptied jobs l) now idle (all_emptied_short jobs l h)
 

@@ -18,7 +18,7 @@ use Rattle.llcp_link.specs.Serving.{Serving}
 use Rattle.llcp_link.specs.declared.own.OwnIs.{OwnIs}
 use Rattle.llcp_link.specs.declared.own.OwnIs.TheVariants.{Asking, Open, Refused, Leaving, Closed}
 use Rattle.llcp_link.specs.State.{LlcState, OwnState, Queued, Holder, Nobody, Served, Asked, conn_from, holder, own_from, own_holder, with_own}
-use Rattle.llcp_link.specs.Names.{answer_to, answers_to, miu_of, name_of, own_params, reached, rw_of, told_all}
+use Rattle.llcp_link.specs.Names.{answer_to, answers_to, miu_of, name_of, own_params, reached, rw_of, lookups_told}
 use Rattle.llcp_link.specs.Taking as t
 use Rattle.llcp_link.specs.Taking.{Item, Good, Broken, brought, step, steps, taken_from}
 use Rattle.llcp_link.specs.Own.{OwnGave, ack_on, ack_so, cc_on, cc_so, dm_on, dm_so, gave_so, if_there, on_own, unit_on, unit_so}
@@ -156,7 +156,7 @@ module _ {S : Type 0} where
   discovers_short l ps h =
       let few : length (params_bytes (answers_to l.bound (l.far_miu / 4) ps)) ≤ 4 * (l.far_miu / 4) = res_long (l.far_miu / 4) (filter_map (answer_to l.bound) ps) (all_res l.bound ps) in
       let miu : l.far_miu ≤ 2176 = h.miu in
-      tells_short (record l { lookups = told_all ps l.lookups }) (answers_to l.bound (l.far_miu / 4) ps) (omega (arith, few, miu))
+      tells_short (record l { lookups = lookups_told ps l.lookups }) (answers_to l.bound (l.far_miu / 4) ps) (omega (arith, few, miu))
       (record { miu = h.miu; queue = h.queue; served = h.served; own = h.own })
 
   -- a connection is asked for

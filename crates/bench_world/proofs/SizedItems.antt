@@ -13,7 +13,7 @@ use Rattle.llcp_pdu.specs.Parts.{between, body, headed, numbered, part, ptype_bi
 use Rattle.llcp_pdu.specs.Pdus.{inner, joined, pdu, whole}
 use Rattle.llcp_pdu.specs.Raw.{raw}
 use Rattle.llcp_pdu.specs.Reading.{byte, ended, follows, gives}
-use Rattle.llcp_pdu.specs.Views.{told_by}
+use Rattle.llcp_pdu.specs.Views.{refusal_told}
 use Rattle.llcp_pdu.specs.Wire.{disc_type, info_type, rr_type, rnr_type}
 use Rattle.llcp_link.specs.Taking.{Item, Good, Broken, broken, brought, items, items_of, minded}
 use Rattle.llcp_link.specs.State.{LlcState}
@@ -173,7 +173,7 @@ broken_small : (o : Option RawHeader) → AllItems (broken o)
 broken_small None = tt
 broken_small (Some h) = minded_small h
 
-read_items : (b : List ℕ) (r : Result Pdu _) → ReadSmall b r → AllItems (items_of b (told_by r))
+read_items : (b : List ℕ) (r : Result Pdu _) → ReadSmall b r → AllItems (items_of b (refusal_told r))
 read_items b (Ok (One p)) h = (h, tt)
 read_items b (Ok (Agf ps)) h = good_small ps h
 read_items b (Err e) h = broken_small (raw b)

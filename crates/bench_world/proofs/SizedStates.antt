@@ -25,7 +25,7 @@ use Rattle.bench_world.specs.declared.entry.Answer.TheVariants as answers
 use Rattle.bench_world.specs.Asked.{asked_on_link}
 use Rattle.bench_world.specs.Calls.{IfLinked, asked_behind, link_behind, stands_on}
 use Rattle.bench_world.specs.Cutting.{CutsReplies, CutsWell, FirstCuts, FrontsCut, GivesShort, LinkCuts, MidstCuts, RepliesShort, WorldCuts}
-use Rattle.bench_world.specs.Legal.{Accepts, Joins, State, begun, changed, is_linked_to, link_alone, link_left, memory_of, state_after}
+use Rattle.bench_world.specs.Legal.{Accepts, Joins, State, world_at_start, changed, is_linked_to, link_alone, link_left, memory_of, state_after}
 use Rattle.bench_world.specs.Linking.{link_if}
 use Rattle.bench_world.specs.Links.{OpenLink}
 use Rattle.bench_world.specs.Obeying.{Machines, ObeyedBy, state_at, untraced}
@@ -158,7 +158,7 @@ left_link (Some asked) s joins c es told fits h = asked_link asked told s.link j
 
 -- in the midst of a command, and behind it
 pub midst_cuts : MidstCuts
-midst_cuts s joins c es h = let k = changed_world s c h.world in happened (begun s joins c) es (record { targets = k.targets; ends = k.ends })
+midst_cuts s joins c es h = let k = changed_world s c h.world in happened (world_at_start s joins c) es (record { targets = k.targets; ends = k.ends })
 
 pub replies_short : RepliesShort
 replies_short l payload n h = (reply_short l payload n h, left_short l payload n h)

@@ -13,7 +13,7 @@ use Rattle.bench_world.specs.Arrivals.{Arrival}
 use Rattle.bench_world.specs.Calls.{AllAdd, EachAdds, OfEnd}
 use Rattle.bench_world.specs.Legal.{State}
 use Rattle.bench_world.specs.Links.{OpenLink, accepted_by, end_numbered, accepted_at, ended, with_last_ended}
-use Rattle.bench_world.specs.LinkLaw.{AcceptsPuts, KeepsLinkLaw}
+use Rattle.bench_world.specs.LinkLaw.{AcceptsByOpener, KeepsLinkLaw}
 use Rattle.bench_world.specs.Peers.{Peers, next_number}
 use Rattle.bench_world.specs.Stories.{Opener, ByLink, ByForge, LinkPut, Story, Stretch, arrived_by, puts_in, puts_told, last_goes_on, open_goes_on, ByRaw}
 use Rattle.bench_world.proofs.AtNumbers.{Held, held, held_at}
@@ -120,7 +120,7 @@ module _ (y : Story) (step : IsInStep y) (es : List Event) (arrivals : List Arri
   pub puts_keep : KeepsLinkLaw Now
   puts_keep = by y.opener
     where
-      by : (o : Opener) → AcceptsPuts o Now
+      by : (o : Opener) → AcceptsByOpener o Now
       by ByForge = tt
       by ByRaw = tt
       by ByLink = with_all Step (LinkAccepts y.begun.service.limit) y.puts y.gained step (puts_told ws ts) more (all_accept ws apart y.begun.service.limit ts more adds others)

@@ -32,12 +32,12 @@ use Rattle.bench_world.specs.World.{FarEnd, WholeWorld}
 use Rattle.bench_world.specs.Answering.{poll_answer}
 use Rattle.bench_world.specs.declared.entry.SlotDone.{SlotDone}
 use Rattle.bench_world.specs.Calls.{AllAdd, EachAdds, OfEnd, all_done, asked_behind, link_behind, slots_behind, stands_on, told_asked, told_at_once, told_call, told_done, told_each, told_jobs, told_one, told_several}
-use Rattle.bench_world.specs.Legal.{State, end_of}
+use Rattle.bench_world.specs.Legal.{State, peer_end_of}
 use Rattle.bench_world.specs.Linking.{LinkTells, LinkEnds, TellsLoss, link_if}
 use Rattle.bench_world.specs.Links.{OpenLink, ended_unless, begun_if, end_numbered, accepted_at}
 use Rattle.bench_world.specs.Peers.{Peers, next_number, placed_under}
 use Rattle.bench_world.specs.LinkLaw.{KeepsLinkLaw}
-use Rattle.bench_world.specs.Stories.{LinkPut, Story, Stretch, arrived_by, puts_in, puts_told, last_goes_on, first_of, story_if, told_all}
+use Rattle.bench_world.specs.Stories.{LinkPut, Story, Stretch, arrived_by, puts_in, puts_told, last_goes_on, story_of, story_if, told_in_order}
 use Rattle.bench_world.proofs.AtNumbers.{Held, held, held_at, at_number, at_own_place, with_held}
 use Rattle.bench_world.proofs.PeersNumbered.{HavePlaces}
 use Rattle.bench_world.proofs.StoriesHere.{view_at, view_of, Stand, adds_so, gain, over_closed, count_is, taken_by, put_to, puts_keep, puts_step}
@@ -51,7 +51,7 @@ messages_of (Does (Putting ws)) = ws
 messages_of asked = []
 
 abbrev pub tolds_of : LinkAsking → Option Answer → List Told
-tolds_of (Does (Putting ws)) told = told_all ws told
+tolds_of (Does (Putting ws)) told = told_in_order ws told
 tolds_of asked told = []
 
 done_told : (ds : List SlotDone) → AreTold (map told_done ds)
@@ -114,14 +114,14 @@ same_opened p fars now n ys same o =
 
 -- A command on it, which puts these messages, told of so.
 module _ (s t : State) (l : OpenLink) (ys : List Story) (o : Open (view_of s) l.peer ys) (x : Stretch) (ws : List SlotMessage) (apart : AreApart ws) (ts : List Told) (puts : puts_in x.command x.told ≡ puts_told ws ts)
-    (more : List Accepted) (adds : OfEnd (λ end. AllAdd ws end ts more) (end_of s l)) (numbers : t.peers.numbers ≡ s.peers.numbers)
+    (more : List Accepted) (adds : OfEnd (λ end. AllAdd ws end ts more) (peer_end_of s l)) (numbers : t.peers.numbers ≡ s.peers.numbers)
     (accepted : map held t.world.fars ≡ with_held more l.peer s.peers.numbers (map held s.world.fars)) where
   abbrev y : Story
   y = o.opened.now.story
 
   both : EachAdds ws y.begun.service.limit ts more × ((c : ℕ) → is_from c ws ≡ false → accepted_from c more ≡ [])
   both =
-      let h = adds_so ws (end_of s l) o.opened.going.there ts more (held_at l.peer s.peers.numbers s.world.fars ∙ o.opened.going.found) adds in
+      let h = adds_so ws (peer_end_of s l) o.opened.going.there ts more (held_at l.peer s.peers.numbers s.world.fars ∙ o.opened.going.found) adds in
       (subst (λ n. EachAdds ws n ts more) o.opened.going.limit h.0, h.1)
 
   abbrev grown : Held
@@ -192,7 +192,7 @@ module _ (w : WholeWorld) (q : List Fate) (p : Peers) (id : List ℕ) (ds : List
   behind_link left = record { world = w; queue = q; peers = begun_if left before p; link = left }
 
   first_story : (l : OpenLink) (k : Held) (o : Option FarEnd) → at (view_at p w.fars) l.peer ≡ Some k → held o ≡ Some k
-      → Open (view_begun (view_at p w.fars) l.peer (length k.accepted)) l.peer (ys ++ first_of number general l.peer o)
+      → Open (view_begun (view_at p w.fars) l.peer (length k.accepted)) l.peer (ys ++ story_of number general l.peer o)
   first_story l k None found is = absurd cc
   first_story l k (Some end) found is =
       let same_end : record { limit = end.service.limit; accepted = end.service.accepted } ≡ k = cc in
@@ -208,9 +208,9 @@ module _ (w : WholeWorld) (q : List Fate) (p : Peers) (id : List ℕ) (ds : List
       let count : length k.accepted ≡ accepted_at l.peer p before =
       sym (count_is (end_numbered l.peer p.numbers before)
       ∙ ap (λ x. length (taken_by x)) (held_at l.peer p.numbers before ∙ ap (at_number l.peer p.numbers) (sym same) ∙ there.1)) in
-      let begins : Open (view_begun (view_at p w.fars) l.peer (length k.accepted)) l.peer (ys ++ first_of number general l.peer (end_numbered l.peer p.numbers w.fars)) =
+      let begins : Open (view_begun (view_at p w.fars) l.peer (length k.accepted)) l.peer (ys ++ story_of number general l.peer (end_numbered l.peer p.numbers w.fars)) =
       first_story l k (end_numbered l.peer p.numbers w.fars) there.1 (held_at l.peer p.numbers w.fars ∙ there.1) in
       record {
         places = places;
-        stand = subst (λ n. Open (view_begun (view_at p w.fars) l.peer n) l.peer (ys ++ first_of number general l.peer (end_numbered l.peer p.numbers w.fars))) count begins;
+        stand = subst (λ n. Open (view_begun (view_at p w.fars) l.peer n) l.peer (ys ++ story_of number general l.peer (end_numbered l.peer p.numbers w.fars))) count begins;
       }

@@ -10,8 +10,8 @@ use Rattle.snep_core.specs.Payloads.{accepted_from}
 use Rattle.snep_core.specs.Server.{Received as Accepted}
 use Rattle.bench_world.specs.declared.inbox.LinkRange.{LinkRange}
 use Rattle.bench_world.specs.Arrivals.{Arrival}
-use Rattle.bench_world.specs.Inbox.{is_in, came_on_link, chosen, told_of, told_by_links, inbox_of}
-use Rattle.bench_world.specs.LinkLaw.{puts_from, AcceptsPuts, KeepsLinkLaw, AreCounted, told_by_stories}
+use Rattle.bench_world.specs.Inbox.{is_in, came_on_link, chosen, received_on, told_by_links, inbox_of}
+use Rattle.bench_world.specs.LinkLaw.{puts_from, AcceptsByOpener, KeepsLinkLaw, AreCounted, told_by_stories}
 use Rattle.bench_world.specs.Links.{last_ended}
 use Rattle.bench_world.specs.Opened.{AreNumbered}
 use Rattle.bench_world.specs.Stories.{Opener, ByLink, ByForge, ByRaw, LinkPut, Story, last_goes_on}
@@ -146,7 +146,7 @@ counted_more n (x ∷ xs) y is all = (all.0, counted_more (n + 1) xs y (omega (a
 pub in_step_keeps : (y : Story) → IsInStep y → KeepsLinkLaw y
 in_step_keeps y step = by_opener y.opener
   where
-    by_opener : (o : Opener) → AcceptsPuts o y
+    by_opener : (o : Opener) → AcceptsByOpener o y
     by_opener ByForge = tt
     by_opener ByRaw = tt
     by_opener ByLink = λ client. in_step_accepts y.begun.service.limit (puts_from client y.puts) (accepted_from client y.gained) (step client)
@@ -219,7 +219,7 @@ module _ (v : View) (n : ℕ) (ys : List Story) (o : Open v n ys) (go : Story �
   story_last : last_goes_on go ys ≡ stories o.opened.done ++ behind_it ∷ []
   story_last = ap (last_goes_on go) o.opened.told ∙ last_story go (stories o.opened.done) before_it ∙ ap (λ y. stories o.opened.done ++ y ∷ []) is
 
-  keeps_still : (opener : Opener) → AcceptsPuts opener before_it → AcceptsPuts opener behind_it
+  keeps_still : (opener : Opener) → AcceptsByOpener opener before_it → AcceptsByOpener opener behind_it
   keeps_still ByLink keeps = keeps
   keeps_still ByForge keeps = tt
   keeps_still ByRaw keeps = tt
@@ -594,39 +594,39 @@ module _ (v : View) (n : ℕ) (ys : List Story) (c : Closed v ys) (k : Held) (fo
 -- What an inbox tells of a peer's list is what came on no link, and then what the stories gained.
 module _ (v : View) (p : ℕ) (k : Held) (found : at v p ≡ Some k) where
   one_told : (x : Paired) → Fits v x → (m : ℕ) → x.story.number ≡ m
-      → (if nat_eq x.range.peer p then told_of m (chosen (is_in x.range) 0 k.accepted) else []) ≡ (if nat_eq x.story.peer p then told_of x.story.number x.story.gained else [])
+      → (if nat_eq x.range.peer p then received_on m (chosen (is_in x.range) 0 k.accepted) else []) ≡ (if nat_eq x.story.peer p then received_on x.story.number x.story.gained else [])
   one_told x f m number =
-      ap (λ q. if nat_eq q p then told_of m (chosen (is_in x.range) 0 k.accepted) else []) f.peer
-      ∙ ap (λ i. if nat_eq x.story.peer p then told_of i (chosen (is_in x.range) 0 k.accepted) else []) (sym number)
+      ap (λ q. if nat_eq q p then received_on m (chosen (is_in x.range) 0 k.accepted) else []) f.peer
+      ∙ ap (λ i. if nat_eq x.story.peer p then received_on i (chosen (is_in x.range) 0 k.accepted) else []) (sym number)
       ∙ by (nat_eq x.story.peer p) refl
     where
       own : nat_eq x.story.peer p ≡ true → chosen (is_in x.range) 0 k.accepted ≡ x.story.gained
       own e = subst (IfHeld (λ h. chosen (is_in x.range) 0 h.accepted ≡ x.story.gained)) (ap (at v) (eqb-true x.story.peer p e) ∙ found) f.holds
 
       by : (b : Bool) → nat_eq x.story.peer p ≡ b
-          → (if b then told_of x.story.number (chosen (is_in x.range) 0 k.accepted) else []) ≡ (if b then told_of x.story.number x.story.gained else [])
-      by true e = ap (told_of x.story.number) (own e)
+          → (if b then received_on x.story.number (chosen (is_in x.range) 0 k.accepted) else []) ≡ (if b then received_on x.story.number x.story.gained else [])
+      by true e = ap (received_on x.story.number) (own e)
       by false e = refl
 
   pub all_told : (m : ℕ) (xs : List Paired) → AllByRecursion (Fits v) xs → AreCounted m (stories xs) → told_by_links m (ranges xs) p k.accepted ≡ told_by_stories (stories xs) p
   all_told m [] fits counted = refl
   all_told m (x ∷ xs) fits counted =
       ap (λ rs. rs ++ told_by_links (m + 1) (ranges xs) p k.accepted) (one_told x fits.0 m counted.0)
-      ∙ ap (λ rs. (if nat_eq x.story.peer p then told_of x.story.number x.story.gained else []) ++ rs) (all_told (m + 1) xs fits.1 counted.1)
+      ∙ ap (λ rs. (if nat_eq x.story.peer p then received_on x.story.number x.story.gained else []) ++ rs) (all_told (m + 1) xs fits.1 counted.1)
 
   abbrev pub aside : List Accepted
   aside = chosen (λ i. not (came_on_link v.links p i)) 0 k.accepted
 
   told_so : (done xs : List Paired) (ys : List Story) → Base v done ys → AllByRecursion (Fits v) xs → v.links ≡ ranges xs → ys ≡ stories xs
-      → inbox_of v.links p k.accepted ≡ told_of 0 aside ++ told_by_stories ys p
+      → inbox_of v.links p k.accepted ≡ received_on 0 aside ++ told_by_stories ys p
   told_so done xs ys b fits links told =
-      ap (λ rs. told_of 0 aside ++ rs)
+      ap (λ rs. received_on 0 aside ++ rs)
       (ap (λ ls. told_by_links 1 ls p k.accepted) links ∙ all_told 1 xs fits (subst (AreCounted 1) told b.counted) ∙ sym (ap (λ zs. told_by_stories zs p) told))
 
-  pub closed_told : (ys : List Story) → Closed v ys → inbox_of v.links p k.accepted ≡ told_of 0 aside ++ told_by_stories ys p
+  pub closed_told : (ys : List Story) → Closed v ys → inbox_of v.links p k.accepted ≡ received_on 0 aside ++ told_by_stories ys p
   closed_told ys c = told_so c.done c.done ys c.base (all_as (IsDone v) (Fits v) (λ x d. d.fits) c.done c.base.each) c.links c.told
 
-  pub open_told : (n : ℕ) (ys : List Story) → Open v n ys → inbox_of v.links p k.accepted ≡ told_of 0 aside ++ told_by_stories ys p
+  pub open_told : (n : ℕ) (ys : List Story) → Open v n ys → inbox_of v.links p k.accepted ≡ received_on 0 aside ++ told_by_stories ys p
   open_told n ys o =
       let xs : List Paired = o.opened.done ++ o.opened.now ∷ [] in
       told_so o.opened.done xs ys o.opened.base

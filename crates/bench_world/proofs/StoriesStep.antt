@@ -12,7 +12,7 @@ use Rattle.bench_devices.specs.Placed.{without}
 use Rattle.bench_world.specs.World.{FarEnd, WholeWorld}
 use Rattle.bench_world.specs.Inbox.{came_on_link}
 use Rattle.bench_world.specs.Links.{OpenLink, is_number, is_with, ended}
-use Rattle.bench_world.specs.Legal.{State, changed, begun}
+use Rattle.bench_world.specs.Legal.{State, changed, world_at_start}
 use Rattle.bench_world.specs.Opened.{AreNumbered}
 use Rattle.bench_world.specs.Peers.{Peers, next_number, placed_under, without_place, without_number, with_place_changed}
 use Rattle.bench_world.specs.Stories.{Story, Stretch, Beginning, NothingBegins, begins_in, begun_by, puts_in, open_goes_on}
@@ -51,10 +51,10 @@ many_held (p ∷ ps) (k ∷ ks) all = ap suc (many_held ps ks all.1)
 pub same_link : (s t : State) (x : Stretch) (ys : List Story) → Stand s ys → puts_in x.command x.told ≡ [] → begins_in x ≡ NothingBegins → (changed s x.command).link ≡ s.link → t.link ≡ s.link
     → PlacesOf t → ((l : OpenLink) → s.link ≡ Some l → at (view_of t) l.peer ≡ at (view_of s) l.peer)
     → (StandBy (view_of s) s.link ys → StandBy (view_of t) s.link ys) → Stand t (stories_behind s x t ys)
-same_link s t x ys stand puts begun still same places own moves =
+same_link s t x ys stand puts world_at_start still same places own moves =
     let zs : List Story = open_goes_on s.link (goes_on s x t) ys in
     let told : stories_behind s x t ys ≡ zs =
-    ap (λ (b : Beginning). open_goes_on (changed s x.command).link (goes_on s x t) ys ++ begun_by b (goes_on s x t) s t) begun ∙ append-nil (open_goes_on (changed s x.command).link (goes_on s x t) ys)
+    ap (λ (b : Beginning). open_goes_on (changed s x.command).link (goes_on s x t) ys ++ begun_by b (goes_on s x t) s t) world_at_start ∙ append-nil (open_goes_on (changed s x.command).link (goes_on s x t) ys)
     ∙ ap (λ o. open_goes_on o (goes_on s x t) ys) still in
     let stands : StandBy (view_of t) s.link zs = still_stands s t x ys (view_of t) s.link (moves stand.stand) puts own in
     subst (Stand t) (sym told) (record { places = places; stand = subst (λ o. StandBy (view_of t) o zs) (sym same) stands })
@@ -62,9 +62,9 @@ same_link s t x ys stand puts begun still same places own moves =
 -- no link is open in the stretch, nor behind it
 pub no_link : (s t : State) (x : Stretch) (ys : List Story) → begins_in x ≡ NothingBegins → (changed s x.command).link ≡ None → t.link ≡ None
     → PlacesOf t → Closed (view_of t) ys → Stand t (stories_behind s x t ys)
-no_link s t x ys begun none gone places closed =
+no_link s t x ys world_at_start none gone places closed =
     let told : stories_behind s x t ys ≡ ys =
-    ap (λ (b : Beginning). open_goes_on (changed s x.command).link (goes_on s x t) ys ++ begun_by b (goes_on s x t) s t) begun ∙ append-nil (open_goes_on (changed s x.command).link (goes_on s x t) ys)
+    ap (λ (b : Beginning). open_goes_on (changed s x.command).link (goes_on s x t) ys ++ begun_by b (goes_on s x t) s t) world_at_start ∙ append-nil (open_goes_on (changed s x.command).link (goes_on s x t) ys)
     ∙ ap (λ o. open_goes_on o (goes_on s x t) ys) none in
     subst (Stand t) (sym told) (record { places = places; stand = subst (λ o. StandBy (view_of t) o ys) (sym gone) closed })
 

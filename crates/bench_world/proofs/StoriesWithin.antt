@@ -6,7 +6,7 @@ use Rattle.bench_devices.specs.declared.device.Device.{Device}
 use Rattle.bench_world.specs.declared.inbox.LinkRange.{LinkRange}
 use Rattle.bench_world.specs.World.{FarEnd}
 use Rattle.bench_world.specs.Legal.{State, changed}
-use Rattle.bench_world.specs.LinkLaw.{AcceptsPuts, KeepsLinkLaw}
+use Rattle.bench_world.specs.LinkLaw.{AcceptsByOpener, KeepsLinkLaw}
 use Rattle.bench_world.specs.Links.{OpenLink, accepted_at, end_numbered, last_ended, with_link_within}
 use Rattle.bench_world.specs.Peers.{Peers, next_number, placed_under}
 use Rattle.bench_world.specs.Stories.{Beginning, BeginsAndEnds, Opener, Story, Stretch, arrived_by, begins_in, begun_by, new_story, open_goes_on, puts_in, story_within, whole_of}
@@ -24,7 +24,7 @@ end_held (Some end) k is = (end, refl, cc)
 
 -- From a state in which no link is open but for one that ends first, to one in which none is: a link began and ended, to
 -- the peer with an identifier. Its peer's list gained these, and no other list any.
-module _ (s t : State) (x : Stretch) (ys : List Story) (p : Peers) (id general : List ℕ) (opener : Opener) (free : (y : Story) → AcceptsPuts opener y)
+module _ (s t : State) (x : Stretch) (ys : List Story) (p : Peers) (id general : List ℕ) (opener : Opener) (free : (y : Story) → AcceptsByOpener opener y)
     (closed : Closed (view_at p s.world.fars) ys) (numbers : p.numbers ≡ s.peers.numbers) (many : length p.links ≡ length s.peers.links)
     (peer : ℕ) (placed : placed_under id s.world.field.listeners s.peers.numbers ≡ Some peer) (more : List Accepted)
     (accepted : map held t.world.fars ≡ with_held more peer p.numbers (map held s.world.fars)) (peers : t.peers ≡ with_link_within peer s.world.fars t.world.fars p)

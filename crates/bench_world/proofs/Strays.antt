@@ -8,7 +8,7 @@ use Rattle.bench_world.specs.declared.entry.Entry.{Entry}
 use Rattle.bench_world.specs.Alike.{Alike}
 use Rattle.bench_world.specs.Following.{BeginAlike, GoApart, NoneBegins, NoneHas}
 use Rattle.bench_world.specs.Legal.{Given, LegalStep, State}
-use Rattle.bench_world.specs.Showing.{BeginsSame, IsBetween, MayShow, shown_of}
+use Rattle.bench_world.specs.Showing.{BeginsSame, IsBetweenCommands, MayShow, shown_of}
 use Rattle.bench_world.proofs.AlikeStates.{alike_back, alike_steps}
 use Rattle.bench_world.proofs.ShowingSteps.{numbers_show}
 
@@ -46,7 +46,7 @@ pub begins_with : (made told : List Event) (good : ℕ) → BeginAlike made told
 begins_with made told good b = sym (take-append-drop good made) ∙ ap (λ es. es ++ drop good made) b.same
 
 -- this entry was made by the numbers that these events show
-module _ (s u : State) (between : IsBetween s) (c : Command) (shows : MayShow s c) (h : Given) (e : Entry) (step : LegalStep s h e u) (asked : e.command ≡ c)
+module _ (s u : State) (between : IsBetweenCommands s) (c : Command) (shows : MayShow s c) (h : Given) (e : Entry) (step : LegalStep s h e u) (asked : e.command ≡ c)
     (told : List Event) (shown : h.joins ≡ shown_of s c told) where
   -- one of an alike state that begins with some of them has its events begin so
   same_front : (t v : State) (g : Given) (f : Entry) (es more rest : List Event) → told ≡ es ++ more → Alike s t → LegalStep t g f v → f.command ≡ c → f.events ≡ es ++ rest → BeginsSame es rest e.events

@@ -9,7 +9,7 @@ use Rattle.bench_script.specs.declared.command.Command.{Command}
 use Rattle.bench_script.specs.declared.command.Command.TheVariants.{Put, Get, Lookup, OnPut, OnGet, Puts, Unlink, Read, Read3, Write, Write3}
 use Rattle.bench_world.specs.Asked.{IsOnLink, asked_on_link}
 use Rattle.bench_world.specs.Calls.{OfEnd, accepting_if, due_asked, with_accepted}
-use Rattle.bench_world.specs.Legal.{State, CutFront, CutShort, IsAskedBy, Joins, changed, end_of}
+use Rattle.bench_world.specs.Legal.{State, CutFront, CutShort, IsAskedBy, Joins, changed, peer_end_of}
 use Rattle.bench_world.specs.Links.{OpenLink, is_number}
 use Rattle.bench_world.specs.World.{FarEnd}
 use Rattle.bench_world.proofs.CallNotes.{calls_plain, closings_plain}
@@ -73,5 +73,5 @@ of_any None h = absurd h
 of_any (Some end) h = h
 
 -- so it is where nothing is added
-pub ends_stay : (s : State) (l : OpenLink) (more : List Received) → OfEnd (λ end. more ≡ []) (end_of s l) → (now ends : List (Option FarEnd)) → now ≡ with_accepted more l.peer s.peers.numbers ends → now ≡ ends
-ends_stay s l more none now ends e = e ∙ ap (λ xs. with_accepted xs l.peer s.peers.numbers ends) (of_any (end_of s l) none) ∙ none_accepted l.peer s.peers.numbers ends
+pub ends_stay : (s : State) (l : OpenLink) (more : List Received) → OfEnd (λ end. more ≡ []) (peer_end_of s l) → (now ends : List (Option FarEnd)) → now ≡ with_accepted more l.peer s.peers.numbers ends → now ≡ ends
+ends_stay s l more none now ends e = e ∙ ap (λ xs. with_accepted xs l.peer s.peers.numbers ends) (of_any (peer_end_of s l) none) ∙ none_accepted l.peer s.peers.numbers ends

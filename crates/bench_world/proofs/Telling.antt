@@ -32,7 +32,7 @@ use Rattle.bench_devices.specs.Reading.{Shows, ShowsOf}
 use Rattle.bench_devices.specs.Phases.{FailsRead, IsEnd, Reads, Searches, SearchesField}
 use Rattle.bench_world.specs.declared.entry.Answer.{Answer}
 use Rattle.bench_world.specs.declared.entry.Answer.TheVariants as answers
-use Rattle.bench_world.specs.Answering.{poll_answer, told_by, MayEnd, TellsFault, TellsFound}
+use Rattle.bench_world.specs.Answering.{poll_answer, read_answer, MayEnd, TellsFault, TellsFound}
 use Rattle.bench_world.specs.Crowded.{seen_all, is_crowd}
 use Rattle.bench_world.specs.Reading.{Tells}
 
@@ -144,7 +144,7 @@ told_once : (a b : Answer) → ◌≡◌ {A = Option Answer} (Some a) (Some b) �
 told_once a b e = cc
 
 -- the answer tells of the store what the read shows of it
-pub shows_tells : (how : How) (size : ℕ) (store : List ℕ) (r : Result Found ReadFault) (answer : Answer) → told_by r ≡ Some answer → Shows how size store r → Tells how size store answer
+pub shows_tells : (how : How) (size : ℕ) (store : List ℕ) (r : Result Found ReadFault) (answer : Answer) → read_answer r ≡ Some answer → Shows how size store r → Tells how size store answer
 shows_tells how size store (Ok found) answer e is =
     subst (Tells how size store) (told_once (answers.Message found.message found.writable) answer e) (is.held, site_access how size store found.site found.writable is.site)
 shows_tells how size store (Err reading.NotNdef) answer e is = subst (Tells how size store) (told_once answers.NotNdef answer e) is
@@ -161,21 +161,21 @@ shows_tells how size store (Err reading.Memory) answer e is = absurd is
 shows_tells how size store (Err reading.Protocol) answer e is = absurd is
 
 -- where an answer tells of it, memory wasn't wanting
-pub fed_by : (r : Result Found ReadFault) (answer : Answer) → told_by r ≡ Some answer → r ≡ Err reading.Memory → ⊥
-fed_by r answer told m = no_answer answer (sym (ap told_by m) ∙ told)
+pub fed_by : (r : Result Found ReadFault) (answer : Answer) → read_answer r ≡ Some answer → r ≡ Err reading.Memory → ⊥
+fed_by r answer told m = no_answer answer (sym (ap read_answer m) ∙ told)
 
 pub poll_fed : (e : PollFault) (answer : Answer) → poll_answer e ≡ Some answer → ◌≡◌ {A = Result Everybody PollFault} (Err e) (Err faults.Memory) → ⊥
 poll_fed e answer told m = no_answer answer (sym (ap poll_answer (same_fault e faults.Memory m)) ∙ told)
 
 -- and of a fault of a wait
-pub fails_tells : (r : Result Found ReadFault) (answer : Answer) → told_by r ≡ Some answer → (e : AskFault) → FailsRead e r → TellsFault e answer
-fails_tells r answer told asking.FieldLost is = told_once answer answers.FieldLost (sym told ∙ ap told_by is)
-fails_tells r answer told asking.SixBad is = told_once answer answers.SixBad (sym told ∙ ap told_by is)
+pub fails_tells : (r : Result Found ReadFault) (answer : Answer) → read_answer r ≡ Some answer → (e : AskFault) → FailsRead e r → TellsFault e answer
+fails_tells r answer told asking.FieldLost is = told_once answer answers.FieldLost (sym told ∙ ap read_answer is)
+fails_tells r answer told asking.SixBad is = told_once answer answers.SixBad (sym told ∙ ap read_answer is)
 fails_tells r answer told asking.Memory is = absurd is
 fails_tells r answer told asking.Protocol is = absurd is
 
 -- the field alone is told as lost
-lost_only : (r : Result Found ReadFault) → told_by r ≡ Some answers.FieldLost → r ≡ Err reading.FieldLost
+lost_only : (r : Result Found ReadFault) → read_answer r ≡ Some answers.FieldLost → r ≡ Err reading.FieldLost
 lost_only (Ok found) e = absurd cc
 lost_only (Err reading.NotNdef) e = absurd cc
 lost_only (Err reading.Version) e = absurd cc
@@ -190,14 +190,14 @@ lost_only (Err reading.SixBad) e = absurd cc
 lost_only (Err reading.Memory) e = absurd cc
 lost_only (Err reading.Protocol) e = absurd cc
 
-pub lost_told : (r : Result Found ReadFault) (answer : Answer) → told_by r ≡ Some answer → (n : ℕ) → (r ≡ Err reading.FieldLost) ↔ (0 < n) → (answer ≡ answers.FieldLost) ↔ (0 < n)
+pub lost_told : (r : Result Found ReadFault) (answer : Answer) → read_answer r ≡ Some answer → (n : ℕ) → (r ≡ Err reading.FieldLost) ↔ (0 < n) → (answer ≡ answers.FieldLost) ↔ (0 < n)
 lost_told r answer told n lost = (
   λ is. lost.0 (lost_only r (told ∙ ap Some is)),
-  λ some. told_once answer answers.FieldLost (sym told ∙ ap told_by (lost.1 some)),
+  λ some. told_once answer answers.FieldLost (sym told ∙ ap read_answer (lost.1 some)),
 )
 
 -- likewise of six bad receptions
-six_only : (r : Result Found ReadFault) → told_by r ≡ Some answers.SixBad → r ≡ Err reading.SixBad
+six_only : (r : Result Found ReadFault) → read_answer r ≡ Some answers.SixBad → r ≡ Err reading.SixBad
 six_only (Ok found) e = absurd cc
 six_only (Err reading.NotNdef) e = absurd cc
 six_only (Err reading.Version) e = absurd cc
@@ -212,7 +212,7 @@ six_only (Err reading.SixBad) e = refl
 six_only (Err reading.Memory) e = absurd cc
 six_only (Err reading.Protocol) e = absurd cc
 
-pub six_told : (r : Result Found ReadFault) (answer : Answer) → told_by r ≡ Some answer → answer ≡ answers.SixBad → r ≡ Err reading.SixBad
+pub six_told : (r : Result Found ReadFault) (answer : Answer) → read_answer r ≡ Some answer → answer ≡ answers.SixBad → r ≡ Err reading.SixBad
 six_told r answer told is = six_only r (told ∙ ap Some is)
 
 -- How a search ended, and the answer that tells it.

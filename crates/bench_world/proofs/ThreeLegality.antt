@@ -33,7 +33,7 @@ use Rattle.bench_devices.specs.declared.device.Device.TheVariants.{T2, T3, T4, P
 use Rattle.bench_devices.specs.declared.polling.SeenKind.TheVariants as seen
 use Rattle.bench_devices.specs.Answering.{TellsStanding}
 use Rattle.bench_devices.specs.Device.{BenchWorld, air, devices, device_id, device_locks, device_store, device_tech, kind_of}
-use Rattle.bench_devices.specs.Keeping.{AllKeepBut, Changes, IsSound, Kept, Leaves, NoStore, StoreOf, held_by, images_of, kept}
+use Rattle.bench_devices.specs.Keeping.{AllKeepBut, Changes, IsSound, Kept, LeavesDevices, NoStore, StoreOf, held_by, images_of, kept}
 use Rattle.bench_devices.specs.Kinds.{DeviceKind, T2Kind, T3Kind, T4Kind, PeerKind, T5Kind}
 use Rattle.bench_devices.specs.Phases.{AsksTag, IsIdle}
 use Rattle.bench_devices.specs.Placed.{IfPlaced, OfPlaced, device_with}
@@ -439,15 +439,15 @@ module _ (old mid : Air Device) (id : List ℕ) (place : ℕ) (idle : IsIdle old
   sound_here : IsSoundOne id old.listeners
   sound_here = sound_one id old idle
 
-  left_behind : (new : Air Device) (fs : List Event) → Leaves (StoreOf (device_id s.device)) (moment mid).world fs (moment new).world
-      → Leaves (StoreOf id) (moment old).world (s.seeks.asked.going.events ++ fs) (moment new).world
+  left_behind : (new : Air Device) (fs : List Event) → LeavesDevices (StoreOf (device_id s.device)) (moment mid).world fs (moment new).world
+      → LeavesDevices (StoreOf id) (moment old).world (s.seeks.asked.going.events ++ fs) (moment new).world
   left_behind new fs left =
       leaves_behind id (moment old).world (moment mid).world (moment new).world s.seeks.asked.going.events fs sound_here s.seeks.asked.same
-      (subst (λ i. Leaves (StoreOf i) (moment mid).world fs (moment new).world) s.three.1 left)
+      (subst (λ i. LeavesDevices (StoreOf i) (moment mid).world fs (moment new).world) s.three.1 left)
 
   -- the stores, from before it was selected on
   stores_behind : (new : Air Device) (message : List ℕ) (commands : List Signal) (ks : List Note) (h : Going air (waits_next commands) (moment mid) (moment new) ks) (r : WriteEnd3)
-      → Leaves (StoreOf (device_id s.device)) (moment mid).world h.events (moment new).world → KeepsWrite3Law message s.device r (moment mid).world h.events
+      → LeavesDevices (StoreOf (device_id s.device)) (moment mid).world h.events (moment new).world → KeepsWrite3Law message s.device r (moment mid).world h.events
       → FieldStores3 (moment old).world id message r (s.seeks.asked.going.events ++ h.events)
   stores_behind new message commands ks h r left law =
       let es : List Event = s.seeks.asked.going.events ++ h.events in

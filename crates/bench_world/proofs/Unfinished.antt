@@ -1,6 +1,6 @@
 -- What a command that want of memory cut off leaves of what devices hold.
 use Rattle.bench_world.specs.Forging.{opens_link}
-use Rattle.bench_world.specs.Legal.{begun}
+use Rattle.bench_world.specs.Legal.{world_at_start}
 use Rattle.bench_world.specs.Halting.{ForgeHalts, RawHalts, halted_at}
 use Rattle.nfc_base.specs.Signal.{Signal}
 use Rattle.bench_world.proofs.ForgeLeft.{cut_devices}
@@ -139,7 +139,7 @@ call_stays s joins asked c cut (Some l) still call = call.devices
 -- Frames of a script's own may do what any frame may.
 raw_left : (s t : State) (g : Given) (id : DeviceId) (frames : List Signal) (cut : List Event) → FrontOf s g (Raw id frames) cut None t → AllStayDevices s.world.field.listeners t.world.field.listeners
 raw_left s t g id frames cut front =
-    subst (λ (x : State). AllStayDevices s.world.field.listeners x.world.field.listeners) (sym front.after) (far_stay cut (begun s g.joins (Raw id frames))).stay
+    subst (λ (x : State). AllStayDevices s.world.field.listeners x.world.field.listeners) (sym front.after) (far_stay cut (world_at_start s g.joins (Raw id frames))).stay
 
 front_left : (s t : State) (g : Given) (c : Command) (cut : List Event) → FrontOf s g c cut None t → CutStores s g.joins c cut → Unfinished s c cut t
 front_left s t g Find cut front stores = front_stays s t g Find cut front (ap (λ (z : Stable). z.devices) stores)

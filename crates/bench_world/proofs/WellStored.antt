@@ -30,7 +30,7 @@ use Rattle.bench_world.specs.Asked.{asked_on_link, slot_messages}
 use Rattle.bench_world.specs.Calls.{IfLinked, due_asked, due_if}
 use Rattle.bench_world.specs.Forging.{opens_link}
 use Rattle.bench_world.specs.Links.{OpenLink}
-use Rattle.bench_world.specs.Legal.{AnswerBy, AnswerLaw, CallLaw, CrowdLaw, FindLaw, ForgeLaw, FrontOf, Given, LegalStep, LinkingLaw, MayPlaceT3, MayRaw, Read3Law, ReadLaw, SenseLaw, State, Writing3Law, WritingLaw, begun, changed, due, due_by, state_after, world_after}
+use Rattle.bench_world.specs.Legal.{AnswerBy, AnswerLaw, CallLaw, CrowdLaw, FindLaw, ForgeLaw, FrontOf, Given, LegalStep, LinkingLaw, MayPlaceT3, MayRaw, Read3Law, ReadLaw, SenseLaw, State, Writing3Law, WritingLaw, world_at_start, changed, due, due_by, state_after, world_after}
 use Rattle.bench_world.specs.Threes.{AreWellStored, IfThree, IsWellStored, KeepsStores3, WriteEnd3, end_told}
 use Rattle.bench_world.specs.Writing.{KeepsStores, ending_told}
 use Rattle.bench_world.specs.World.{Stable, WholeWorld, bench_air, stable}
@@ -215,7 +215,7 @@ module _ (s t : State) (g : Given) (e : Entry) (step : LegalStep s g e t) (sound
 
   asked_well : (c : Command) → e.command ≡ c → (changed s c).world.field ≡ s.world.field → (stable (world_after s g.joins c e.events)).devices ≡ (stable (changed s c).world).devices → Well t
   asked_well c is still stays =
-      let w : WholeWorld = begun s g.joins c in
+      let w : WholeWorld = world_at_start s g.joins c in
       let after : t ≡ state_after s g.joins c e.events (Some e.answer) = step.front.after ∙ ap (λ k. state_after s g.joins k e.events (Some e.answer)) is in
       subst Well (sym after)
       (stored_stays w.field.listeners (replay bench_air w e.events).field.listeners (far_stay e.events w).stay stays (subst (λ (x : BenchWorld). AreWellStored x.listeners) (sym still) well))
@@ -288,7 +288,7 @@ module _ (s t : State) (g : Given) (e : Entry) (step : LegalStep s g e t) (sound
       let may : MayRaw s i frames = front.accepted in
       let each : AllByRecursion IsNoF frames = frames_no_f i frames (recursion_from_All (λ (f : Signal). f.tech ≡ tech_for i) frames may.each) in
       let asked : EachAsked IsNoF e.events = each_asked IsNoF (due s g c) (raws_no_f frames each i) [] e.events front.each in
-      subst Well (sym front.after) (events_well e.events (begun s g.joins c) asked well)
+      subst Well (sym front.after) (events_well e.events (world_at_start s g.joins c) asked well)
   by_command (Put m) is = talk_well (Does (put_from 0 (message_of m))) (Put m) is refl (law_of (Put m) is)
   by_command (Get most key) is = talk_well (Does (Getting client_sap most key)) (Get most key) is refl (law_of (Get most key) is)
   by_command (Lookup name) is = talk_well (Does (Finding name)) (Lookup name) is refl (law_of (Lookup name) is)

@@ -22,7 +22,7 @@ use Rattle.bench_devices.specs.Polling.{asks, selecting}
 use Rattle.bench_devices.specs.TagAsking.{then_asks, tag_due}
 use Rattle.bench_devices.specs.CardAsking.{tag_next}
 use Rattle.bench_devices.specs.Placed.{device_with, OfPlaced, IfPlaced}
-use Rattle.bench_devices.specs.Keeping.{Kept, kept, IsSound, StoreOf, AllKeepBut, Leaves, held_by}
+use Rattle.bench_devices.specs.Keeping.{Kept, kept, IsSound, StoreOf, AllKeepBut, LeavesDevices, held_by}
 use Rattle.bench_devices.specs.Phases.{WriteEnd, FailsWrite, Selects, SelectsAt, SelectionCut, Writes, WritesSome, IsIdle}
 use Rattle.bench_devices.specs.Writing.{AsksWriteOf, ShowsWrite, KeepsWriteLaw}
 use Rattle.bench_devices.proofs.EveryFrame.{IsSoundOne, leaves_more, leaves_behind}
@@ -160,15 +160,15 @@ module _ (old mid : Air Device) (id : DeviceId) (m : Msg) (place : ℕ) (idle : 
       → Going air (tag_due id commands) (moment old) (moment new) (s.selects.asked.notes ++ ks)
   of_both new commands ks h = both id (seen_of s.device) commands (moment old) (moment mid) (moment new) s.selects.asked.notes ks s.selects.told s.selects.asked.going h
 
-  left_behind : (new : Air Device) (fs : List Event) → Leaves (StoreOf (device_id s.device)) (moment mid).world fs (moment new).world
-      → Leaves (StoreOf (bytes_of id)) (moment old).world (s.selects.asked.going.events ++ fs) (moment new).world
+  left_behind : (new : Air Device) (fs : List Event) → LeavesDevices (StoreOf (device_id s.device)) (moment mid).world fs (moment new).world
+      → LeavesDevices (StoreOf (bytes_of id)) (moment old).world (s.selects.asked.going.events ++ fs) (moment new).world
   left_behind new fs left =
       leaves_behind (bytes_of id) (moment old).world (moment mid).world (moment new).world s.selects.asked.going.events fs (sound_one old id idle) s.selects.asked.same
-      (subst (λ i. Leaves (StoreOf i) (moment mid).world fs (moment new).world) s.named left)
+      (subst (λ i. LeavesDevices (StoreOf i) (moment mid).world fs (moment new).world) s.named left)
 
   -- the stores, from before it was selected on
   stores_behind : (new : Air Device) (commands : List Signal) (ks : List Note) (h : Going air (tag_next (seen_of s.device) commands) (moment mid) (moment new) ks) (ending : Ending)
-      → may_be_read s.device ≡ true → Leaves (StoreOf (device_id s.device)) (moment mid).world h.events (moment new).world → KeepsWriteLaw (message_of m) s.device ending (moment mid).world h.events
+      → may_be_read s.device ≡ true → LeavesDevices (StoreOf (device_id s.device)) (moment mid).world h.events (moment new).world → KeepsWriteLaw (message_of m) s.device ending (moment mid).world h.events
       → FieldStores (moment old).world (bytes_of id) (message_of m) ending (s.selects.asked.going.events ++ h.events)
   stores_behind new commands ks h ending tag left law =
       let es : List Event = s.selects.asked.going.events in

@@ -40,24 +40,24 @@ poll_answer faults.NotFound = Some answers.NotFound
 poll_answer faults.BadAnswer = None
 
 -- The answer that tells what a read came to. The other faults never end one on the bench.
-abbrev pub told_by : Result Found ReadFault → Option Answer
-told_by (Ok found) = Some (answers.Message found.message found.writable)
-told_by (Err reading.NotNdef) = Some answers.NotNdef
-told_by (Err reading.Version) = Some answers.Version
-told_by (Err reading.NoRead) = Some answers.NoRead
-told_by (Err reading.Sectors) = Some answers.Sectors
-told_by (Err reading.BadSize) = Some answers.BadSize
-told_by (Err reading.NoMessageTlv) = Some answers.NoMessageTlv
-told_by (Err reading.BadTlv) = Some answers.BadTlv
-told_by (Err (reading.Refused code)) = None
-told_by (Err reading.FieldLost) = Some answers.FieldLost
-told_by (Err reading.SixBad) = Some answers.SixBad
-told_by (Err reading.Memory) = None
-told_by (Err reading.Protocol) = None
+abbrev pub read_answer : Result Found ReadFault → Option Answer
+read_answer (Ok found) = Some (answers.Message found.message found.writable)
+read_answer (Err reading.NotNdef) = Some answers.NotNdef
+read_answer (Err reading.Version) = Some answers.Version
+read_answer (Err reading.NoRead) = Some answers.NoRead
+read_answer (Err reading.Sectors) = Some answers.Sectors
+read_answer (Err reading.BadSize) = Some answers.BadSize
+read_answer (Err reading.NoMessageTlv) = Some answers.NoMessageTlv
+read_answer (Err reading.BadTlv) = Some answers.BadTlv
+read_answer (Err (reading.Refused code)) = None
+read_answer (Err reading.FieldLost) = Some answers.FieldLost
+read_answer (Err reading.SixBad) = Some answers.SixBad
+read_answer (Err reading.Memory) = None
+read_answer (Err reading.Protocol) = None
 
 -- a read that an answer tells of, or want of memory
 abbrev pub MayEnd : Result Found ReadFault → Type 0
-MayEnd r = IsSome (told_by r) ⊎ (r ≡ Err reading.Memory)
+MayEnd r = IsSome (read_answer r) ⊎ (r ≡ Err reading.Memory)
 
 -- The answer that tells what a write came to. The other faults never end one on the bench.
 abbrev pub written_by : WriteEnd → Option Answer

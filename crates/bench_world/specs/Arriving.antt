@@ -5,7 +5,7 @@ use Rattle.nfc_base.specs.Choosing.{Choosing}
 use Rattle.nfc_base.specs.declared.event.Event.{Event}
 use Rattle.llcp_link.specs.State.{restarted}
 use Rattle.snep_core.specs.Server.{serving}
-use Rattle.link_calls.specs.Arriving.{Arrives, ArrivesCut, IsCounted}
+use Rattle.link_calls.specs.Arriving.{Arrives, ArrivesCut, IsCountedTo}
 use Rattle.bench_world.specs.Calls.{IfLinked, OfEnd}
 use Rattle.bench_world.specs.Links.{OpenLink, end_numbered}
 use Rattle.bench_world.specs.World.{FarEnd}
@@ -20,7 +20,7 @@ pub record ArrivesAt (l : OpenLink) (numbers : List (Option ℕ)) (counts : List
   pub new : Choosing FarEnd
   pub arrives : Arrives l.initiator.core.number events (record { end = old; numbers = counts }) new
   pub accepted : OfEnd (λ end. end.service.accepted ≡ new.end.service.accepted) (end_numbered l.peer numbers behind)
-  pub going : IfLinked now (λ k. (end_numbered l.peer numbers behind ≡ Some new.end) × IsCounted l.initiator.core.number events k.initiator.core.number) (Unit {0})
+  pub going : IfLinked now (λ k. (end_numbered l.peer numbers behind ≡ Some new.end) × IsCountedTo l.initiator.core.number events k.initiator.core.number) (Unit {0})
 
 -- So it is in a command that want of memory cut off, but for the last payload, at which the end may have stopped.
 pub record ArrivesCutAt (l : OpenLink) (numbers : List (Option ℕ)) (counts : List ℕ) (before behind : List (Option FarEnd)) (events : List Event) : Type 0 where

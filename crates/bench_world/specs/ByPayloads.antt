@@ -7,7 +7,7 @@ use Rattle.llcp_link.specs.Taking.{Item, steps}
 use Rattle.llcp_link.specs.Taking as taking
 use Rattle.llcp_link.specs.Units.{Mark, marks, units}
 use Rattle.snep_core.specs.Payloads.{AcceptsPuts, AllPut, accepted_from}
-use Rattle.llcp_conn.specs.Window.{IsFront}
+use Rattle.nfc_base.specs.Prefix.{IsPrefix}
 use Rattle.snep_core.specs.Server.{serving}
 use Rattle.llcp_pdu.specs.Wire.{sap_count}
 use Rattle.bench_world.specs.Arrivals.{Arrival, arrival_marks, end_at, end_behind, payloads_of}
@@ -25,7 +25,7 @@ abbrev pub IfPayloads : (Story → Type 0) → Story → Type 0
 IfPayloads P y = IfOpenedBy y.opener (P y)
 
 -- A place in what came to an end: some first of its payloads, and some first of the PDUs of the payload that came next.
-pub record Place (begun : FarEnd) (arrivals : List Arrival) : Type 0 where
+pub record PlaceInArrivals (begun : FarEnd) (arrivals : List Arrival) : Type 0 where
   pub before : List Arrival
   pub next : Arrival
   pub more : List Arrival
@@ -34,7 +34,7 @@ pub record Place (begun : FarEnd) (arrivals : List Arrival) : Type 0 where
   pub behind : List Item
   pub parts : taking.brought (end_at (end_behind begun before) next) next.payload ≡ came ++ behind
 
-module _ {begun : FarEnd} {arrivals : List Arrival} (p : Place begun arrivals) where
+module _ {begun : FarEnd} {arrivals : List Arrival} (p : PlaceInArrivals begun arrivals) where
   -- the end as the payload found it, and at the place
   abbrev pub found : FarEnd
   found = end_at (end_behind begun p.before) p.next
@@ -47,10 +47,10 @@ module _ {begun : FarEnd} {arrivals : List Arrival} (p : Place begun arrivals) w
   marks_there c = arrival_marks c begun p.before ++ marks serving c found p.came
 
 -- What was accepted until there is what the PDUs until there put, and the first of all that was accepted.
-pub record AcceptsUntil (y : Story) (p : Place y.begun y.arrivals) : Type 0 where
+pub record AcceptsUntil (y : Story) (p : PlaceInArrivals y.begun y.arrivals) : Type 0 where
   pub puts : (c : ℕ) → c < sap_count
       → AcceptsPuts c y.begun.service.limit y.begun.miu (marks_there p c) y.begun.service.accepted (end_there p).service.accepted
-  pub front : IsFront (end_there p).service.accepted (y.begun.service.accepted ++ y.gained)
+  pub front : IsPrefix (end_there p).service.accepted (y.begun.service.accepted ++ y.gained)
 
 -- The peer's end began the link, and then answered just the payloads that arrived, counted from PNI 0, each by its
 -- number and with the values that its server gave then. What the server accepted then is what it had, and what its list
@@ -63,7 +63,7 @@ pub record IsByPayloads (y : Story) : Type 0 where
   pub accepted : (end_behind y.begun y.arrivals).service.accepted ≡ y.begun.service.accepted ++ y.gained
   pub puts : (c : ℕ) → c < sap_count
       → AllPut y.begun.service.limit (units c y.begun.miu None (arrival_marks c y.begun y.arrivals)) (accepted_from c y.gained)
-  pub order : (p : Place y.begun y.arrivals) → AcceptsUntil y p
+  pub order : (p : PlaceInArrivals y.begun y.arrivals) → AcceptsUntil y p
 
 -- What the units put begins with these messages.
 pub record PutsAtLeast (limit : ℕ) (us : List (List (List ℕ))) (messages : List (List ℕ)) : Type 0 where
@@ -78,8 +78,8 @@ pub record IsFrontOfPayloads (y : Story) : Type 0 where
   pub old : FarEnd
   pub begins : y.begun ≡ restarted serving old y.general
   pub payloads : payloads_of y.arrivals ≡ brought 0 y.events
-  pub front : IsFront (y.begun.service.accepted ++ y.gained) (end_behind y.begun y.arrivals).service.accepted
+  pub front : IsPrefix (y.begun.service.accepted ++ y.gained) (end_behind y.begun y.arrivals).service.accepted
   pub least : (before : List Arrival) (last : Arrival) → y.arrivals ≡ before ++ last ∷ []
-      → IsFront (end_behind y.begun before).service.accepted (y.begun.service.accepted ++ y.gained)
+      → IsPrefix (end_behind y.begun before).service.accepted (y.begun.service.accepted ++ y.gained)
   pub puts : (c : ℕ) → c < sap_count
       → PutsAtLeast y.begun.service.limit (units c y.begun.miu None (arrival_marks c y.begun y.arrivals)) (accepted_from c y.gained)

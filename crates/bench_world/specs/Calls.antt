@@ -12,7 +12,7 @@ use Rattle.snep_core.specs.declared.fault.SnepFault.TheVariants as faults
 use Rattle.snep_core.specs.declared.job.Refusal.TheVariants as refusals
 use Rattle.snep_core.specs.declared.slot.Outcome.{Outcome}
 use Rattle.snep_core.specs.declared.slot.Outcome.TheVariants as outcomes
-use Rattle.snep_core.specs.Accord.{Refuses}
+use Rattle.snep_core.specs.Accord.{RefusesGet}
 use Rattle.snep_core.specs.Links.{Told, Success, Rejected, Unanswered}
 use Rattle.snep_core.specs.Payloads.{accepted_from}
 use Rattle.snep_core.specs.declared.job.Ending.{Ending}
@@ -225,9 +225,9 @@ pub record AllAdd (ws : List SlotMessage) (end : FarEnd) (told : List Told) (mor
 abbrev pub GetTells : ℕ → List ℕ → FarEnd → Answer → Type 0
 GetTells most key end (answers.Value v) = (length key ≤ end.service.limit) × (value_of key end.service.table ≡ Some v) × (length v ≤ most)
 GetTells most key end answers.Reject = end.service.limit < length key
-GetTells most key end answers.NotImplemented = (length key ≤ end.service.limit) × Refuses end.service.table most key faults.NotImplemented
-GetTells most key end answers.NoValue = (length key ≤ end.service.limit) × Refuses end.service.table most key faults.NotFound
-GetTells most key end answers.Excess = (length key ≤ end.service.limit) × Refuses end.service.table most key faults.Excess
+GetTells most key end answers.NotImplemented = (length key ≤ end.service.limit) × RefusesGet end.service.table most key faults.NotImplemented
+GetTells most key end answers.NoValue = (length key ≤ end.service.limit) × RefusesGet end.service.table most key faults.NotFound
+GetTells most key end answers.Excess = (length key ≤ end.service.limit) × RefusesGet end.service.table most key faults.Excess
 GetTells most key end (answers.LinkEnded loss) = Unit {0}
 GetTells most key end _ = ⊥
 

@@ -30,7 +30,7 @@ use Rattle.bench_world.specs.Asked.{asked_on_link}
 use Rattle.bench_world.specs.Calls.{HadSixBad, OfEnd}
 use Rattle.bench_world.specs.Completing.{IsQuietOnce}
 use Rattle.bench_world.specs.Journal.{LeadsTo}
-use Rattle.bench_world.specs.Legal.{State, Given, Joins, LegalStep, end_of}
+use Rattle.bench_world.specs.Legal.{State, Given, Joins, LegalStep, peer_end_of}
 use Rattle.bench_world.specs.Linking.{own_general}
 use Rattle.bench_world.specs.Links.{OpenLink}
 use Rattle.bench_world.specs.World.{FarEnd}
@@ -85,7 +85,7 @@ peer_answer Closes end = answers.Unlinked
 abbrev pub IsComplete : LinkAsking → Type 0
 IsComplete asked =
     (s t : State) (g : Given) (e : Entry) (l : OpenLink) → LegalStep s g e t → asked_on_link e.command ≡ Some asked → s.link ≡ Some l
-    → OfEnd (λ end. (e.answer ≡ peer_answer asked end) ↔ IsUndisturbedOn l g.joins.own e.command e.events) (end_of s l)
+    → OfEnd (λ end. (e.answer ≡ peer_answer asked end) ↔ IsUndisturbedOn l g.joins.own e.command e.events) (peer_end_of s l)
 
 abbrev pub AskedComplete : Type 0
 AskedComplete = (asked : LinkAsking) → IsComplete asked
@@ -148,7 +148,7 @@ IsOk end c answer = IsOkBy (asked_on_link c) end answer
 
 abbrev pub ValidIsOk : Type 0
 ValidIsOk =
-    (s t : State) (g : Given) (e : Entry) (l : OpenLink) (end : FarEnd) → LegalStep s g e t → s.link ≡ Some l → end_of s l ≡ Some end → IsValid end e.command
+    (s t : State) (g : Given) (e : Entry) (l : OpenLink) (end : FarEnd) → LegalStep s g e t → s.link ≡ Some l → peer_end_of s l ≡ Some end → IsValid end e.command
     → IsUndisturbedOn l g.joins.own e.command e.events → IsOk end e.command e.answer
 
 -- Nothing kept the opening of a link, by an initiator of this MIU, from its answer. Once a peer is selected, ATR_REQ

@@ -16,7 +16,7 @@ use Rattle.bench_devices.specs.declared.device.Device.{Device}
 use Rattle.bench_devices.specs.Device.{device_end}
 use Rattle.bench_world.specs.declared.entry.Answer.{Answer}
 use Rattle.bench_world.specs.Calls.{IfLinked}
-use Rattle.bench_world.specs.Legal.{FrontOf, Given, Joins, State, begun, first_state}
+use Rattle.bench_world.specs.Legal.{FrontOf, Given, Joins, State, world_at_start, first_state}
 use Rattle.bench_world.specs.Links.{OpenLink}
 use Rattle.bench_world.specs.World.{FarEnd, WholeWorld, bench_air}
 
@@ -92,4 +92,4 @@ FrontsCut =
 abbrev pub MidstCuts : Type 0
 MidstCuts =
     (s : State) (joins : Joins) (c : Command) (events : List Event)
-    → CutsWell s → WorldCuts (replay bench_air (begun s joins c) events)
+    → CutsWell s → WorldCuts (replay bench_air (world_at_start s joins c) events)

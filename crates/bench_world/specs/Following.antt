@@ -14,7 +14,7 @@ use Rattle.bench_world.specs.Halting.{CutOff}
 use Rattle.bench_world.specs.Legal.{State, Given, Joins, Accepts, LegalStep}
 use Rattle.bench_world.specs.Obeying.{Benched}
 use Rattle.bench_world.specs.ReadBack.{AreOnAir}
-use Rattle.bench_world.specs.Showing.{IsBetween, MayShow}
+use Rattle.bench_world.specs.Showing.{IsBetweenCommands, MayShow}
 use Rattle.bench_world.specs.Unfinished.{Unfinished}
 
 -- Two courses part: one is over, or the next events differ.
@@ -53,7 +53,7 @@ MayFollow s c = Accepts s c × MayShow s c
 -- PDUs, and the machines are in the state that its step leads to.
 pub record FollowsAll (old new : Benched) (line : ℕ) (c : Command) (events : List Event) : Type 0 where
   pub sound : old.spoiled ≡ false
-  pub between : IsBetween old.state
+  pub between : IsBetweenCommands old.state
   pub shows : MayShow old.state c
   pub entry : Entry
   pub state : State
@@ -77,7 +77,7 @@ NoneHas s c es = (t u : State) (g : Given) (e : Entry) → Alike s t → LegalSt
 -- is as before, and the machines are in the state that the step of an entry leads to which begins so.
 pub record FollowsFront (old new : Benched) (line : ℕ) (c : Command) (events : List Event) (good : ℕ) : Type 0 where
   pub sound : old.spoiled ≡ false
-  pub between : IsBetween old.state
+  pub between : IsBetweenCommands old.state
   pub shows : MayShow old.state c
   pub made : Entry
   pub state : State

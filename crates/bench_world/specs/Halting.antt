@@ -24,7 +24,7 @@ use Rattle.bench_world.specs.Calls.{OfEnd, PeerMayAdd, with_accepted}
 use Rattle.bench_world.specs.Arriving.{ArrivesCutAt, ArrivesCutWithin}
 use Rattle.bench_world.specs.Forging.{forged_general, opens_link}
 use Rattle.bench_world.specs.Rawing.{raw_opens}
-use Rattle.bench_world.specs.Legal.{State, Joins, Given, IsPeerPlaced, unlinked, due, peers_forged, end_of, FrontOf, CutShort}
+use Rattle.bench_world.specs.Legal.{State, Joins, Given, IsPeerPlaced, unlinked, due, peers_forged, peer_end_of, FrontOf, CutShort}
 
 -- What a command may add at most to what the peer's server accepted, at which its end stopped.
 abbrev pub HaltAdded : Option LinkAsking → FarEnd → List Accepted → Type 0
@@ -40,7 +40,7 @@ HaltAdds c end more = HaltAdded (asked_on_link c) end more
 pub record HaltLeaves (s : State) (c : Command) (l : OpenLink) (t : State) : Type 0 where
   pub talk : (own : List ℕ) × (place : ℕ) × TalkLeaves own place s.world.field.listeners t.world.field.listeners
   pub more : List Accepted
-  pub adds : OfEnd (λ end. HaltAdds c end more) (end_of s l)
+  pub adds : OfEnd (λ end. HaltAdds c end more) (peer_end_of s l)
   pub ends : (stable t.world).ends ≡ with_accepted more l.peer s.peers.numbers (stable s.world).ends
   pub peers : t.peers ≡ ended (Some l) t.world.fars s.peers
   pub link : t.link ≡ None

@@ -28,17 +28,17 @@ abbrev pub gained_in : LinkRange → List Accepted → List Accepted
 gained_in l ms = chosen (is_in l) 0 ms
 
 -- messages as they are told of a link, each with the SAP that it came from
-abbrev pub told_of : ℕ → List Accepted → List Received
-told_of link ms = map (λ (m : Accepted). record { link = link; source = m.source; message = m.message }) ms
+abbrev pub received_on : ℕ → List Accepted → List Received
+received_on link ms = map (λ (m : Accepted). record { link = link; source = m.source; message = m.message }) ms
 
 -- for each link of this peer, ascending, the messages of its range; the first link of the list has this number
 abbrev pub told_by_links : ℕ → List LinkRange → ℕ → List Accepted → List Received
 told_by_links n [] peer ms = []
-told_by_links n (l ∷ ls) peer ms = (if nat_eq l.peer peer then told_of n (gained_in l ms) else []) ++ told_by_links (n + 1) ls peer ms
+told_by_links n (l ∷ ls) peer ms = (if nat_eq l.peer peer then received_on n (gained_in l ms) else []) ++ told_by_links (n + 1) ls peer ms
 
 -- first what came on no link, as of link 0, and then what came on each
 abbrev pub inbox_of : List LinkRange → ℕ → List Accepted → List Received
-inbox_of links peer ms = told_of 0 (chosen (λ n. not (came_on_link links peer n)) 0 ms) ++ told_by_links 1 links peer ms
+inbox_of links peer ms = received_on 0 (chosen (λ n. not (came_on_link links peer n)) 0 ms) ++ told_by_links 1 links peer ms
 
 -- what is told of a peer by its number and its far end; a peer has both
 abbrev pub inbox_at : List LinkRange → Option ℕ → Option FarEnd → List Received

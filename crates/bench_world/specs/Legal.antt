@@ -374,12 +374,12 @@ abbrev pub due : State → Given → Command → List Note → Next
 due s g c ns = due_by (asked_on_link c) s g c ns
 
 -- the world that a command begins in: what it itself changes is changed, and the entry has its numbers
-abbrev pub begun : State → Joins → Command → WholeWorld
-begun s joins c = with_numbers (changed s c).world joins.far
+abbrev pub world_at_start : State → Joins → Command → WholeWorld
+world_at_start s joins c = with_numbers (changed s c).world joins.far
 
 -- the world behind what happened in a command, by these numbers: those that are left go
 abbrev pub world_after : State → Joins → Command → List Event → WholeWorld
-world_after s joins c events = with_numbers (replay bench_air (begun s joins c) events) []
+world_after s joins c events = with_numbers (replay bench_air (world_at_start s joins c) events) []
 
 -- The link that is open behind a command, by these numbers, what happened in it, and what it answered, where it was not
 -- cut off: one that the command opened; the one that it asked something on, by how that ended; and else the one before.
@@ -493,8 +493,8 @@ pub record LinkingLaw (s : State) (joins : Joins) (id : List ℕ) (miu window : 
   pub opens : (n : ℕ) → answer ≡ answers.Linked n → IsSome (link_after s joins (Link id miu window) events (Some answer))
 
 -- the far end of a link's peer
-abbrev pub end_of : State → OpenLink → Option FarEnd
-end_of s l = end_numbered l.peer s.peers.numbers s.world.fars
+abbrev pub peer_end_of : State → OpenLink → Option FarEnd
+peer_end_of s l = end_numbered l.peer s.peers.numbers s.world.fars
 
 -- what arrived at it in a command on the link
 abbrev pub Came : State → Joins → OpenLink → Command → List Event → Answer → Type 0
@@ -505,9 +505,9 @@ Came s joins l c events answer = ArrivesAt l s.peers.numbers joins.far s.world.f
 pub record CallLaw (s : State) (joins : Joins) (l : OpenLink) (asked : LinkAsking) (c : Command) (events : List Event) (answer : Answer) : Type 0 where
   pub told : IsTold (told_asked asked l joins.own events) events answer
   pub came : Came s joins l c events answer
-  pub tells : OfEnd (λ end. PeerTells asked end answer) (end_of s l)
+  pub tells : OfEnd (λ end. PeerTells asked end answer) (peer_end_of s l)
   pub more : List Accepted
-  pub adds : OfEnd (λ end. PeerAdds asked end answer more) (end_of s l)
+  pub adds : OfEnd (λ end. PeerAdds asked end answer more) (peer_end_of s l)
   pub devices : (stable (world_after s joins c events)).devices ≡ (stable s.world).devices
   pub ends : (stable (world_after s joins c events)).ends ≡ with_accepted more l.peer s.peers.numbers (stable s.world).ends
 
@@ -594,7 +594,7 @@ pub record FrontOf (s : State) (g : Given) (c : Command) (events : List Event) (
   pub accepted : Accepts s c
   pub asks : IsAskedBy s c g.asked
   pub takes : g.joins ≡ joins_for c g.joins
-  pub turns : AreTurns bench_air (begun s g.joins c) events
+  pub turns : AreTurns bench_air (world_at_start s g.joins c) events
   pub fates : FatesFrom (changed s c).queue events
   pub each : EachDue (due s g c) [] events
   pub after : t ≡ state_after s g.joins c events told
@@ -614,7 +614,7 @@ CutCame s joins l c cut = ArrivesCutAt l s.peers.numbers joins.far s.world.fars 
 pub record CutCall (s : State) (joins : Joins) (l : OpenLink) (asked : LinkAsking) (c : Command) (cut : List Event) : Type 0 where
   pub came : CutCame s joins l c cut
   pub more : List Accepted
-  pub adds : OfEnd (λ end. PeerMayAdd asked end more) (end_of s l)
+  pub adds : OfEnd (λ end. PeerMayAdd asked end more) (peer_end_of s l)
   pub devices : (stable (world_after s joins c cut)).devices ≡ (stable s.world).devices
   pub ends : (stable (world_after s joins c cut)).ends ≡ with_accepted more l.peer s.peers.numbers (stable s.world).ends
 

@@ -16,7 +16,7 @@ use Rattle.bench_world.specs.declared.entry.Answer.TheVariants as answers
 use Rattle.bench_world.specs.declared.entry.Entry.{Entry}
 use Rattle.bench_world.specs.declared.entry.Received.{Received}
 use Rattle.bench_world.specs.ByPayloads.{IfPayloads, IsByPayloads, IsFrontOfPayloads}
-use Rattle.bench_world.specs.Inbox.{came_on_link, chosen, told_of}
+use Rattle.bench_world.specs.Inbox.{came_on_link, chosen, received_on}
 use Rattle.bench_world.specs.Journal.{LeadsTo}
 use Rattle.bench_world.specs.Legal.{State, Joins, CutShort, first_state}
 use Rattle.bench_world.specs.Halting.{Halts}
@@ -32,13 +32,13 @@ puts_from client (p ∷ ps) = if p.source == client then p.put ∷ puts_from cli
 -- from it and are within the limit. The prefix covers all of them that were told to be taken, and at most one more, which
 -- then is the last put, and wasn't answered. Payloads and frames that are written by hand are no puts of a client: of such a
 -- link this says nothing.
-abbrev pub AcceptsPuts : Opener → Story → Type 0
-AcceptsPuts ByLink y = (client : ℕ) → LinkAccepts y.begun.service.limit (puts_from client y.puts) (accepted_from client y.gained)
-AcceptsPuts ByForge y = Unit {0}
-AcceptsPuts ByRaw y = Unit {0}
+abbrev pub AcceptsByOpener : Opener → Story → Type 0
+AcceptsByOpener ByLink y = (client : ℕ) → LinkAccepts y.begun.service.limit (puts_from client y.puts) (accepted_from client y.gained)
+AcceptsByOpener ByForge y = Unit {0}
+AcceptsByOpener ByRaw y = Unit {0}
 
 abbrev pub KeepsLinkLaw : Story → Type 0
-KeepsLinkLaw y = AcceptsPuts y.opener y
+KeepsLinkLaw y = AcceptsByOpener y.opener y
 
 -- the links are numbered in order
 abbrev pub AreCounted : ℕ → List Story → Type 0
@@ -77,7 +77,7 @@ openers_in (e ∷ es) = opener_of (beginning e.command e.events (Some e.answer))
 -- each message that was gained on a link of this peer, as an inbox tells it
 abbrev pub told_by_stories : List Story → ℕ → List Received
 told_by_stories [] peer = []
-told_by_stories (y ∷ ys) peer = (if nat_eq y.peer peer then told_of y.number y.gained else []) ++ told_by_stories ys peer
+told_by_stories (y ∷ ys) peer = (if nat_eq y.peer peer then received_on y.number y.gained else []) ++ told_by_stories ys peer
 
 -- the number of the peer with an identifier
 abbrev pub peer_under : DeviceId → State → Option ℕ
@@ -93,7 +93,7 @@ gained_aside s peer = chosen (λ n. not (came_on_link s.peers.links peer n)) 0 (
 pub record TellsInbox (s : State) (so_far : List Story) (id : DeviceId) (answer : Answer) : Type 0 where
   pub peer : ℕ
   pub placed : peer_under id s ≡ Some peer
-  pub told : answer ≡ answers.Inbox (told_of 0 (gained_aside s peer) ++ told_by_stories so_far peer)
+  pub told : answer ≡ answers.Inbox (received_on 0 (gained_aside s peer) ++ told_by_stories so_far peer)
 
 -- So does each of a journal, by the entries before it.
 abbrev pub InboxesTell : List Joins → List Entry → Type 0

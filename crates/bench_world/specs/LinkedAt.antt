@@ -23,8 +23,8 @@ use Rattle.bench_world.specs.Links.{with_link}
 use Rattle.bench_world.specs.Obeying.{Machines}
 
 -- the machines with this link
-abbrev pub begun : Machines → ℕ → ℕ → InitState → EndState → Machines
-begun m peer start i client = record {
+abbrev pub machines_at_start : Machines → ℕ → ℕ → InitState → EndState → Machines
+machines_at_start m peer start i client = record {
   air = m.air;
   ends = m.ends;
   peers = with_link (record { peer = peer; start = start; end = None }) m.peers;
@@ -50,7 +50,7 @@ moved_at m air place after = record { air = air; ends = slice_set m.ends place (
 -- wanting.
 abbrev pub LinkLeft : Machines → ℕ → ℕ → ℕ → ℕ → Result (InitState × ArrayVec ℕ) EndCause → Result Answer ObeyFault → Machines → Type 0
 LinkLeft mid miu window peer start (Ok p) (Ok a) new =
-    (a ≡ answers.Linked (length mid.peers.links + 1)) × (new ≡ begun mid peer start p.0 (new_client miu window p.1.items))
+    (a ≡ answers.Linked (length mid.peers.links + 1)) × (new ≡ machines_at_start mid peer start p.0 (new_client miu window p.1.items))
 LinkLeft mid miu window peer start (Ok p) (Err e) new = (e ≡ faults.Memory) × (new ≡ mid)
 LinkLeft mid miu window peer start (Err cause) result new = NotOpened cause result × (new ≡ mid)
 

@@ -14,7 +14,7 @@ use Rattle.bench_world.specs.Asked.{asked_on_link}
 use Rattle.bench_world.specs.Calls.{OfEnd, with_accepted}
 use Rattle.bench_world.specs.CompletingLinks.{peer_answer, link_answer, OpensPlaced}
 use Rattle.bench_world.specs.Journal.{LeadsTo}
-use Rattle.bench_world.specs.Legal.{State, Given, Joins, LegalStep, end_of}
+use Rattle.bench_world.specs.Legal.{State, Given, Joins, LegalStep, peer_end_of}
 use Rattle.bench_world.specs.Links.{OpenLink}
 use Rattle.bench_world.specs.Quiet.{AllPass}
 use Rattle.bench_world.specs.World.{FarEnd, stable}
@@ -60,7 +60,7 @@ StaysBehind Closes l t = Unit {0}
 abbrev pub TalksQuietly : State → Entry → State → Type 0
 TalksQuietly s e t =
     (l : OpenLink) (asked : LinkAsking) → asked_on_link e.command ≡ Some asked → s.link ≡ Some l
-    → OfEnd (IsQuietly s l asked e.answer t) (end_of s l) × StaysBehind asked l t
+    → OfEnd (IsQuietly s l asked e.answer t) (peer_end_of s l) × StaysBehind asked l t
 
 abbrev pub QuietTalks : Type 0
 QuietTalks = (s t : State) (g : Given) (e : Entry) → LegalStep s g e t → AllPass s.queue → TalksQuietly s e t

@@ -39,7 +39,7 @@ abbrev pub shown_of : State → Command → List Event → Joins
 shown_of s c es = shown_by (asked_on_link c) s c es
 
 -- A bench may be in such a state between two commands.
-pub record IsBetween (s : State) : Type 0 where
+pub record IsBetweenCommands (s : State) : Type 0 where
   pub machines : Machines
   pub settled : IsSettled machines
   pub is : s ≡ state_at machines
@@ -65,7 +65,7 @@ MayShow s c = Unit {0}
 abbrev pub NumbersShow : Type 0
 NumbersShow =
     (s t u : State) (g h : Given) (e f : Entry) (es rest more : List Event)
-    → IsBetween s → MayShow s e.command
+    → IsBetweenCommands s → MayShow s e.command
     → LegalStep s g e t → e.events ≡ es ++ rest
     → LegalStep s h f u → f.command ≡ e.command → h.joins ≡ shown_of s e.command (es ++ more)
     → BeginsSame es rest f.events
@@ -74,7 +74,7 @@ NumbersShow =
 abbrev pub EventsTell : Type 0
 EventsTell =
     (s t u : State) (g h : Given) (e f : Entry)
-    → IsBetween s → LegalStep s g e t → LegalStep s h f u
+    → IsBetweenCommands s → LegalStep s g e t → LegalStep s h f u
     → f.command ≡ e.command → f.events ≡ e.events
     → IsToldSame s e.command g.joins h.joins e.events
 
@@ -82,6 +82,6 @@ EventsTell =
 abbrev pub EntriesLeaveAlike : Type 0
 EntriesLeaveAlike =
     (s t u : State) (g h : Given) (e : Entry)
-    → IsBetween s → MayShow s e.command
+    → IsBetweenCommands s → MayShow s e.command
     → LegalStep s g e t → LegalStep s h e u
     → Alike t u

@@ -28,7 +28,7 @@ use Rattle.bench_world.specs.Linking.{own_general}
 use Rattle.bench_world.specs.Forging.{forged_general, opens_link}
 use Rattle.bench_world.specs.Peers.{placed_under}
 use Rattle.bench_world.specs.Rawing.{raw_opens}
-use Rattle.bench_world.specs.Legal.{State, Joins, changed, end_of, first_state, state_after}
+use Rattle.bench_world.specs.Legal.{State, Joins, changed, peer_end_of, first_state, state_after}
 
 -- what happened of a command, by which numbers of PDUs, and what was told of it, nothing where it was cut off; an entry
 -- is one
@@ -69,9 +69,9 @@ pub record Story : Type 0 where
   pub gained : List Accepted
 
 -- How messages that were put were told of, in their order: by the answer, and where they were cut off they weren't.
-abbrev pub told_all : List SlotMessage → Option Answer → List Told
-told_all ws None = none_told ws
-told_all ws (Some answer) = told_each ws answer
+abbrev pub told_in_order : List SlotMessage → Option Answer → List Told
+told_in_order ws None = none_told ws
+told_in_order ws (Some answer) = told_each ws answer
 
 -- each is put from the SAP of its slot
 abbrev pub puts_told : List SlotMessage → List Told → List LinkPut
@@ -80,7 +80,7 @@ puts_told _ _ = []
 
 -- what a stretch puts
 abbrev pub puts_of : Option LinkAsking → Option Answer → List LinkPut
-puts_of (Some (Does (Putting ws))) told = puts_told ws (told_all ws told)
+puts_of (Some (Does (Putting ws))) told = puts_told ws (told_in_order ws told)
 puts_of asked told = []
 
 abbrev pub puts_in : Command → Option Answer → List LinkPut
@@ -180,13 +180,13 @@ new_story number opener peer general end = record {
 }
 
 -- a story begins with a link that is open then, to this end of its peer
-abbrev pub first_of : ℕ → List ℕ → ℕ → Option FarEnd → List Story
-first_of number general peer None = []
-first_of number general peer (Some end) = new_story number ByLink peer general end ∷ []
+abbrev pub story_of : ℕ → List ℕ → ℕ → Option FarEnd → List Story
+story_of number general peer None = []
+story_of number general peer (Some end) = new_story number ByLink peer general end ∷ []
 
 abbrev pub story_if : ℕ → List ℕ → Option OpenLink → State → List Story
 story_if number general None t = []
-story_if number general (Some l) t = first_of number general l.peer (end_of t l)
+story_if number general (Some l) t = story_of number general l.peer (peer_end_of t l)
 
 -- A link that is over where its stretch is has the next number. Its peer's end, which stood so, began it with its general
 -- bytes; and its story is what happened in the stretch.

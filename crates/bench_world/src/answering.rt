@@ -4,7 +4,7 @@ ghost use Rattle.std.specs.Prelude.{◌≡◌, ◌⊎◌, Some, Err, IfOk, OnErr
 ghost use Rattle.nfca_poll.specs.declared.fault.PollFault.TheVariants as faults;
 ghost use Rattle.tag_reader.specs.declared.fault.ReadFault.TheVariants as reading;
 ghost use Rattle.tag_writer.specs.declared.fault.WriteFault.TheVariants as writing;
-ghost use Rattle.bench_world.specs.Answering.{poll_answer, three_told, told_by, MayEnd, written_by, MayEndWrite};
+ghost use Rattle.bench_world.specs.Answering.{poll_answer, three_told, read_answer, MayEnd, written_by, MayEndWrite};
 ghost use Rattle.t3t_access.specs.declared.fault.T3Fault.TheVariants as three;
 ghost use Rattle.bench_world.specs.Threes.{told_three, MayEnd3, written_three, MayEndWrite3};
 ghost use Rattle.bench_world.specs.Crowded.{seen_card, seen_all, is_crowd};
@@ -47,7 +47,7 @@ pub fn sensed(found: Fcrowd) -> Answer
 /// The answer that tells what a read came to. A tag of the bench refuses no READ that is asked, and answers as it may.
 pub fn told(read: Result<Found, ReadFault>) -> Result<Answer, AllocError>
     requires { MayEnd read }
-    ensures ok { IfOk result (λ answer. told_by read ≡ Some answer) }
+    ensures ok { IfOk result (λ answer. read_answer read ≡ Some answer) }
     ensures starved { OnErr result (read ≡ Err reading.Memory) }
 {
     match read {
@@ -71,7 +71,7 @@ fn message(found: Found) -> Answer
 /// The answer that tells why there is no message.
 fn unread(fault: ReadFault) -> Result<Answer, AllocError>
     requires { MayEnd (Err fault) }
-    ensures ok { IfOk result (λ answer. told_by (Err fault) ≡ Some answer) }
+    ensures ok { IfOk result (λ answer. read_answer (Err fault) ≡ Some answer) }
     ensures starved { OnErr result (fault ≡ reading.Memory) }
 {
     match fault {

@@ -1,7 +1,7 @@
 //! What a peer's server accepted, by the links on which it came.
 
 ghost use Rattle.std.specs.Prelude.{◌≡◌, ◌+◌, ◌<◌, ◌^◌, ◌++◌, ◌∷◌, length, drop, not, IfOk, OnOk};
-ghost use Rattle.bench_world.specs.Inbox.{is_before, is_in, came_on_link, chosen, told_of, told_by_links, inbox_of};
+ghost use Rattle.bench_world.specs.Inbox.{is_before, is_in, came_on_link, chosen, received_on, told_by_links, inbox_of};
 
 use crate::entry::Received;
 use nfc_base::Items;
@@ -51,8 +51,8 @@ fn came_on_link(links: &[LinkRange], peer: u64, place: usize) -> bool
 /// One of the messages that a server accepted, as it is told of a link.
 fn received(alloc: Global, server: &Server, place: usize, link: u32) -> Result<Received, AllocError>
     requires { place < length server.now.accepted }
-    ensures { IfOk result (λ r. told_of link (drop place server.now.accepted)
-        ≡ r ∷ told_of link (drop (place + 1) server.now.accepted)) }
+    ensures { IfOk result (λ r. received_on link (drop place server.now.accepted)
+        ≡ r ∷ received_on link (drop (place + 1) server.now.accepted)) }
 {
     Ok(Received {
         link,
@@ -69,7 +69,7 @@ fn add_others(
     peer: u64,
 ) -> Result<(), AllocError>
     ensures { OnOk result (told.new.items ≡ told.old.items
-        ++ told_of 0 (chosen (λ n. not (came_on_link links.now peer n)) 0 server.now.accepted)) }
+        ++ received_on 0 (chosen (λ n. not (came_on_link links.now peer n)) 0 server.now.accepted)) }
 {
     'places: for place in 0..server.accepted().len() {
         if !came_on_link(links, peer, place) {
@@ -87,7 +87,7 @@ fn add_range(
     number: u32,
 ) -> Result<(), AllocError>
     ensures { OnOk result (told.new.items ≡ told.old.items
-        ++ told_of number (chosen (is_in link.now) 0 server.now.accepted)) }
+        ++ received_on number (chosen (is_in link.now) 0 server.now.accepted)) }
 {
     'places: for place in 0..server.accepted().len() {
         if link.has(place) {

@@ -3,7 +3,7 @@
 ghost use Rattle.std.specs.Prelude.{◌≡◌, ◌≢◌, ◌<◌, List, Option, None, false, length, get_or, IfSome};
 ghost use Rattle.llcp_conn.specs.Conn.{IsWindow};
 ghost use Rattle.llcp_pdu.specs.General.{IsMiu};
-ghost use Rattle.bench_world.specs.LinkedAt.{NotOpened, begun, OpensAt};
+ghost use Rattle.bench_world.specs.LinkedAt.{NotOpened, machines_at_start, OpensAt};
 ghost use Rattle.bench_world.specs.Linking.{own_params, new_client};
 ghost use Rattle.bench_world.specs.Links.{accepted_by, end_numbered, is_number, last_ended};
 ghost use Rattle.bench_world.specs.Peers.{set_under};
@@ -378,7 +378,7 @@ impl Machines {
         requires slots { client.slots ≡ fresh_slots }
         requires rest { IsAtRest client.slots }
         ensures ok { IfOk result (λ a. a ≡ Answer.Linked (length self.old.peers.links + 1)) }
-        ensures opened { OnOk result (self.new ≡ begun self.old peer start initiator client.llc) }
+        ensures opened { OnOk result (self.new ≡ machines_at_start self.old peer start initiator client.llc) }
         ensures err { IfErr result (λ e. e ≡ ObeyFault.Memory) }
         ensures same { OnErr result (self.new ≡ self.old) }
     {

@@ -40,7 +40,7 @@ use Rattle.dep_link.specs.Frames.{air_frame, spelled}
 use Rattle.dep_link.specs.Target.{TargetState, TargetTurn, target_table, framed, heeded, restarted, atr_res}
 use Rattle.dep_link.specs.Initiator.{InitState, waiting}
 use Rattle.dep_link.specs.Exchange.{InStep, IsCut}
-use Rattle.dep_link.specs.Answering.{reply_for, payload_of, answering, answering_air}
+use Rattle.dep_link.specs.Answering.{reply_for, payload_handed, answering, answering_air}
 use Rattle.dep_link.specs.Peers.{target_use, answered_with, left_with}
 use Rattle.dep_link.specs.Asking.{HasPeer}
 use Rattle.dep_link.specs.Activating.{atr_req, atr_frame, told_atr, RestartedTimes, sent_times, HasTarget, AtrSent, AtrLost, IsActivated, AtrFails, AtrEnds, Activates}
@@ -211,7 +211,7 @@ module _ {L F : Type 0} (k : Ghosts L) (laws : Laws k) (target : L → TargetSta
   After new far bad h = ByHeard (AtrLost k target restarts old new general far0 far) (λ g. Came new far g) (On new far (suc bad)) h
 
   nothing_in : (x : Fate) (u : FarUse) → u ≡ Restarts general → HandsNothing x u
-  nothing_in Pass u e = ap payload_of e
+  nothing_in Pass u e = ap payload_handed e
   nothing_in Damage u e = tt
   nothing_in Lose u e = tt
   nothing_in Break u e = tt

@@ -15,19 +15,19 @@ use Rattle.air_core.specs.Turn.{Air, after_event, brought, Meets, HearAll, HearS
 use Rattle.air_core.specs.Quiet.{EachQuiet, QuietTurn}
 use Rattle.air_core.proofs.Quiet.{quiet_always, quiet_turn, quiet_goes_on}
 use Rattle.dep_link.specs.Sizes.{limit}
-use Rattle.dep_link.specs.Answering.{reply_for, payload_of, answering}
+use Rattle.dep_link.specs.Answering.{reply_for, payload_handed, answering}
 use Rattle.dep_link.specs.Stopping.{HeardUpTo}
 
 -- what was handed over in a turn whose request had this fate
 abbrev pub handed_by : Fate → FarUse → Option (List ℕ)
-handed_by Pass u = payload_of u
+handed_by Pass u = payload_handed u
 handed_by Damage u = None
 handed_by Lose u = None
 handed_by Break u = None
 
 -- nothing was handed over in a turn whose request had this fate
 abbrev pub HandsNothing : Fate → FarUse → Type 0
-HandsNothing Pass u = payload_of u ≡ None
+HandsNothing Pass u = payload_handed u ≡ None
 HandsNothing Damage u = Unit {0}
 HandsNothing Lose u = Unit {0}
 HandsNothing Break u = Unit {0}
@@ -91,7 +91,7 @@ module _ {L A : Type 0} (m : Machine L) (restarts : A → List ℕ → A → Typ
       let d = did_none r (hands_over m l f) far far' s.reply s.far q in
       (d.0, meets_by r l far far' answer l' s d.1)
 
-  did_nothing : (r : List ℕ) (u : FarUse) (far far' : A) (reply : Option (List ℕ)) → FarDid restarts steps u far reply far' → payload_of u ≡ None → reply ≡ reply_for r u
+  did_nothing : (r : List ℕ) (u : FarUse) (far far' : A) (reply : Option (List ℕ)) → FarDid restarts steps u far reply far' → payload_handed u ≡ None → reply ≡ reply_for r u
   did_nothing r Untouched far far' reply d e = d.1
   did_nothing r (Restarts general) far far' reply d e = d.1
   did_nothing r (Hands payload) far far' reply d e = absurd (cc)
@@ -125,7 +125,7 @@ module _ {L A : Type 0} (m : Machine L) (restarts : A → List ℕ → A → Typ
       )
 
   -- where it hands nothing over, any reply would do
-  all_any : (r : List ℕ) (before : List L) (l : L) (behind : List L) (far far' : A) (said : List Signal) (ls' : List L) → EachQuiet m f before → EachQuiet m f behind → payload_of (hands_over m l f) ≡ None
+  all_any : (r : List ℕ) (before : List L) (l : L) (behind : List L) (far far' : A) (said : List Signal) (ls' : List L) → EachQuiet m f before → EachQuiet m f behind → payload_handed (hands_over m l f) ≡ None
       → HearAll m restarts steps f (before ++ l ∷ behind) far said ls' far' → AllAnswer r (before ++ l ∷ behind) said ls'
   all_any r [] l behind far far' said ls' p q e h =
       (h.0, h.1, h.2, tt, h.4, meets_by r l far h.3 h.0 h.2 h.5 (did_nothing r (hands_over m l f) far h.3 h.5.reply h.5.far e), (all_quiet r behind h.3 far' h.1 h.4 q h.6).1, h.7, h.8)
@@ -194,7 +194,7 @@ module _ {L A : Type 0} (m : Machine L) (restarts : A → List ℕ → A → Typ
     passes_answered : (old : Air L) (far : A) (heard : Option Heard) (new : Air L) (far' : A) → old.listeners ≡ before ++ l ∷ behind
         → Passes m restarts steps old f far heard new far'
         → (r : List ℕ) × (length r ≤ limit) × FarDid restarts steps (hands_over m l f) far (reply_for r (hands_over m l f)) far' × Passes (answering m r) restarts_told steps_told old f tt heard new tt
-        × (payload_of (hands_over m l f) ≡ None → (x : List ℕ) → Passes (answering m x) restarts_told steps_told old f tt heard new tt)
+        × (payload_handed (hands_over m l f) ≡ None → (x : List ℕ) → Passes (answering m x) restarts_told steps_told old f tt heard new tt)
     passes_answered old far heard new far' split h =
         let all = subst (λ (ls : List L). HearAll m restarts steps f ls far h.answers h.listeners far') split h.all in
         let k = all_but_one before l behind far far' h.answers h.listeners p q all in (

@@ -30,7 +30,7 @@ use Rattle.dep_link.specs.Exchange.{frames_of}
 use Rattle.dep_link.specs.Answering.{answering_air}
 use Rattle.dep_link.specs.Asking.{Standing, Rests, asks, dep_next, HasPeer, ExchangeTurns, EndsBy}
 use Rattle.dep_link.specs.Sizes.{limit}
-use Rattle.dep_link.specs.DepLinks.{DepSeen, since, brought, told_end, StandsAt, IsDepReady, Exchanged, Carries}
+use Rattle.dep_link.specs.DepLinks.{DepSeen, since, brought, told_end, StandsAt, IsDepReady, PayloadExchanged, Carries}
 use Rattle.dep_link.proofs.Wire.{frames_append}
 
 abbrev pub cut : ℕ → List ℕ → List (List ℕ) → Cut
@@ -123,12 +123,12 @@ module _ {L F : Type 0} (k : Ghosts L) (target : L → TargetState) (steps : F �
     abbrev Lost : Option EndCause → Type 0
     Lost over = over ≡ Some FieldLost → (breaks (since a) < breaks (since (at new j over))) × (new.lit ≡ false)
 
-    exchanged : (over : Option EndCause) (s : Standing) → StandsAt over None j s → Turns new None s → Noisy over → Lost over → Exchanged k target a (at new j over) (record { out = out; did = [] })
+    exchanged : (over : Option EndCause) (s : Standing) → StandsAt over None j s → Turns new None s → Noisy over → Lost over → PayloadExchanged k target a (at new j over) (record { out = out; did = [] })
     exchanged over s st x n f =
         record { begins = open_link; start = r.start; peer = r.peer; same = (refl, refl); last = last; short = short; bytes = bytes; exchange = (s, x, st); noisy = n; lost = f }
 
     exchanged_step : (over : Option EndCause) (reply : List ℕ) (s : Standing) → StandsAt over (Some reply) j s → Turns new (Some reply) s → Noisy over → Lost over
-        → Exchanged k target a (at new j over) (record { out = out; did = Stepped out reply ∷ [] })
+        → PayloadExchanged k target a (at new j over) (record { out = out; did = Stepped out reply ∷ [] })
     exchanged_step over reply s st x n f =
         record { begins = open_link; start = r.start; peer = r.peer; same = (refl, refl); last = last; short = short; bytes = bytes; exchange = (refl, (s, x, st)); noisy = n; lost = f }
 

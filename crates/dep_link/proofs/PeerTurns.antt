@@ -26,7 +26,7 @@ use Rattle.dep_link.specs.declared.target.TargetStep.{TargetStep}
 use Rattle.dep_link.specs.declared.target.TargetStep.TheVariants as steps
 use Rattle.dep_link.specs.Target.{TargetState, target_table, darkened}
 use Rattle.dep_link.specs.Exchange.{nfc_dep, target_does}
-use Rattle.dep_link.specs.Answering.{reply_for, payload_of, answering}
+use Rattle.dep_link.specs.Answering.{reply_for, payload_handed, answering}
 use Rattle.dep_link.specs.Peers.{target_use, answered_with, left_with, IsAsked, IsShort, heard_with, StepsByTarget, IsPeer}
 use Rattle.dep_link.proofs.Answered.{handed_by, moved_by, hands_nothing, AnsweredTurn, answered_turn, Told}
 
@@ -105,7 +105,7 @@ settled_state first r t (steps.Asleep f) = refl
 settled_state first r t (steps.Released f) = refl
 
 -- what the target asks of the far end is what was handed over
-settled_asks : (first : ℕ) (r : List ℕ) (t : TargetState) (d : TargetStep) → (settled (nfc_dep first) r t (target_does d)).asked ≡ payload_of (target_use d)
+settled_asks : (first : ℕ) (r : List ℕ) (t : TargetState) (d : TargetStep) → (settled (nfc_dep first) r t (target_does d)).asked ≡ payload_handed (target_use d)
 settled_asks first r t steps.Quiet = refl
 settled_asks first r t (steps.Reply f) = refl
 settled_asks first r t (steps.Restart general f) = refl

@@ -20,7 +20,7 @@ use Rattle.dep_link.specs.Payloads.{payloads}
 use Rattle.dep_link.specs.Exchange.{frames_of}
 use Rattle.dep_link.specs.Initiator.{InitState}
 use Rattle.dep_link.specs.Asking.{Standing}
-use Rattle.dep_link.specs.DepLinks.{DepSeen, StandsAt, counts_of, since, brought, dep_view, PeerOf, IsDepReady, ExchangedAs, Exchanged, dep_swaps, Carried, Carries}
+use Rattle.dep_link.specs.DepLinks.{DepSeen, StandsAt, counts_of, since, brought, dep_view, PeerOf, IsDepReady, ExchangedAs, PayloadExchanged, dep_swaps, Carried, Carries}
 use Rattle.nfc_base.proofs.LinkTurns.{arrived_append}
 
 -- the payloads that were handed over in a swap
@@ -49,7 +49,7 @@ module _ {L : Type 0} (k : Ghosts L) (target : L → TargetState) where
   )
   new_events a b t out (d ∷ d' ∷ ds) x = absurd x
 
-  module _ (a b : DepSeen L) (out : List ℕ) (did : List FarStep) (x : Exchanged k target a b (record { out = out; did = did })) where
+  module _ (a b : DepSeen L) (out : List ℕ) (did : List FarStep) (x : PayloadExchanged k target a b (record { out = out; did = did })) where
     new : New a b out did
     new = new_events a b x.peer out did x.exchange
 
@@ -115,7 +115,7 @@ module _ {L : Type 0} (k : Ghosts L) (target : L → TargetState) where
     swap_ready r (c, over, ready) = ready
 
     -- a link is never over by a frame that isn't allowed, where its peer is in step
-    no_protocol : (c : EndCause) (did : List FarStep) → Exchanged k target a b (record { out = out; did = did }) → b.over ≡ Some c → c ≡ Protocol → ⊥
+    no_protocol : (c : EndCause) (did : List FarStep) → PayloadExchanged k target a b (record { out = out; did = did }) → b.over ≡ Some c → c ≡ Protocol → ⊥
     no_protocol c did x e p = never_odd a b x.peer out did x.exchange (e ∙ ap Some p)
 
     left_by : (answered : Bool) (cause : EndCause) (did : List FarStep) → Carried k target steps stops a b out far after did → AskedBy answered cause out did

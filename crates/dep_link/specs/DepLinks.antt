@@ -130,7 +130,7 @@ module _ {L : Type 0} (k : Ghosts L) (target : L → TargetState) where
 
   -- From one moment to another a payload was swapped, of bytes and as long as one may be: each request was due, and nothing else happened
   -- to the field. No wait has six bad receptions where all passed; where the field was lost it is dark, and a transmission lost it.
-  pub record Exchanged (a b : DepSeen L) (s : Swap) : Type 0 where
+  pub record PayloadExchanged (a b : DepSeen L) (s : Swap) : Type 0 where
     pub begins : a.over ≡ None
     pub start : a.start ≤ length a.air.trace
     pub peer : PeerOf a
@@ -144,16 +144,16 @@ module _ {L : Type 0} (k : Ghosts L) (target : L → TargetState) where
 
   -- a swap of this payload, in which the far end made these steps
   abbrev pub dep_swaps : DepSeen L → List ℕ → List FarStep → DepSeen L → Type 0
-  dep_swaps a out did b = Exchanged a b (record { out = out; did = did })
+  dep_swaps a out did b = PayloadExchanged a b (record { out = out; did = did })
 
   -- swaps one after another
   abbrev pub Chained : List Swap → DepSeen L → DepSeen L → Type 0
   Chained [] a b = b ≡ a
-  Chained (s ∷ ss) a b = (mid : DepSeen L) × Exchanged a mid s × Chained ss mid b
+  Chained (s ∷ ss) a b = (mid : DepSeen L) × PayloadExchanged a mid s × Chained ss mid b
 
   -- A payload was swapped, and the far end did this.
   pub record Carried {F : Type 0} (steps : F → List ℕ → List ℕ → F → Type 0) (stops : F → List ℕ → F → Type 0) (old new : DepSeen L) (out : List ℕ) (far after : F) (did : List FarStep) : Type 0 where
-    pub exchanged : Exchanged old new (record { out = out; did = did })
+    pub exchanged : PayloadExchanged old new (record { out = out; did = did })
     pub far_moved : FarMoved steps stops did far after
 
   -- What a swap does on a link that is ready. With a reply it is ready again; a fault ends it, and where all passed that was want

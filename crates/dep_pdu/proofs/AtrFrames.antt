@@ -3,7 +3,7 @@ use Rattle.std.proofs.Common.{◌≡◌, ℕ, ◌+◌, ◌/◌, ◌%◌, ◌<◌
 use Rattle.std.proofs.lemmas.Grind.{common_steps}
 use Rattle.dep_pdu.specs.declared.frame.DepFrame.TheVariants.{AtrReq, AtrRes}
 use Rattle.dep_pdu.specs.Numbers.{start_byte, request, answer, atr_req, atr_res, no_did, general_follow}
-use Rattle.dep_pdu.specs.Spelling.{Open, pp_byte, DepSpelling}
+use Rattle.dep_pdu.specs.Spelling.{LeftOpen, pp_byte, DepSpelling}
 use Rattle.dep_pdu.specs.Refusal.{dep_refusal, is_pp}
 use Rattle.dep_pdu.specs.Reading.{atr_frame}
 use Rattle.dep_pdu.proofs.Named.{pp_of, start_of, len_of}
@@ -20,7 +20,7 @@ fourteen : (P : List ℕ → Type 0) → ((a b c d e f g h i j k m n o : ℕ) (m
 fourteen P p (a ∷ b ∷ c ∷ d ∷ e ∷ f ∷ g ∷ h ∷ i ∷ j ∷ k ∷ m ∷ n ∷ o ∷ more) l = p a b c d e f g h i j k m n o more
 fourteen P p _ l = absurd (omega (arith, l))
 
-open_by : ℕ → ℕ → ℕ → Open
+open_by : ℕ → ℕ → ℕ → LeftOpen
 open_by bs br pp = record { bs = bs; br = br; marked = pp % 16 == general_follow }
 
 req_spelled : (s l a b c d e f g h i j did bs br pp : ℕ) (general : List ℕ)

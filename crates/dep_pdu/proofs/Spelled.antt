@@ -5,7 +5,7 @@ use Rattle.dep_pdu.specs.declared.frame.DepFrame.{DepFrame}
 use Rattle.dep_pdu.specs.declared.frame.DepFrame.TheVariants.{AtrReq, AtrRes, Info, Ack, Nack, Attention, Extend, DslReq, DslRes, RlsReq, RlsRes}
 use Rattle.dep_pdu.specs.declared.pfb.Pfb.TheVariants.{Information, Ack as AckPfb, Nack as NackPfb}
 use Rattle.dep_pdu.specs.Numbers.{request, answer, atr_req, atr_res, information, more_information, ack, nack, extension, no_did, most_times, most_content}
-use Rattle.dep_pdu.specs.Spelling.{Open, pp_byte, pfb_byte, dep_head, body, framed, IsDepFrame, general_of, DepSpelling, plain, written}
+use Rattle.dep_pdu.specs.Spelling.{LeftOpen, pp_byte, pfb_byte, dep_head, body, framed, IsDepFrame, general_of, DepSpelling, plain, written}
 use Rattle.dep_pdu.specs.Refusal.{dep_refusal, head, is_pp, pfb_of}
 use Rattle.dep_pdu.specs.Reading.{frame_of, spelled_frame, unless}
 
@@ -70,7 +70,7 @@ pub record ReadAs (v : DepFrame) (b : List ℕ) : Type 0 where
   pub clean : dep_refusal b ≡ None
   pub value : frame_of (head b) b ≡ Some v
 
-pub read_as : (v : DepFrame) (o : Open) → IsDepFrame v → (0 < length (general_of v) → o.marked ≡ true) → ReadAs v (framed (body o v))
+pub read_as : (v : DepFrame) (o : LeftOpen) → IsDepFrame v → (0 < length (general_of v) → o.marked ≡ true) → ReadAs v (framed (body o v))
 read_as (AtrReq id lr general) o range marked =
     ten (λ id. ReadAs (AtrReq id lr general) (framed (body o (AtrReq id lr general))))
     (λ a b c d e f g h i j. record {

@@ -7,7 +7,7 @@ use Rattle.dep_pdu.specs.Numbers.{start_byte, request, answer, atr_req, atr_res,
 
 -- What a value leaves open in its bytes: the bit rates BS and BR, which this link doesn't use, and whether PP has 02h
 -- where no general bytes follow.
-pub record Open : Type 0 where
+pub record LeftOpen : Type 0 where
   pub bs : ℕ
   pub br : ℕ
   pub marked : Bool
@@ -25,7 +25,7 @@ abbrev pub dep_head : Bool → List ℕ
 dep_head up = if up then answer ∷ dep_res ∷ [] else request ∷ dep_req ∷ []
 
 -- the bytes behind LEN
-abbrev pub body : Open → DepFrame → List ℕ
+abbrev pub body : LeftOpen → DepFrame → List ℕ
 body o (AtrReq id lr general) = request ∷ atr_req ∷ id ++ no_did ∷ o.bs ∷ o.br ∷ pp_byte lr o.marked ∷ general.items
 body o (AtrRes id timeout lr general) = answer ∷ atr_res ∷ id ++ no_did ∷ o.bs ∷ o.br ∷ timeout ∷ pp_byte lr o.marked ∷ general.items
 body o (Info up more pni content) = dep_head up ++ pfb_byte (if more then more_information else information) pni ∷ content.items
@@ -64,12 +64,12 @@ general_of _ = []
 -- The bytes spell the value. Where general bytes follow, PP says so.
 pub record DepSpelling (v : DepFrame) (b : List ℕ) : Type 0 where
   pub range : IsDepFrame v
-  pub open_bytes : Open
+  pub open_bytes : LeftOpen
   pub announced : 0 < length (general_of v) → open_bytes.marked ≡ true
   pub bytes : b ≡ framed (body open_bytes v)
 
 -- The bytes in which this project writes a value: BS and BR are 00h, and PP has 02h just where general bytes follow.
-abbrev pub plain : DepFrame → Open
+abbrev pub plain : DepFrame → LeftOpen
 plain v = record { bs = 0; br = 0; marked = nat_lt 0 (length (general_of v)) }
 
 abbrev pub written : DepFrame → List ℕ

@@ -26,7 +26,7 @@ use Rattle.isodep_link.specs.Reader.{ReaderState, request, begun}
 use Rattle.isodep_link.specs.Commands.{iso_commands}
 use Rattle.isodep_link.specs.Exchange.{blocks_of, IsCut, backs_of}
 use Rattle.isodep_link.specs.Asking.{IsoStanding, Rests, asks, stand, iso_next, HasCardTag, CommandTurns, EndsBy, Exchanges}
-use Rattle.isodep_link.specs.IsoLinks.{IsoSeen, commands_of, IsoStandsAt, most_sent, since, card_backs, iso_view, IsIsoReady, EachOnce, IsoAsks, IsoObeys, IsoMoves, link_after, Exchanged}
+use Rattle.isodep_link.specs.IsoLinks.{IsoSeen, commands_of, IsoStandsAt, most_sent, since, card_backs, iso_view, IsIsoReady, EachOnce, IsoAsks, IsoObeys, IsoMoves, link_after, CommandExchanged}
 use Rattle.isodep_link.specs.IsoMoving.{none_between, moves_again}
 use Rattle.nfc_base.proofs.Leading.{leads_again, rises_again}
 use Rattle.isodep_link.proofs.CardTurns.{Holds}
@@ -396,7 +396,7 @@ module _ {L : Type 0} (k : Ghosts L) (laws : Laws k) (card : L → CardState) (t
     moves = moves_again k card tag from;
   }
 
-  pub all_answers : (r : Result Signal AskFault) → (over ≡ None → Exchanged k.machine from q c r) → (over ≡ None → Exchanges k card tag old q.air place i q.reader c.bytes r)
+  pub all_answers : (r : Result Signal AskFault) → (over ≡ None → CommandExchanged k.machine from q c r) → (over ≡ None → Exchanges k card tag old q.air place i q.reader c.bytes r)
       → ((e : AskFault) → over ≡ Some e → (r ≡ Err e) × (q ≡ from)) → Answers k card tag from q c r
   all_answers r turns does ended = by_over over refl
     where

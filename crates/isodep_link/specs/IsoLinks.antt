@@ -41,7 +41,7 @@ link_after p air i c (Ok answer) = record p { air = air; told = length air.trace
 link_after p air i c (Err fault) = record p { air = air; reader = i; last = Some c; over = Some fault }
 
 -- On a link that wasn't over one command was asked of whatever stands at its place, and this is told by what was heard.
-pub record Exchanged {L : Type 0} (m : Machine L) (p q : IsoSeen L) (c : Signal) (result : Result Signal AskFault) : Type 0 where
+pub record CommandExchanged {L : Type 0} (m : Machine L) (p q : IsoSeen L) (c : Signal) (result : Result Signal AskFault) : Type 0 where
   pub asks : AsksCommand m p.air q.air p.reader q.reader c.bytes result
   pub left : q ≡ link_after p q.air q.reader c result
 

@@ -2,7 +2,7 @@
 
 ghost use Rattle.std.specs.Prelude.{◌≡◌, ◌≤◌, length, Some, None, Err, IfOk};
 ghost use Rattle.nfc_base.specs.declared.tag_link.AskFault.{AskFault};
-ghost use Rattle.isodep_link.specs.IsoLinks.{seen_link, Exchanged, ObeysOnLink};
+ghost use Rattle.isodep_link.specs.IsoLinks.{seen_link, CommandExchanged, ObeysOnLink};
 ghost use Rattle.isodep_link.specs.Activating.{first_link, Opens, ActivatesLink};
 
 use crate::activate::activate_card;
@@ -65,7 +65,7 @@ impl<'a, L: CardListener> IsoLink<'a, L> {
     pub fn exchange(&mut self, command: &Frame) -> Result<Frame, AskFault>
         requires fits { length command.now.bytes ≤ 264 }
         ensures turns { self.old.over ≡ None
-            → Exchanged L.machine (seen_link self.old) (seen_link self.new) command.now result }
+            → CommandExchanged L.machine (seen_link self.old) (seen_link self.new) command.now result }
         ensures tag { self.old.over ≡ None
             → ObeysOnLink L.Listener L.card L.tag (seen_link self.old) (seen_link self.new) command.now result }
         ensures ended { (e : AskFault) → self.old.over ≡ Some e → (result ≡ Err e)

@@ -32,7 +32,7 @@ use Rattle.llcp_link.specs.Counting.{AnswersCounted, StopsCounted}
 use Rattle.snep_core.specs.Accord.{PeerState}
 use Rattle.snep_core.specs.Calling.{payloads}
 use Rattle.snep_core.specs.Server.{serving}
-use Rattle.link_calls.specs.Arriving.{Arrives, IsCounted, StopsAtLast, all_answered, answered}
+use Rattle.link_calls.specs.Arriving.{Arrives, IsCountedTo, StopsAtLast, all_answered, answered}
 
 -- whole steps of a far end, with payloads of bytes
 abbrev pub AreWhole : List FarStep → Type 0
@@ -78,7 +78,7 @@ cut_more first xs ys =
 
 module _ {L : Type 0} (k : Ghosts L) (target : L → TargetState) where
   -- the peer of a link stands where the frames are counted to
-  pub counted_to : (p : DepSeen L) → PeerOf k target p → IsCounted p.first (since p) p.initiator.core.number
+  pub counted_to : (p : DepSeen L) → PeerOf k target p → IsCountedTo p.first (since p) p.initiator.core.number
   counted_to p t =
       let ps : List (List ℕ) = brought p.first (since p) in
       let c : ℕ → List ℕ → Cut = λ n chain. record { next = n; chain = chain; payloads = ps } in
@@ -88,9 +88,9 @@ module _ {L : Type 0} (k : Ghosts L) (target : L → TargetState) where
     since_is : since p ≡ drop (length old.trace) p.air.trace
     since_is = ap (λ n. drop n p.air.trace) start
 
-    pub counted_so : PeerOf k target p → IsCounted i.core.number (drop (length old.trace) p.air.trace) p.initiator.core.number
+    pub counted_so : PeerOf k target p → IsCountedTo i.core.number (drop (length old.trace) p.air.trace) p.initiator.core.number
     counted_so t =
-        let P : ℕ → List Event → Type 0 = λ n es. IsCounted n es p.initiator.core.number in
+        let P : ℕ → List Event → Type 0 = λ n es. IsCountedTo n es p.initiator.core.number in
         subst (λ n. P n (drop (length old.trace) p.air.trace)) first (subst (P p.first) since_is (counted_to p t))
 
     pub arrives_so : (ps : List (List ℕ)) (far after : Choosing PeerState) → brought p.first (since p) ≡ ps → Ran ps far after → Arrives i.core.number (drop (length old.trace) p.air.trace) far after

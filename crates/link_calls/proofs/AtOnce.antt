@@ -17,7 +17,7 @@ use Rattle.snep_core.specs.Payloads.{accepted_from}
 use Rattle.snep_core.specs.Server.{Received}
 use Rattle.snep_core.specs.declared.slot.Slot.{Slot}
 use Rattle.snep_core.specs.declared.slot.Slot.TheVariants.{NoMessage, Rejected, Staged, Success}
-use Rattle.snep_core.specs.Slots.{NoneStaged, all_puts, answered_as, fresh_slots, has_staged, is_staged_at, job_from, marked, noted, noted_from, put_with, puts_from, slot_at, slot_count, staged_on, told_by, put_alone}
+use Rattle.snep_core.specs.Slots.{NoneStaged, all_puts, answered_as, fresh_slots, has_staged, is_staged_at, job_from, marked, noted, noted_from, put_with, puts_from, slot_at, slot_count, staged_on, outcome_told, put_alone}
 use Rattle.snep_core.specs.declared.job.OnSap.{OnSap}
 use Rattle.snep_core.specs.Talk.{EndState, Puts, TaskOn, client_sap, one_on, sap_of_slot}
 use Rattle.snep_core.proofs.SlotPuts.{noted_length, noted_there, slot_there}
@@ -191,7 +191,7 @@ module _ (ws : List SlotMessage) (slots told : List Slot) (old new : PeerState) 
         let marked_is : slot_at (noted jobs final) k ≡ marked (job_from s jobs) (Staged m) =
         sym (slot_there (noted jobs final) client_sap k s refl) ∙ noted_there jobs final client_sap s
         ∙ ap (marked (job_from s jobs)) (slot_there final client_sap k s refl ∙ is) in
-        told_so (told_by (job_from s jobs)) s m old now
+        told_so (outcome_told (job_from s jobs)) s m old now
         (subst (λ x. TellsOf x s m old now) (ap (λ xs. slot_at xs k) told_is ∙ marked_is) (subst (λ x. SlotTells s x (slot_at told k) old now) is (adds.each k few))));
     others = others;
     more = adds.more;

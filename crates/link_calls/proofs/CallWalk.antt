@@ -12,7 +12,7 @@ use Rattle.dep_link.specs.DepLinks.{DepSeen}
 use Rattle.far_air.specs.FarEnds.{FarTable}
 use Rattle.peer_air.specs.SwapTurns.{SwapsFar, StopsFar}
 use Rattle.snep_core.specs.declared.fault.SnepFault.{SnepFault}
-use Rattle.snep_core.specs.Talk.{EndState, Step, Goes, Ends, GivesUp, Told, numbers_behind, ready, replied}
+use Rattle.snep_core.specs.Talk.{EndState, Step, Goes, Ends, GivesUp, ComesTo, numbers_behind, ready, replied}
 use Rattle.snep_core.specs.Calling.{Breaks, IsCut, Talks, fault_of}
 use Rattle.link_calls.specs.Walk.{Underway}
 use Rattle.link_calls.specs.WalkTurns.{WalkCut}
@@ -22,7 +22,7 @@ use Rattle.link_calls.specs.CallTurns.{CutBy, TalksFar, BreaksBy, BreaksFar, Hal
 use Rattle.link_calls.proofs.Walk.{walked, cut}
 
 -- What a call told is told so by its client.
-pub told_so : (ns : List ℕ) (did : List FarStep) (from to : Step) → Told ns from did to → ToldSo by_client (next_of ns from) did (next_of (numbers_behind did ns) to)
+pub told_so : (ns : List ℕ) (did : List FarStep) (from to : Step) → ComesTo ns from did to → ToldSo by_client (next_of ns from) did (next_of (numbers_behind did ns) to)
 told_so ns [] from to e = ap (next_of ns) e
 told_so ns (d ∷ did) (Ends jobs l) to told = absurd told
 told_so ns (d ∷ did) (GivesUp l) to told = absurd told

@@ -19,7 +19,7 @@ use Rattle.dep_link.specs.Sizes.{limit}
 use Rattle.nfc_base.specs.Pieces.{Core, most_bads, turned, more_follows, is_refused, may_extend}
 use Rattle.dep_link.specs.Initiator.{InitState, InitMove, Next, Asks, Gives, GivesUp, Refuses, sends, refuses, bad, received, brought, answered, waited, attending, whole, damaged, silent, heard_next, framed_next}
 use Rattle.dep_link.specs.Asking.{Standing, Waits, Rests, Broken, Astray, asks, goes_by, noted, stand}
-use Rattle.dep_link.specs.DepLinks.{DepSeen, Exchanged, StandsAt, IsDepReady, IsInStep, over_at}
+use Rattle.dep_link.specs.DepLinks.{DepSeen, PayloadExchanged, StandsAt, IsDepReady, IsInStep, over_at}
 
 -- an initiator that gives a reply is free then
 abbrev Frees : InitMove → Type 0
@@ -153,7 +153,7 @@ rests_open i j out reply ns e = free_open j.phase (subst IsFreeAt e (stand_free 
 
 module _ {L : Type 0} (k : Ghosts L) (target : L → TargetState) where
   -- a swap that was answered, on a link that isn't over then
-  pub swap_open : (a b : DepSeen L) (out reply : List ℕ) → Exchanged k target a b (record { out = out; did = Stepped out reply ∷ [] }) → b.over ≡ None → over_at b.initiator.phase true ≡ None
+  pub swap_open : (a b : DepSeen L) (out reply : List ℕ) → PayloadExchanged k target a b (record { out = out; did = Stepped out reply ∷ [] }) → b.over ≡ None → over_at b.initiator.phase true ≡ None
   swap_open a b out reply x goes =
       let turns = x.exchange.1 in
       let e : turns.0 ≡ Rests b.initiator reply = subst (λ (o : Option EndCause). StandsAt o (Some reply) b.initiator turns.0) goes turns.2 in

@@ -12,14 +12,14 @@ use Rattle.llcp_conn.specs.Conn.{ConnState, Took, queued, gives, gives_ack, repo
 use Rattle.llcp_link.specs.Own.{OwnGave, ack_on, unit_on}
 use Rattle.llcp_link.specs.State.{Queued, OwnState, Holder, Nobody, Served, Asked, conn_from, own_from, holder, with_own, with_conn}
 use Rattle.llcp_pdu.specs.Wire.{sap_count}
-use Rattle.llcp_link.specs.Names.{rw_of, reached, name_of, answers_to, told_all}
+use Rattle.llcp_link.specs.Names.{rw_of, reached, name_of, answers_to, lookups_told}
 use Rattle.llcp_link.specs.Taking as t
 use Rattle.llcp_link.specs.Taking.{Item, Good, Broken, taken_from, brought, step, steps, steps_part}
 use Rattle.llcp_link.specs.Giving as g
 use Rattle.llcp_link.specs.Giving.{Gave, GaveAll, first_from, gave, gave_none, joined, given_so, given_parts, after_giving, or_else, sap_after}
 use Rattle.llcp_link.specs.Answering.{Answers, IsStuckGiving, Stops}
 use Rattle.llcp_link.specs.Counting.{AnswersCounted, StopsCounted}
-use Rattle.llcp_link.specs.Halting.{IsStuck, Leaves}
+use Rattle.llcp_link.specs.Halting.{IsStuck, LeavesService}
 use Rattle.llcp_link.specs.Offering.{LeavesNext, LeftBy}
 use Rattle.llcp_link.proofs.Ranged.{either}
 use Rattle.snep_core.specs.Accord.{PeerState}
@@ -89,7 +89,7 @@ module _ (z : Setting) where
   part_is l (Dm d s reason) h = h
   part_is l (Disc d s) h = leaves_is l d s (holder l d s) h
   part_is l (Frmr d s r) h = ends_is l (holder l d s) h
-  part_is l (Snl ps) h = tells_is (record l { lookups = told_all ps l.lookups }) (answers_to l.bound (l.far_miu / 4) ps) h
+  part_is l (Snl ps) h = tells_is (record l { lookups = lookups_told ps l.lookups }) (answers_to l.bound (l.far_miu / 4) ps) h
   part_is l (Info d s ns nr info) h = numbered_is l (λ c. takes c (Info d s ns nr info)) d s (holder l d s) h
   part_is l (Rr d s nr) h = numbered_is l (λ c. takes c (Rr d s nr)) d s (holder l d s) h
   part_is l (Rnr d s nr) h = numbered_is l (λ c. takes c (Rnr d s nr)) d s (holder l d s) h
@@ -200,7 +200,7 @@ record IsSet (old new : ServerState) : Type 0 where
   pub limit : new.limit ≡ old.limit
   pub table : new.table ≡ old.table
 
-left_set : (old new : ServerState) → Leaves serving old new → IsSet old new
+left_set : (old new : ServerState) → LeavesService serving old new → IsSet old new
 left_set old new (inl e) = record { limit = ap (λ s. s.limit) e; table = ap (λ s. s.table) e }
 left_set old new (inr k) = record { limit = k.limit; table = k.table }
 

@@ -2,7 +2,7 @@
 use Rattle.std.proofs.Common.{◌≡◌, ◌⊎◌, ◌≤◌, ◌<◌, ℕ, zero, suc, List, [], ◌∷◌, ◌++◌, length, drop, Bool, true, false, Option, Some, None, refl, sym, ◌∙◌, ap, subst, inl, inr, arith, append_assoc, append-nil}
 use Rattle.nfc_base.specs.Choosing.{Choosing}
 use Rattle.nfc_base.specs.Trace.{noise}
-use Rattle.nfc_base.specs.Links.{AskedBy, BySwaps, FarMoved, FarStep, Stepped, Stopped, payload_of}
+use Rattle.nfc_base.specs.Links.{AskedBy, BySwaps, FarMoved, FarStep, Stepped, Stopped, step_payload}
 use Rattle.nfc_base.specs.declared.carrier.EndCause.{EndCause}
 use Rattle.nfc_base.specs.declared.carrier.EndCause.TheVariants as cause
 use Rattle.air_core.specs.Turn.{Air}
@@ -52,14 +52,14 @@ module _ {L C : Type 0} (k : Ghosts L) (target : L → TargetState) (see : C →
   -- swaps one by one are a chain of them
   chain : (did : List FarStep) (a b : C) → BySwaps Swaps did a b → (ss : List Swap) × Chained k target ss (see a) (see b)
   chain [] a b e = ([], ap see e)
-  chain (x ∷ did) a b (mid, one, rest) = let z = chain did mid b rest in (record { out = payload_of x; did = x ∷ [] } ∷ z.0, (see mid, one, z.1))
+  chain (x ∷ did) a b (mid, one, rest) = let z = chain did mid b rest in (record { out = step_payload x; did = x ∷ [] } ∷ z.0, (see mid, one, z.1))
 
   -- and one more behind them
   chain_to : (did more : List FarStep) (out : List ℕ) (a m b : C) → BySwaps Swaps did a m → Swaps m out more b → (ss : List Swap) × Chained k target ss (see a) (see b)
   chain_to [] more out a m b e one =
       (record { out = out; did = more } ∷ [], (see b, subst (λ z. Swaps z out more b) e one, refl))
   chain_to (x ∷ did) more out a m b (mid, first, rest) one =
-      let z = chain_to did more out mid m b rest one in (record { out = payload_of x; did = x ∷ [] } ∷ z.0, (see mid, first, z.1))
+      let z = chain_to did more out mid m b rest one in (record { out = step_payload x; did = x ∷ [] } ∷ z.0, (see mid, first, z.1))
 
   starts : (did : List FarStep) (a b : C) → BySwaps Swaps did a b → (see b).start ≡ (see a).start
   starts [] a b e = ap (λ z. (see z).start) e

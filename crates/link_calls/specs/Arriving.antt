@@ -44,5 +44,5 @@ abbrev pub ArrivesCut : ℕ → List Event → Choosing PeerState → Choosing P
 ArrivesCut first events far after = Arrives first events far after ⊎ StopsAtLast first events far after
 
 -- Behind these events, counted from that PNI, this PNI is next, and no piece of a payload came.
-abbrev pub IsCounted : ℕ → List Event → ℕ → Type 0
-IsCounted first events next = cut_by (begins first) (frames_of (arrived events)) ≡ record { next = next; chain = []; payloads = brought first events }
+abbrev pub IsCountedTo : ℕ → List Event → ℕ → Type 0
+IsCountedTo first events next = cut_by (begins first) (frames_of (arrived events)) ≡ record { next = next; chain = []; payloads = brought first events }

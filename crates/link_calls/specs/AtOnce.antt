@@ -9,7 +9,7 @@ use Rattle.snep_core.specs.Accord.{Accords, AddsFrom, PeerState, WasAdded, WasRe
 use Rattle.snep_core.specs.Payloads.{accepted_from}
 use Rattle.snep_core.specs.Server.{Received}
 use Rattle.snep_core.specs.declared.slot.Slot.{Slot}
-use Rattle.snep_core.specs.Slots.{NoneStaged, all_puts, fresh_slots, job_from, most_staged, slot_count, staged_on, told_by}
+use Rattle.snep_core.specs.Slots.{NoneStaged, all_puts, fresh_slots, job_from, most_staged, slot_count, staged_on, outcome_told}
 use Rattle.snep_core.specs.declared.job.OnSap.{OnSap}
 use Rattle.snep_core.specs.Talk.{EndState, TaskOn, sap_of_slot}
 use Rattle.link_calls.specs.declared.request.SlotMessage.{SlotMessage}
@@ -45,7 +45,7 @@ EachOf Is (w ∷ ws) = Is w.slot w.message × EachOf Is ws
 
 -- what is told of the message of a slot, by what the jobs came to
 abbrev pub told_on : List OnSap → ℕ → Outcome
-told_on jobs slot = told_by (job_from (sap_of_slot slot) jobs)
+told_on jobs slot = outcome_told (job_from (sap_of_slot slot) jobs)
 
 -- What a peer accepted of a message, by what is told of it: it was added, once, and is within the limit; it wasn't, and is beyond
 -- it; or it isn't answered, and was added once or not at all.

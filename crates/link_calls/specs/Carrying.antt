@@ -18,7 +18,7 @@ use Rattle.snep_core.specs.Accord.{PeerState}
 use Rattle.snep_core.specs.Server.{serving}
 use Rattle.link_calls.specs.Walk.{Course, Giver, Walk, BrokenBy, Comes}
 use Rattle.link_calls.specs.WalkTurns.{WalkTurns, WalkFront}
-use Rattle.link_calls.specs.Arriving.{Arrives, ArrivesCut, IsCounted}
+use Rattle.link_calls.specs.Arriving.{Arrives, ArrivesCut, IsCountedTo}
 use Rattle.link_calls.specs.Staying.{setting_of}
 
 module _ {L : Type 0} (k : Ghosts L) (target : L → TargetState) where
@@ -37,7 +37,7 @@ module _ {L : Type 0} (k : Ghosts L) (target : L → TargetState) where
     pub swaps : List Swap
     pub chain : Chained k target swaps (first_seen old i) at
     pub arrives : Arrives i.core.number (drop (length old.trace) new.trace) far after
-    pub counted : over ≡ None → IsCounted i.core.number (drop (length old.trace) new.trace) j.core.number
+    pub counted : over ≡ None → IsCountedTo i.core.number (drop (length old.trace) new.trace) j.core.number
     pub setting : setting_of after.end ≡ setting_of far.end
 
   -- Payloads that are carried over an open link so, from a moment of the field, its initiator and its peer's end to others.

@@ -75,7 +75,7 @@ module _ (P : EndState → Type 0) (own : (l : EndState) (os : List OwnState) �
   settled_keeps : (l : EndState) (jobs : List OnSap) (idle : ℕ) → P l → AtEnd P (talk.settled l jobs idle)
   settled_keeps l jobs idle h = either {X = Step} (AtEnd P) (all_over jobs) _ _ (λ e. h) (λ e. goes_keeps l jobs idle h)
 
-  told_keeps : (l : EndState) (jobs : List OnSap) (came : List CameTo) (idle : ℕ) (o : Option (List OnSap)) → P l → AtEnd P (talk.told_by l jobs came idle o)
+  told_keeps : (l : EndState) (jobs : List OnSap) (came : List CameTo) (idle : ℕ) (o : Option (List OnSap)) → P l → AtEnd P (talk.call_behind l jobs came idle o)
   told_keeps l jobs came idle None h = all_forgotten_keeps jobs l h
   told_keeps l jobs came idle (Some now) h = settled_keeps (all_emptied jobs l) now idle (all_emptied_keeps jobs l h)
 

@@ -9,7 +9,7 @@ use Rattle.llcp_conn.specs.declared.conn.Taken.TheVariants as taking
 use Rattle.llcp_conn.specs.Conn.{ConnState, Took, takes}
 use Rattle.llcp_link.specs.Serving.{Serving}
 use Rattle.llcp_link.specs.State.{LlcState, OwnState, Holder, Nobody, Served, Asked, holder}
-use Rattle.llcp_link.specs.Names.{rw_of, reached, name_of, answers_to, told_all}
+use Rattle.llcp_link.specs.Names.{rw_of, reached, name_of, answers_to, lookups_told}
 use Rattle.llcp_link.specs.Taking as t
 use Rattle.llcp_link.specs.Taking.{Item, Good, Broken, items, step, steps, taken_from}
 use Rattle.llcp_link.specs.Giving.{Gave, GaveAll, after_giving, gave, gave_first, gave_none, given, given_parts, given_so, joined, joined_so, others, payload_of}
@@ -76,7 +76,7 @@ module _ {S : Type 0} (m : Serving S) (miu : ℕ) where
   step_has l (Good (Dm d s r)) h = h
   step_has l (Good (Disc d s)) h = leaves_has l d s (holder l d s) h
   step_has l (Good (Frmr d s r)) h = ends_has l (holder l d s) h
-  step_has l (Good (Snl ps)) h = tells_has (record l { lookups = told_all ps l.lookups }) (answers_to l.bound (l.far_miu / 4) ps) h
+  step_has l (Good (Snl ps)) h = tells_has (record l { lookups = lookups_told ps l.lookups }) (answers_to l.bound (l.far_miu / 4) ps) h
   step_has l (Good (Info d s ns nr xs)) h = numbered_has l (λ k. takes k (Info d s ns nr xs)) d s (holder l d s) h
   step_has l (Good (Rr d s nr)) h = numbered_has l (λ k. takes k (Rr d s nr)) d s (holder l d s) h
   step_has l (Good (Rnr d s nr)) h = numbered_has l (λ k. takes k (Rnr d s nr)) d s (holder l d s) h

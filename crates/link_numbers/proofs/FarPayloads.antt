@@ -4,7 +4,7 @@ use Rattle.nfc_base.specs.Choosing.{first_number}
 use Rattle.llcp_pdu.specs.declared.part.Part.{Part}
 use Rattle.llcp_pdu.specs.declared.part.Part.TheVariants.{Symm, Ui, Connect, Disc, Cc, Dm, Frmr, Snl, Info, Rr, Rnr}
 use Rattle.llcp_pdu.specs.Writing.{part_bytes}
-use Rattle.llcp_link.specs.Fronts.{IsFrontOf}
+use Rattle.llcp_link.specs.Fronts.{IsProperPrefix}
 use Rattle.llcp_link.specs.Giving.{after_giving, given_parts, payload_of}
 use Rattle.llcp_link.specs.State.{fresh_end}
 use Rattle.llcp_link.specs.Taking.{taken_from}
@@ -64,17 +64,17 @@ miu_taken a p ok = subst (λ k. k ≤ 2176) (sym (taken_has serving a.far_miu a 
 stays_within : (a : PeerState) (p : List ℕ) (n : ℕ) → IsWithin a → IsWithin (peer_ends.left a p n)
 stays_within a p n ok = subst (λ k. k ≤ 2176) (sym (after_has serving a.far_miu n (taken_from serving a p) (taken_has serving a.far_miu a p refl))) ok
 
-further : (a : PeerState) (p : List ℕ) (n : ℕ) (xs b : List ℕ) → reads a p ≡ true → 2 ≤ length xs → IsFrontOf xs (peer_ends.reply a p n) → IsFrontOf xs b → IsFrontOf xs (peer_ends.reply a p (number b))
+further : (a : PeerState) (p : List ℕ) (n : ℕ) (xs b : List ℕ) → reads a p ≡ true → 2 ≤ length xs → IsProperPrefix xs (peer_ends.reply a p n) → IsProperPrefix xs b → IsProperPrefix xs (peer_ends.reply a p (number b))
 further a p n xs b e two f z =
-    subst (λ c. IsFrontOf xs (peer_ends.reply a p (number c))) (sym z.is)
+    subst (λ c. IsProperPrefix xs (peer_ends.reply a p (number c))) (sym z.is)
     (later_shown serving (taken_from serving a p) n xs z.byte z.more e two f)
 
-cuts : (a : PeerState) (p : List ℕ) (n : ℕ) (xs ys : List ℕ) → reads a p ≡ true → 2 ≤ length xs → IsFrontOf xs (peer_ends.reply a p n)
-    → IsFrontOf xs (peer_ends.reply a p (first_number (cut_off (xs ++ ys))))
+cuts : (a : PeerState) (p : List ℕ) (n : ℕ) (xs ys : List ℕ) → reads a p ≡ true → 2 ≤ length xs → IsProperPrefix xs (peer_ends.reply a p n)
+    → IsProperPrefix xs (peer_ends.reply a p (first_number (cut_off (xs ++ ys))))
 cuts a p n xs ys e two f =
     let k = cut_shown serving (taken_from serving a p) n xs e two f in
     let is : first_number (cut_off (xs ++ ys)) ≡ k.0 = ap first_number (begun_front xs ys two ∙ k.1) in
-    subst (λ v. IsFrontOf xs (peer_ends.reply a p v)) (sym is) k.2
+    subst (λ v. IsProperPrefix xs (peer_ends.reply a p v)) (sym is) k.2
 
 some : (a : PeerState) (p : List ℕ) (n : ℕ) → reads a p ≡ true → 0 < length (peer_ends.reply a p n)
 some a p n e =

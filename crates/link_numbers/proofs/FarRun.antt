@@ -24,7 +24,7 @@ use Rattle.dep_pdu.specs.declared.frame.DepFrame.TheVariants.{Extend}
 use Rattle.dep_link.proofs.Standing.{Ask, asks, nacks, attends}
 use Rattle.far_air.specs.FarEnds.{FarTable}
 use Rattle.far_air.specs.FarWorld.{FarWorld, far_dark, far_came_back, far_air}
-use Rattle.llcp_link.specs.Fronts.{IsFrontOf}
+use Rattle.llcp_link.specs.Fronts.{IsProperPrefix}
 use Rattle.link_numbers.specs.Shown.{answers_of, pieces_of}
 use Rattle.link_numbers.proofs.FarCourse.{Made, all_events, made_note, made_world}
 use Rattle.link_numbers.proofs.FarFit.{DuesFit}
@@ -41,20 +41,20 @@ use Rattle.link_numbers.proofs.Spoken as kinds
 abbrev pub Outcome : List ℕ → Cut → Type 0
 Outcome r D =
     ((rs : List (List ℕ)) × (D.payloads ≡ r ∷ rs))
-    ⊎ ((D.payloads ≡ []) × IsFrontOf D.chain r × ((D.chain ≡ []) ⊎ (2 ≤ length D.chain)))
+    ⊎ ((D.payloads ≡ []) × IsProperPrefix D.chain r × ((D.chain ≡ []) ⊎ (2 ≤ length D.chain)))
 
-some_left : (xs left r : List ℕ) → r ≡ xs ++ left → 0 < length left → IsFrontOf xs r
+some_left : (xs left r : List ℕ) → r ≡ xs ++ left → 0 < length left → IsProperPrefix xs r
 some_left xs [] r e h = absurd (omega arith)
 some_left xs (x ∷ left) r e h = record { byte = x; more = left; is = e }
 
 pub said_outcome : (s : TargetState) (r : List ℕ) (U : Cut) → 2 ≤ s.most → 0 < length r → Speaks s r [] U → Outcome r U
 said_outcome s r U most some (none_said due unsent left is) =
-    inr (ap (λ (c : Cut). c.payloads) is, subst (λ xs. IsFrontOf xs r) (sym (ap (λ (c : Cut). c.chain) is)) (some_left [] r r refl some), inl (ap (λ (c : Cut). c.chain) is))
+    inr (ap (λ (c : Cut). c.payloads) is, subst (λ xs. IsProperPrefix xs r) (sym (ap (λ (c : Cut). c.chain) is)) (some_left [] r r refl some), inl (ap (λ (c : Cut). c.chain) is))
 said_outcome s r U most some (some_said due unsent xs whole size rest is) =
     let chain : U.chain ≡ xs = ap (λ (c : Cut). c.chain) is in
     inr (
       ap (λ (c : Cut). c.payloads) is,
-      subst (λ zs. IsFrontOf zs r) (sym chain) (some_left xs s.left r whole rest),
+      subst (λ zs. IsProperPrefix zs r) (sym chain) (some_left xs s.left r whole rest),
       inr (let e : length U.chain ≡ length xs = ap length chain in omega (arith, most, size, e)),
     )
 said_outcome s r U most some (all_said due unsent left is) = inl ([], ap (λ (c : Cut). c.payloads) is)

@@ -23,7 +23,7 @@ use Rattle.dep_link.specs.Target.{TargetState, target_table, replied, reply_fram
 use Rattle.far_air.specs.FarEnds.{FarTable, reply_to}
 use Rattle.dep_link.specs.Peers.{target_use}
 use Rattle.far_air.specs.FarWorld.{FarWorld, far_dark, far_came_back, far_air}
-use Rattle.llcp_link.specs.Fronts.{IsFrontOf}
+use Rattle.llcp_link.specs.Fronts.{IsProperPrefix}
 use Rattle.link_numbers.specs.Shown.{answers_of, cut_off, has_content, number, numbers, pieces_of}
 use Rattle.link_numbers.proofs.Begun.{Begun, begun_turn, cut_up_then}
 use Rattle.link_numbers.proofs.FarCourse.{Made, all_events, made_note, made_world}
@@ -45,8 +45,8 @@ use Rattle.link_numbers.proofs.Spoken.{cut_at}
 pub record IsNumbered {F : Type 0} (t : FarTable F) (Good : F → Type 0) (reads : F → List ℕ → Bool) : Type 0 where
   pub good : (a : F) (p : List ℕ) (n : ℕ) → Good a → Good (t.left a p n)
   pub whole : (a : F) (p : List ℕ) (n : ℕ) → Good a → (t.reply a p (number (t.reply a p n)) ≡ t.reply a p n) × (t.left a p (number (t.reply a p n)) ≡ t.left a p n)
-  pub further : (a : F) (p : List ℕ) (n : ℕ) (xs b : List ℕ) → reads a p ≡ true → 2 ≤ length xs → IsFrontOf xs (t.reply a p n) → IsFrontOf xs b → IsFrontOf xs (t.reply a p (number b))
-  pub cut : (a : F) (p : List ℕ) (n : ℕ) (xs ys : List ℕ) → reads a p ≡ true → 2 ≤ length xs → IsFrontOf xs (t.reply a p n) → IsFrontOf xs (t.reply a p (first_number (cut_off (xs ++ ys))))
+  pub further : (a : F) (p : List ℕ) (n : ℕ) (xs b : List ℕ) → reads a p ≡ true → 2 ≤ length xs → IsProperPrefix xs (t.reply a p n) → IsProperPrefix xs b → IsProperPrefix xs (t.reply a p (number b))
+  pub cut : (a : F) (p : List ℕ) (n : ℕ) (xs ys : List ℕ) → reads a p ≡ true → 2 ≤ length xs → IsProperPrefix xs (t.reply a p n) → IsProperPrefix xs (t.reply a p (first_number (cut_off (xs ++ ys))))
   pub some : (a : F) (p : List ℕ) (n : ℕ) → reads a p ≡ true → 0 < length (t.reply a p n)
   pub silent : (a : F) (p : List ℕ) (n k : ℕ) → reads a p ≡ false → (t.reply a p n ≡ []) × (t.left a p k ≡ t.left a p n)
   pub silent_on : (a : F) (p : List ℕ) (n : ℕ) (q : List ℕ) → reads a p ≡ false → reads (t.left a p n) q ≡ false
@@ -65,10 +65,10 @@ pieces_first g fs e = go (spelled g) e
     go (Some v) e = kept v (has_content v) e
 
 -- the first of some bytes
-front_split : (xs many : List ℕ) → IsFrontOf xs many → (ys : List ℕ) × (many ≡ xs ++ ys) × (0 < length ys)
+front_split : (xs many : List ℕ) → IsProperPrefix xs many → (ys : List ℕ) × (many ≡ xs ++ ys) × (0 < length ys)
 front_split xs many f = (f.byte ∷ f.more, f.is, omega arith)
 
-front_none : (many : List ℕ) → 0 < length many → IsFrontOf [] many
+front_none : (many : List ℕ) → 0 < length many → IsProperPrefix [] many
 front_none [] h = absurd (omega arith)
 front_none (x ∷ many) h = record { byte = x; more = many; is = refl }
 
@@ -380,17 +380,17 @@ module _ {L F : Type 0} (m : Machine L) (linked : L → Bool) (t : FarTable F) (
             same_reply (sym (ap (t.reply a x.items) is ∙ w.0)) (ap (t.left a x.items) is ∙ w.1) (gave r refl some (ap later_numbers shown_now))
 
         -- or it is cut off
-        other_front : D.payloads ≡ [] → IsFrontOf D.chain r → ((D.chain ≡ []) ⊎ (2 ≤ length D.chain)) → IsFrontOf D.chain q
-        other_front z front (inl nil) = subst (λ xs. IsFrontOf xs q) (sym nil) (front_none q (numbered.some a x.items kn e))
+        other_front : D.payloads ≡ [] → IsProperPrefix D.chain r → ((D.chain ≡ []) ⊎ (2 ≤ length D.chain)) → IsProperPrefix D.chain q
+        other_front z front (inl nil) = subst (λ xs. IsProperPrefix xs q) (sym nil) (front_none q (numbered.some a x.items kn e))
         other_front z front (inr two) = go (first_read (frames_of more) D z)
           where
-            go : ReadOff D.chain (first_number (numbers (cut_up D (pieces_of more)))) → IsFrontOf D.chain q
+            go : ReadOff D.chain (first_number (numbers (cut_up D (pieces_of more)))) → IsProperPrefix D.chain q
             go (of_whole b f' is) =
-                subst (λ v. IsFrontOf D.chain (t.reply a x.items v)) (sym (ap first_number shown_end ∙ is)) (numbered.further a x.items n D.chain b e two front f')
+                subst (λ v. IsProperPrefix D.chain (t.reply a x.items v)) (sym (ap first_number shown_end ∙ is)) (numbered.further a x.items n D.chain b e two front f')
             go (of_begun ys is) =
-                subst (λ v. IsFrontOf D.chain (t.reply a x.items v)) (sym (ap first_number shown_end ∙ is)) (numbered.cut a x.items n D.chain ys e two front)
+                subst (λ v. IsProperPrefix D.chain (t.reply a x.items v)) (sym (ap first_number shown_end ∙ is)) (numbered.cut a x.items n D.chain ys e two front)
 
-        is_cut : D.payloads ≡ [] → IsFrontOf D.chain r → IsFrontOf D.chain q → ShownOf (solo s a ns) (solo s a ks) c (made_of f Pass y ∷ qs)
+        is_cut : D.payloads ≡ [] → IsProperPrefix D.chain r → IsProperPrefix D.chain q → ShownOf (solo s a ns) (solo s a ks) c (made_of f Pass y ∷ qs)
         is_cut z front other =
             let pair : Paired i f s U [] None = subst (λ v. Paired i f s U [] v) none p in
             let cut_now : cut_up U (before_frames (spelled g) (pieces_of fs)) ≡ D = cut_up_then U (spelled g) (pieces_of fs) in

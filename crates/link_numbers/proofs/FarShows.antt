@@ -13,7 +13,7 @@ use Rattle.dep_link.specs.Exchange.{before_frames, frames_of}
 use Rattle.dep_link.specs.Frames.{after, spelled}
 use Rattle.dep_link.specs.Payloads.{Cut, begins, joined}
 use Rattle.dep_link.specs.Replies.{cut_up, taken_up}
-use Rattle.llcp_link.specs.Fronts.{IsFrontOf}
+use Rattle.llcp_link.specs.Fronts.{IsProperPrefix}
 use Rattle.link_numbers.specs.Shown.{answers_of, cut_off, has_content, number, numbers, pieces_of}
 use Rattle.link_numbers.proofs.Growing.{payloads_grow}
 use Rattle.link_numbers.proofs.Spoken.{cut_at}
@@ -92,11 +92,11 @@ first_whole c vs r rs e =
 
 -- What the first number is read off where no payload is whole yet: a payload that goes on as the chain, or all that came of one.
 pub data ReadOff (chain : List ℕ) (n : ℕ) : Type 0 where
-  of_whole : (b : List ℕ) → IsFrontOf chain b → n ≡ number b → ReadOff chain n
+  of_whole : (b : List ℕ) → IsProperPrefix chain b → n ≡ number b → ReadOff chain n
   of_begun : (more : List ℕ) → n ≡ first_number (cut_off (chain ++ more)) → ReadOff chain n
 
-front_further : (a b c : List ℕ) → IsFrontOf (a ++ b) c → IsFrontOf a c
-front_further a [] c f = subst (λ z. IsFrontOf z c) (append-nil a) f
+front_further : (a b c : List ℕ) → IsProperPrefix (a ++ b) c → IsProperPrefix a c
+front_further a [] c f = subst (λ z. IsProperPrefix z c) (append-nil a) f
 front_further a (x ∷ b) c f = record { byte = x; more = b ++ f.byte ∷ f.more; is = f.is ∙ append_assoc a (x ∷ b) (f.byte ∷ f.more) }
 
 read_further : (a b : List ℕ) (n : ℕ) → ReadOff (a ++ b) n → ReadOff a n
@@ -106,7 +106,7 @@ read_further a b n (of_begun more e) = of_begun (b ++ more) (e ∙ ap (λ z. fir
 read_same : (a b : List ℕ) (n : ℕ) → a ≡ b → ReadOff a n → ReadOff b n
 read_same a b n e r = subst (λ z. ReadOff z n) e r
 
-some_front : (a xs : List ℕ) → 0 < length xs → IsFrontOf a (a ++ xs)
+some_front : (a xs : List ℕ) → 0 < length xs → IsProperPrefix a (a ++ xs)
 some_front a [] h = absurd (omega arith)
 some_front a (x ∷ xs) h = record { byte = x; more = xs; is = refl }
 

@@ -14,7 +14,7 @@ use Rattle.dep_link.specs.Initiator.{InitState, begun}
 use Rattle.dep_link.specs.Asking.{Standing, Waits, Rests, Broken, Astray, asks, noted}
 use Rattle.nfc_base.proofs.Chains.{not_lt}
 use Rattle.dep_link.proofs.Standing.{after_small}
-use Rattle.llcp_link.specs.Fronts.{IsFrontOf}
+use Rattle.llcp_link.specs.Fronts.{IsProperPrefix}
 use Rattle.llcp_link.specs.Giving.{given, given_parts, payload_of}
 use Rattle.snep_core.specs.Talk.{EndState, Ends, GivesUp, Goes, Step, Working, payload, ready, replied, silent}
 use Rattle.link_calls.specs.Walk.{Carries, Comes, BrokenBy, Strays, walk_at, walk_carried}
@@ -59,18 +59,18 @@ cut_front (x ∷ []) ys h = absurd (omega arith)
 cut_front (x ∷ y ∷ xs) ys h = refl
 
 -- The number that is read of what came of a payload, whatever comes behind it, gives a payload that begins so too.
-pub front_shown : (l : EndState) (n m : ℕ) (xs : List ℕ) (fs : List Signal) → l.readable ≡ true → 2 ≤ length xs → IsFrontOf xs (given silent n l)
-    → IsFrontOf xs (given silent (first_number (numbers (cuts (at m xs) fs))) l)
+pub front_shown : (l : EndState) (n m : ℕ) (xs : List ℕ) (fs : List Signal) → l.readable ≡ true → 2 ≤ length xs → IsProperPrefix xs (given silent n l)
+    → IsProperPrefix xs (given silent (first_number (numbers (cuts (at m xs) fs))) l)
 front_shown l n m xs fs r two front = by (cuts (at m xs) fs) (grown m xs fs)
   where
-    by : (c : Cut) → Grows xs c → IsFrontOf xs (given silent (first_number (numbers c)) l)
+    by : (c : Cut) → Grows xs c → IsProperPrefix xs (given silent (first_number (numbers c)) l)
     by c (open_ ys e more) =
         let k = cut_shown silent l n xs r two front in
         let is : numbers c ≡ k.0 ∷ [] = ap (λ ps. map number ps ++ cut_off c.chain) e ∙ ap cut_off more ∙ cut_front xs ys two ∙ k.1 in
-        subst (λ ns. IsFrontOf xs (given silent (first_number ns) l)) (sym is) k.2
+        subst (λ ns. IsProperPrefix xs (given silent (first_number ns) l)) (sym is) k.2
     by c (closed z zs ps e) =
         let is : first_number (numbers c) ≡ number (xs ++ z ∷ zs) = ap (λ qs. first_number (map number qs ++ cut_off c.chain)) e in
-        subst (λ k. IsFrontOf xs (given silent k l)) (sym is) (later_shown silent l n xs z zs r two front)
+        subst (λ k. IsProperPrefix xs (given silent k l)) (sym is) (later_shown silent l n xs z zs r two front)
 
 -- Where a payload is carried by the true number: its piece wasn't sent yet; or it was, and others follow; or the payload is whole, and so or so far its
 -- reply came. These numbers are read of what is still ahead.
@@ -236,12 +236,12 @@ module _ (tail : List Signal) where
         (same w ns ks (begun i out) (begun_fit out) (unsent [] (begun_unsent (first_number ns)) shows) tells within along)
 
     -- some of it did
-    begins_cut : (xs : List ℕ) → so_far.payloads ≡ [] → so_far.chain ≡ xs → IsFrontOf xs out → 2 ≤ length xs → Begins
+    begins_cut : (xs : List ℕ) → so_far.payloads ≡ [] → so_far.chain ≡ xs → IsProperPrefix xs out → 2 ≤ length xs → Begins
     begins_cut xs none chain front two =
         let is : so_far ≡ at so_far.next xs =
         ap (λ qs. record { next = so_far.next; chain = so_far.chain; payloads = qs }) none ∙ ap (λ ys. record { next = so_far.next; chain = ys; payloads = [] }) chain in
-        let shown : IsFrontOf xs other =
-        subst (λ ms. IsFrontOf xs (given silent (first_number ms) (ready w).llc)) (sym (then_shows ∙ ap (λ c. numbers (cuts c tail)) is))
+        let shown : IsProperPrefix xs other =
+        subst (λ ms. IsProperPrefix xs (given silent (first_number ms) (ready w).llc)) (sym (then_shows ∙ ap (λ c. numbers (cuts c tail)) is))
         (front_shown (ready w).llc (first_number ns) so_far.next xs tail readable two front) in
         calls_alike ts (w, ns) (w, ks) (asks i out) (asks i other)
         (both_due ts (begun i out) (begun i other) (begun_fit out) (record { number = refl; most = refl; plain = refl; phase = refl; bads = refl })

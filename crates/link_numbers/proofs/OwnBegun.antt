@@ -13,7 +13,7 @@ use Rattle.dep_link.specs.Frames.{after, air_frame, information, piece}
 use Rattle.dep_link.specs.Payloads.{Cut}
 use Rattle.dep_link.specs.Initiator.{InitState, asked, sent}
 use Rattle.dep_link.specs.Asking.{Standing, Waits, Broken, Astray, due_at, noted}
-use Rattle.llcp_link.specs.Fronts.{IsFrontOf}
+use Rattle.llcp_link.specs.Fronts.{IsProperPrefix}
 use Rattle.link_numbers.proofs.OwnCuts.{Grows, open_, closed, at, behind, cuts, grown}
 use Rattle.link_numbers.proofs.OwnTurns.{Along, Turn, asked_in, heard_in, on}
 use Rattle.link_numbers.proofs.OwnMoving.{Again, Fails, InTimes, Kind, Onward, Wanders, again, frame_due, hears_more, kind_of, made, onward, same_kind}
@@ -81,8 +81,8 @@ pub record BothMidst (fs : List Signal) (i j : InitState) : Type 0 where
   pub second_at : Midst j piece second
   pub none : (cuts (at (after i.core.number) chain) fs).payloads ≡ []
   pub brings : (cuts (at (after i.core.number) chain) fs).chain ≡ chain ++ ahead
-  pub first_has : IsFrontOf ahead first
-  pub second_has : IsFrontOf ahead second
+  pub first_has : IsProperPrefix ahead first
+  pub second_has : IsProperPrefix ahead second
 
 -- or the piece wasn't sent yet
 pub record BothUnsent (fs : List Signal) (i j : InitState) : Type 0 where
@@ -92,14 +92,14 @@ pub record BothUnsent (fs : List Signal) (i j : InitState) : Type 0 where
   pub second_at : Unsent j
   pub none : (cuts (at i.core.number chain) fs).payloads ≡ []
   pub brings : (cuts (at i.core.number chain) fs).chain ≡ chain ++ ahead
-  pub first_has : IsFrontOf ahead i.core.rest
-  pub second_has : IsFrontOf ahead j.core.rest
+  pub first_has : IsProperPrefix ahead i.core.rest
+  pub second_has : IsProperPrefix ahead j.core.rest
 
 abbrev pub Both : List Signal → InitState → InitState → Type 0
 Both fs i j = BothUnsent fs i j ⊎ BothMidst fs i j
 
 -- a piece that both have is sent by both
-at_piece : (i : InitState) (xs zs rest : List ℕ) (front : IsFrontOf (xs ++ zs) rest) → i.core.rest ≡ rest → i.core.drawing ≡ false → length xs ≡ i.core.most
+at_piece : (i : InitState) (xs zs rest : List ℕ) (front : IsProperPrefix (xs ++ zs) rest) → i.core.rest ≡ rest → i.core.drawing ≡ false → length xs ≡ i.core.most
     → Midst i xs (zs ++ front.byte ∷ front.more)
 at_piece i xs zs rest front e sending full = record {
   sending = sending;
@@ -121,8 +121,8 @@ sent_both i j fs fit w b = go (cases_lt i.core.most (length i.core.rest))
         → BothMidst fs i j
     with_more c is (open_ zs none more) empty brings h =
         let ahead : b.ahead ≡ xs ++ zs = append_cancel_left b.chain b.ahead (xs ++ zs) (sym brings ∙ more ∙ append_assoc b.chain xs zs) in
-        let f : IsFrontOf (xs ++ zs) i.core.rest = subst (λ ys. IsFrontOf ys i.core.rest) ahead b.first_has in
-        let s : IsFrontOf (xs ++ zs) j.core.rest = subst (λ ys. IsFrontOf ys j.core.rest) ahead b.second_has in
+        let f : IsProperPrefix (xs ++ zs) i.core.rest = subst (λ ys. IsProperPrefix ys i.core.rest) ahead b.first_has in
+        let s : IsProperPrefix (xs ++ zs) j.core.rest = subst (λ ys. IsProperPrefix ys j.core.rest) ahead b.second_has in
         let full : length xs ≡ i.core.most = let l = length-take i.core.most i.core.rest in omega (arith, h, l) in
         record {
           chain = b.chain ++ xs;
@@ -193,8 +193,8 @@ both_onward i j fs b = record {
   second_at = onward_unsent j b.piece b.second b.second_at;
   none = b.none;
   brings = b.brings;
-  first_has = subst (IsFrontOf b.ahead) (sym (onward_rest i b.piece b.first b.first_at)) b.first_has;
-  second_has = subst (IsFrontOf b.ahead) (sym (onward_rest j b.piece b.second b.second_at)) b.second_has;
+  first_has = subst (IsProperPrefix b.ahead) (sym (onward_rest i b.piece b.first b.first_at)) b.first_has;
+  second_has = subst (IsProperPrefix b.ahead) (sym (onward_rest j b.piece b.second b.second_at)) b.second_has;
 }
 
 -- both wait, or both ended by the same

@@ -19,7 +19,7 @@ use Rattle.dep_link.specs.Asking.{Standing, Waits, Rests, Broken, Astray, noted}
 use Rattle.nfc_base.proofs.Chains.{not_lt}
 use Rattle.dep_link.proofs.Standing.{after_small}
 use Rattle.dep_link.proofs.Wire.{is_piece, written_read}
-use Rattle.llcp_link.specs.Fronts.{IsFrontOf}
+use Rattle.llcp_link.specs.Fronts.{IsProperPrefix}
 use Rattle.link_numbers.specs.Shown.{has_content}
 use Rattle.link_numbers.proofs.OwnCuts.{Grows, open_, closed, ack_again, at, behind, cuts, cuts_behind, cuts_next, cuts_still, grown, taken_ack, taken_again, taken_last, taken_more}
 use Rattle.link_numbers.proofs.OwnTurns.{Turn, asked_in}
@@ -171,7 +171,7 @@ Follows s (t ∷ ts) = OneTurn s t (λ q. Follows q ts)
 
 -- What they make of a cut at which so much of the payload came, and these bytes are left: some of them came, and there are more; or all did.
 pub data Outcome (chain left : List ℕ) (c : Cut) : Type 0 where
-  cut : (ys : List ℕ) → c.payloads ≡ [] → c.chain ≡ chain ++ ys → IsFrontOf ys left → Outcome chain left c
+  cut : (ys : List ℕ) → c.payloads ≡ [] → c.chain ≡ chain ++ ys → IsProperPrefix ys left → Outcome chain left c
   whole : (ps : List (List ℕ)) → c.payloads ≡ (chain ++ left) ∷ ps → Outcome chain left c
 
 outcome_more : (chain xs ys left : List ℕ) (c : Cut) → left ≡ xs ++ ys → Outcome (chain ++ xs) ys c → Outcome chain left c
@@ -180,7 +180,7 @@ outcome_more chain xs ys left c e (cut zs none more front) =
     (record { byte = front.byte; more = front.more; is = e ∙ ap (λ vs. xs ++ vs) front.is ∙ sym (append_assoc xs zs (front.byte ∷ front.more)) })
 outcome_more chain xs ys left c e (whole ps all) = whole ps (all ∙ ap (λ p. p ∷ ps) (append_assoc chain xs ys ∙ ap (λ vs. chain ++ vs) (sym e)))
 
-pub some_left : (xs : List ℕ) → 0 < length xs → IsFrontOf [] xs
+pub some_left : (xs : List ℕ) → 0 < length xs → IsProperPrefix [] xs
 some_left [] h = absurd (omega arith)
 some_left (x ∷ xs) h = record { byte = x; more = xs; is = refl }
 

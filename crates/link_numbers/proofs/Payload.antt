@@ -11,7 +11,7 @@ use Rattle.llcp_pdu.specs.Raw.{raw}
 use Rattle.llcp_pdu.specs.Writing.{inner_bytes, part_bytes, parts_bytes, pdu_bytes}
 use Rattle.llcp_link.specs.Serving.{Serving}
 use Rattle.llcp_link.specs.State.{LlcState}
-use Rattle.llcp_link.specs.Fronts.{IsFrontOf}
+use Rattle.llcp_link.specs.Fronts.{IsProperPrefix}
 use Rattle.llcp_link.specs.Giving.{Gave, GaveAll, IsAllowed, after_giving, gave, gave_first, gave_none, given, given_parts, given_so, joined, joined_so, others, payload_of}
 use Rattle.llcp_link.proofs.Fronts.{front_law}
 use Rattle.llcp_link.proofs.MostGiven.{gave_keeps, most_law}
@@ -186,8 +186,8 @@ module _ {S : Type 0} (m : Serving S) where
   several_heads (p ∷ q ∷ ps) h = refl
 
   -- What came of a payload that was cut off begins that of the number that it shows too, and there is more.
-  pub cut_shown : (l : LlcState S) (n : ℕ) (xs : List ℕ) → l.readable ≡ true → 2 ≤ length xs → IsFrontOf xs (given m n l)
-      → (k : ℕ) × (cut_off xs ≡ k ∷ []) × IsFrontOf xs (given m k l)
+  pub cut_shown : (l : LlcState S) (n : ℕ) (xs : List ℕ) → l.readable ≡ true → 2 ≤ length xs → IsProperPrefix xs (given m n l)
+      → (k : ℕ) × (cut_off xs ≡ k ∷ []) × IsProperPrefix xs (given m k l)
   cut_shown l n xs r two f = by a.1
     where
       a : (a : ℕ) × IsAllowed m l a × (given_parts m a l ≡ given_parts m n l)
@@ -199,15 +199,15 @@ module _ {S : Type 0} (m : Serving S) where
       heads : heads_agf (raw xs) ≡ heads_agf (raw (given m a.0 l))
       heads = sym (heads_front xs (f.byte ∷ f.more) two) ∙ ap (λ zs. heads_agf (raw zs)) (sym f.is ∙ sym same)
 
-      first : IsFrontOf xs (given m a.0 l)
+      first : IsProperPrefix xs (given m a.0 l)
       first = record { byte = f.byte; more = f.more; is = same ∙ f.is }
 
-      by : IsAllowed m l a.0 → (k : ℕ) × (cut_off xs ≡ k ∷ []) × IsFrontOf xs (given m k l)
+      by : IsAllowed m l a.0 → (k : ℕ) × (cut_off xs ≡ k ∷ []) × IsProperPrefix xs (given m k l)
       by (inl e) =
           let one : length (given_parts m a.0 l).parts < 2 = subst (λ k. length (given_parts m k l).parts < 2) (sym e) (one_given l (gave m l)) in
           let no_agf : heads_agf (raw xs) ≡ false =
           heads ∙ ap (λ zs. heads_agf (raw zs)) (given_is l a.0 r) ∙ one_heads (given_parts m a.0 l).parts one in
-          (1, cut_number xs false two no_agf, subst (λ k. IsFrontOf xs (given m k l)) e first)
+          (1, cut_number xs false two no_agf, subst (λ k. IsProperPrefix xs (given m k l)) e first)
       by (inr h) =
           let all : 2 ≤ length (given_parts m a.0 l).parts = subst (λ k. 2 ≤ k) (sym h.1) h.0 in
           let agf : heads_agf (raw xs) ≡ true =
@@ -222,7 +222,7 @@ module _ {S : Type 0} (m : Serving S) where
           (0, cut_number xs true two agf, record { byte = f.byte; more = f.more ++ up.0; is = more })
 
   -- two lists that begin one
-  fronts_of : (xs ys us vs : List ℕ) → xs ++ us ≡ ys ++ vs → ((ws : List ℕ) × (xs ≡ ys ++ ws)) ⊎ IsFrontOf xs ys
+  fronts_of : (xs ys us vs : List ℕ) → xs ++ us ≡ ys ++ vs → ((ws : List ℕ) × (xs ≡ ys ++ ws)) ⊎ IsProperPrefix xs ys
   fronts_of [] [] us vs e = inl ([], refl)
   fronts_of [] (y ∷ ys) us vs e = inr (record { byte = y; more = ys; is = refl })
   fronts_of (x ∷ xs) [] us vs e = inl (x ∷ xs, refl)
@@ -268,7 +268,7 @@ module _ {S : Type 0} (m : Serving S) where
 
   -- What came of a payload begins also that of the number that is read of it with other bytes behind it, whatever these are.
   pub later_shown : (l : LlcState S) (n : ℕ) (xs : List ℕ) (z : ℕ) (zs : List ℕ)
-      → l.readable ≡ true → 2 ≤ length xs → IsFrontOf xs (given m n l) → IsFrontOf xs (given m (number (xs ++ z ∷ zs)) l)
+      → l.readable ≡ true → 2 ≤ length xs → IsProperPrefix xs (given m n l) → IsProperPrefix xs (given m (number (xs ++ z ∷ zs)) l)
   later_shown l n xs z zs r two f = by a.1
     where
       k : ℕ
@@ -280,23 +280,23 @@ module _ {S : Type 0} (m : Serving S) where
       same : given m a.0 l ≡ given m n l
       same = (same_given l a.0 n a.2).0
 
-      first : IsFrontOf xs (given m a.0 l)
+      first : IsProperPrefix xs (given m a.0 l)
       first = record { byte = f.byte; more = f.more; is = same ∙ f.is }
 
       heads : heads_agf (raw (xs ++ z ∷ zs)) ≡ heads_agf (raw (given m a.0 l))
       heads = heads_front xs (z ∷ zs) two ∙ sym (heads_front xs (f.byte ∷ f.more) two) ∙ ap (λ bs. heads_agf (raw bs)) (sym f.is ∙ sym same)
 
-      begins : (b : ℕ) (tail : List ℕ) → given m b l ≡ given m a.0 l ++ tail → IsFrontOf xs (given m b l)
+      begins : (b : ℕ) (tail : List ℕ) → given m b l ≡ given m a.0 l ++ tail → IsProperPrefix xs (given m b l)
       begins b tail e = record {
         byte = f.byte;
         more = f.more ++ tail;
         is = e ∙ ap (λ bs. bs ++ tail) first.is ∙ append_assoc xs (f.byte ∷ f.more) tail;
       }
 
-      up_to : 2 ≤ a.0 → (b : ℕ) → IsAllowed m l b → a.0 ≤ b → IsFrontOf xs (given m b l)
+      up_to : 2 ≤ a.0 → (b : ℕ) → IsAllowed m l b → a.0 ≤ b → IsProperPrefix xs (given m b l)
       up_to some b may least = let up = goes_on l r (b - a.0) a.0 b (omega arith) some may in begins b up.0 up.1
 
-      to_most : 2 ≤ a.0 → IsFrontOf xs (given m (most_law m l).0 l)
+      to_most : 2 ≤ a.0 → IsProperPrefix xs (given m (most_law m l).0 l)
       to_most some = up_to some (most_law m l).0 (most_law m l).1.allowed ((most_law m l).1.larger a.0 a.1)
 
       fewer : (ps : List Part) → length ps ≡ k → 2 ≤ length ps → (ws : List ℕ) → xs ≡ pdu_bytes (Agf ps) ++ ws → ⊥
@@ -310,7 +310,7 @@ module _ {S : Type 0} (m : Serving S) where
             | inr g ↦ (let h : length ps < number (pdu_bytes (Agf ps) ++ v.0 ∷ v.1) = g in omega (arith, h, same_number, all))
           ]
 
-      below : 2 ≤ a.0 → 2 ≤ k → length (given_parts m k l).parts ≡ k → k < a.0 → IsFrontOf xs (given m k l)
+      below : 2 ≤ a.0 → 2 ≤ k → length (given_parts m k l).parts ≡ k → k < a.0 → IsProperPrefix xs (given m k l)
       below some two_more all less =
           let down = goes_on l r (a.0 - k) k a.0 (omega arith) two_more a.1 in
           let ps : List Part = (given_parts m k l).parts in
@@ -321,22 +321,22 @@ module _ {S : Type 0} (m : Serving S) where
             | inr g ↦ g
           ]
 
-      by_count : 2 ≤ a.0 → heads_agf (raw (xs ++ z ∷ zs)) ≡ true → (IsAllowed m l k ⊎ (IsAllowed m l k → ⊥)) → IsFrontOf xs (given m k l)
+      by_count : 2 ≤ a.0 → heads_agf (raw (xs ++ z ∷ zs)) ≡ true → (IsAllowed m l k ⊎ (IsAllowed m l k → ⊥)) → IsProperPrefix xs (given m k l)
       by_count some agf (inl (inl e)) = absurd (agf_not_one (xs ++ z ∷ zs) agf e)
       by_count some agf (inl (inr h)) = go (leb_tells a.0 k)
         where
-          go : ((leb a.0 k ≡ true) × (a.0 ≤ k)) ⊎ ((leb a.0 k ≡ false) × (k < a.0)) → IsFrontOf xs (given m k l)
+          go : ((leb a.0 k ≡ true) × (a.0 ≤ k)) ⊎ ((leb a.0 k ≡ false) × (k < a.0)) → IsProperPrefix xs (given m k l)
           go (inl q) = up_to some k (inr h) q.1
           go (inr q) = below some h.0 h.1 q.1
       by_count some agf (inr other) =
-          subst (λ bs. IsFrontOf xs bs) (sym (same_given l k (most_law m l).0 ((most_law m l).1.otherwise k other)).0) (to_most some)
+          subst (λ bs. IsProperPrefix xs bs) (sym (same_given l k (most_law m l).0 ((most_law m l).1.otherwise k other)).0) (to_most some)
 
-      by : IsAllowed m l a.0 → IsFrontOf xs (given m k l)
+      by : IsAllowed m l a.0 → IsProperPrefix xs (given m k l)
       by (inl e) =
           let one : length (given_parts m a.0 l).parts < 2 = subst (λ j. length (given_parts m j l).parts < 2) (sym e) (one_given l (gave m l)) in
           let no_agf : heads_agf (raw (xs ++ z ∷ zs)) ≡ false =
           heads ∙ ap (λ bs. heads_agf (raw bs)) (given_is l a.0 r) ∙ one_heads (given_parts m a.0 l).parts one in
-          subst (λ j. IsFrontOf xs (given m j l)) (e ∙ sym (other_is_one (xs ++ z ∷ zs) no_agf)) first
+          subst (λ j. IsProperPrefix xs (given m j l)) (e ∙ sym (other_is_one (xs ++ z ∷ zs) no_agf)) first
       by (inr h) =
           let all : 2 ≤ length (given_parts m a.0 l).parts = subst (λ j. 2 ≤ j) (sym h.1) h.0 in
           let agf : heads_agf (raw (xs ++ z ∷ zs)) ≡ true =

@@ -4,10 +4,10 @@ use Rattle.std.specs.Prelude.{nat_lt}
 use Rattle.std.proofs.lemmas.Bool.{lt-ltb}
 use Rattle.std.proofs.lemmas.List.{drop-append-le, take-append-le}
 use Rattle.dep_link.specs.Frames.{information, piece}
-use Rattle.llcp_link.specs.Fronts.{IsFrontOf}
+use Rattle.llcp_link.specs.Fronts.{IsProperPrefix}
 
 -- a piece that stands in what came
-pub piece_in : (up : Bool) (most pni at : ℕ) (xs p : List ℕ) → at + most ≤ length xs → IsFrontOf xs p
+pub piece_in : (up : Bool) (most pni at : ℕ) (xs p : List ℕ) → at + most ≤ length xs → IsProperPrefix xs p
     → piece up most pni (drop at p) ≡ information up true pni (take most (drop at xs))
 piece_in up most pni at xs p fits f =
     let ys : List ℕ = f.byte ∷ f.more in
@@ -18,6 +18,6 @@ piece_in up most pni at xs p fits f =
     let content : take most (drop at p) ≡ take most (drop at xs) = ap (take most) cut ∙ take-append-le most (drop at xs) ys room in
     ap (λ t. information up t pni (take most (drop at p))) more ∙ ap (information up true pni) content
 
-pub same_piece : (up : Bool) (most pni at : ℕ) (xs p q : List ℕ) → at + most ≤ length xs → IsFrontOf xs p → IsFrontOf xs q
+pub same_piece : (up : Bool) (most pni at : ℕ) (xs p q : List ℕ) → at + most ≤ length xs → IsProperPrefix xs p → IsProperPrefix xs q
     → piece up most pni (drop at p) ≡ piece up most pni (drop at q)
 same_piece up most pni at xs p q fits f g = piece_in up most pni at xs p fits f ∙ sym (piece_in up most pni at xs q fits g)

@@ -88,8 +88,8 @@ fresh here there near_miu far_miu far_rw =
 abbrev pub refusal_of : ConnState → ℕ → Option ConnFault
 refusal_of c n = if c.live then (if nat_lt c.far_miu n then Some TooLong else (if has_room c then None else Some WindowFull)) else Some NotOpen
 
-abbrev pub refusal : ConnState → List ℕ → Option ConnFault
-refusal c u = refusal_of c (length u)
+abbrev pub refusal_to_submit : ConnState → List ℕ → Option ConnFault
+refusal_to_submit c u = refusal_of c (length u)
 
 -- the cause of a unit that comes back, among those of all units
 abbrev pub shared : SharedCause → ConnFault
@@ -102,7 +102,7 @@ queued c u = record c { queue = c.queue ++ u ∷ [] }
 
 -- a unit that isn't refused is queued
 pub record Queues (old : ConnState) (unit : List ℕ) (new : ConnState) : Type 0 where
-  pub free : refusal old unit ≡ None
+  pub free : refusal_to_submit old unit ≡ None
   pub kept : new ≡ queued old unit
 
 -- how many units an N(R) acknowledges
@@ -204,14 +204,14 @@ abbrev pub due : ConnState → Option ℕ
 due c = if c.live then (if c.held then None else option_map length (first c.queue)) else None
 
 -- A PDU of a connection from the SAP there to the SAP here: an I, RR or RNR, with its numbers in range.
-abbrev pub IsBetween : ℕ → ℕ → Part → Type 0
-IsBetween here there (Info d s ns nr info) = (d ≡ here) × (s ≡ there) × (ns < modulus) × (nr < modulus)
-IsBetween here there (Rr d s nr) = (d ≡ here) × (s ≡ there) × (nr < modulus)
-IsBetween here there (Rnr d s nr) = (d ≡ here) × (s ≡ there) × (nr < modulus)
-IsBetween here there _ = ⊥
+abbrev pub IsPduBetween : ℕ → ℕ → Part → Type 0
+IsPduBetween here there (Info d s ns nr info) = (d ≡ here) × (s ≡ there) × (ns < modulus) × (nr < modulus)
+IsPduBetween here there (Rr d s nr) = (d ≡ here) × (s ≡ there) × (nr < modulus)
+IsPduBetween here there (Rnr d s nr) = (d ≡ here) × (s ≡ there) × (nr < modulus)
+IsPduBetween here there _ = ⊥
 
 abbrev pub IsOfConn : ConnState → Part → Type 0
-IsOfConn c p = IsBetween c.here c.there p
+IsOfConn c p = IsPduBetween c.here c.there p
 
 -- A view of such a PDU.
 abbrev pub IsViewOfConn : ConnState → PduView → Type 0

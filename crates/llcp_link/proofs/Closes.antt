@@ -13,7 +13,7 @@ use Rattle.llcp_link.specs.State.{LlcState, Holder, Nobody, Served, Asked, OwnSt
 use Rattle.llcp_link.specs.Kept.{IsServed}
 use Rattle.llcp_link.specs.Own.{closed_on}
 use Rattle.llcp_link.specs.Places.{ClosedBy, IsHeld, IsNowhere, StandsAt}
-use Rattle.llcp_link.specs.Closing.{AreNumbers, ClosesHeld, ClosesOwn, Holds, IsBetween, KeepsOwn, TakesOwn}
+use Rattle.llcp_link.specs.Closing.{AreNumbers, ClosesHeld, ClosesOwn, Holds, IsConnBetween, KeepsOwn, TakesOwn}
 use Rattle.llcp_link.specs.declared.own.Heard.TheVariants as heard
 use Rattle.llcp_link.specs.Taking.{answered, asked_so, breaks, disconnected, ends, flag_w, leaves, not_connected, numbered}
 
@@ -38,8 +38,8 @@ module _ {S : Type 0} (l : LlcState S) (d s : ℕ) where
   closes_served n served k =
       let c = k.0 in
       let h : holder l d s ≡ Served c = served_here d s l.served c (own_holder s (own_from d l.own)) k.1 in
-      let is : IsBetween (Served c) d s n = record { conn = c; holds = refl; here_is = k.1.here; there_is = k.1.there; numbers_are = k.3; range = numbers_of c n k.2 k.3 } in (
-        subst (λ x. IsBetween x d s n) (sym h) is,
+      let is : IsConnBetween (Served c) d s n = record { conn = c; holds = refl; here_is = k.1.here; there_is = k.1.there; numbers_are = k.3; range = numbers_of c n k.2 k.3 } in (
+        subst (λ x. IsConnBetween x d s n) (sym h) is,
         ap (λ cs. record l { served = cs }) (k.4 ∙ ap (λ x. without_conn x l.served) (sym k.1.there)) ∙ ap (ends l) (sym h),
       )
 
@@ -65,8 +65,8 @@ module _ {S : Type 0} (l : LlcState S) (d s : ℕ) where
     closes_there (Some n) served new k j =
         let c = j.0 in
         let h : holder l d s ≡ Asked p.own c = not_served d (conn_from s l.served) (own_holder s (own_from d l.own)) k.0 ∙ ap (own_holder s) p.found ∙ j.1.holds in
-        let is : IsBetween (Asked p.own c) d s n = record { conn = c; holds = refl; here_is = j.1.here ∙ p.here; there_is = j.1.there; numbers_are = j.2; range = j.3 } in (
-          subst (λ x. IsBetween x d s n) (sym h) is,
+        let is : IsConnBetween (Asked p.own c) d s n = record { conn = c; holds = refl; here_is = j.1.here ∙ p.here; there_is = j.1.there; numbers_are = j.2; range = j.3 } in (
+          subst (λ x. IsConnBetween x d s n) (sym h) is,
           ap (λ x. record l { served = x; own = slice_set l.own place new }) k.1 ∙ put_back (closed_on p.own) new j.4 p.here ∙ ap (ends l) (sym h),
         )
 
@@ -98,7 +98,7 @@ module _ {S : Type 0} (l : LlcState S) (d s : ℕ) where
   abbrev told : ConnNumbers → ℕ → ℕ → FrmrReport
   told n t q = record { flags = flag_w; ptype = t; sequence = q; vs = n.vs; vr = n.vr; vsa = n.vsa; vra = n.vra }
 
-  broken_by : (h : Holder) (n : ConnNumbers) (t q : ℕ) → IsBetween h d s n → answered (ends l h) (Frmr s d (told n t q)) ≡ breaks l t q h
+  broken_by : (h : Holder) (n : ConnNumbers) (t q : ℕ) → IsConnBetween h d s n → answered (ends l h) (Frmr s d (told n t q)) ≡ breaks l t q h
   broken_by Nobody n t q k = absurd k.holds
   broken_by (Served x) n t q k =
       ap (λ y. answered (ends l (Served x)) (Frmr s d (told y t q))) (k.numbers_are ∙ ap numbers (sym k.holds))

@@ -10,7 +10,7 @@ use Rattle.llcp_link.specs.State.{LlcState, conn_from, most_connections}
 use Rattle.llcp_link.specs.Names.{rw_of, reached, name_of, miu_of}
 use Rattle.llcp_link.specs.Taking as t
 use Rattle.llcp_link.specs.Taking.{Good}
-use Rattle.llcp_link.specs.Units.{Open, Turn, begun_at, begun_by}
+use Rattle.llcp_link.specs.Units.{UnitsSoFar, Turn, begun_at, begun_by}
 use Rattle.llcp_link.proofs.Clients.{conn_more, distinct_more, is_self}
 use Rattle.llcp_link.proofs.Ranged.{window_small}
 use Rattle.llcp_link.proofs.Following.{Follows, Fits, FitsBehind, Linked, same_fits, same_stays, stays}
@@ -49,11 +49,11 @@ full_none l d s ps e =
     ap (λ b. if b then None else (if rw_of ps == 0 then None else t.accepted_at l s (reached l.bound d (name_of ps)))) e
 
 -- what the definition of units says of it
-abbrev pub connect_turn : ℕ → Option ℕ → ℕ → ℕ → List Param → Option Open → Turn
+abbrev pub connect_turn : ℕ → Option ℕ → ℕ → ℕ → List Param → Option UnitsSoFar → Turn
 connect_turn c acc d s ps None = record { open_ = begun_by c acc (Good (Connect d s ps)); over = [] }
 connect_turn c acc d s ps (Some o) = record { open_ = Some o; over = [] }
 
-linked_none : (miu : ℕ) (q : Option ConnState) (o : Open) → q ≡ None → Linked miu q (Some o) → ⊥
+linked_none : (miu : ℕ) (q : Option ConnState) (o : UnitsSoFar) → q ≡ None → Linked miu q (Some o) → ⊥
 linked_none miu None o e j = j
 linked_none miu (Some k) o e j = absurd cc
 
@@ -82,7 +82,7 @@ module _ {S : Type 0} (m : Serving S) (told : S → List (List (List ℕ)) → T
   not_begun n true h = stays told c miu n None done h
   not_begun n false h = stays told c miu n None done h
 
-  accepts_steps : (d s : ℕ) (ps : List Param) → AreParams ps → (sap : ℕ) → conn_from s l.served ≡ None → (b : Bool) → (s == c) ≡ b → (o : Option Open)
+  accepts_steps : (d s : ℕ) (ps : List Param) → AreParams ps → (sap : ℕ) → conn_from s l.served ≡ None → (b : Bool) → (s == c) ≡ b → (o : Option UnitsSoFar)
       → Fits told c miu l o done → FitsBehind told c miu (t.opens m l sap s (miu_of ps) (rw_of ps)) (connect_turn c (Some sap) d s ps o) done
   accepts_steps d s ps w sap n false e None h = rw e (same_stays told c miu l _ None done (opens_same m told c miu f l sap s (miu_of ps) (rw_of ps) e n) h)
   accepts_steps d s ps w sap n false e (Some o) h = same_stays told c miu l _ (Some o) done (opens_same m told c miu f l sap s (miu_of ps) (rw_of ps) e n) h
@@ -90,17 +90,17 @@ module _ {S : Type 0} (m : Serving S) (told : S → List (List (List ℕ)) → T
   accepts_steps d s ps w sap n true e (Some o) h =
       absurd (linked_none miu (conn_from c l.served) o (subst (λ z. conn_from z l.served ≡ None) (eqb-true s c e) n) h.link)
 
-  connects_steps : (d s : ℕ) (ps : List Param) → AreParams ps → (acc : Option ℕ) → t.accepted l d s ps ≡ acc → (o : Option Open) → Fits told c miu l o done
+  connects_steps : (d s : ℕ) (ps : List Param) → AreParams ps → (acc : Option ℕ) → t.accepted l d s ps ≡ acc → (o : Option UnitsSoFar) → Fits told c miu l o done
       → FitsBehind told c miu (t.connects_to m l d s ps acc) (connect_turn c acc d s ps o) done
   connects_steps d s ps w None e None h = not_begun (t.refuses l d s ps) (s == c) (same_fits told c miu l _ None done (refuses_same m told c miu f l d s ps) h)
   connects_steps d s ps w None e (Some o) h = same_stays told c miu l _ (Some o) done (refuses_same m told c miu f l d s ps) h
   connects_steps d s ps w (Some sap) e o h = accepts_steps d s ps w sap (accepted_free l d s ps sap e) (s == c) refl o h
 
-  full_steps : (d s : ℕ) (ps : List Param) (o : Option Open) → Fits told c miu l o done → FitsBehind told c miu l (connect_turn c None d s ps o) done
+  full_steps : (d s : ℕ) (ps : List Param) (o : Option UnitsSoFar) → Fits told c miu l o done → FitsBehind told c miu l (connect_turn c None d s ps o) done
   full_steps d s ps None h = not_begun l (s == c) h
   full_steps d s ps (Some o) h = stays told c miu l (Some o) done h
 
-  pub connect_steps : (d s : ℕ) (ps : List Param) → AreParams ps → (o : Option Open) → Fits told c miu l o done
+  pub connect_steps : (d s : ℕ) (ps : List Param) → AreParams ps → (o : Option UnitsSoFar) → Fits told c miu l o done
       → FitsBehind told c miu (t.connects m l d s ps) (connect_turn c (t.accepted l d s ps) d s ps o) done
   connect_steps d s ps w o h = go (t.is_full l) refl
     where

@@ -3,7 +3,7 @@ use Rattle.std.proofs.Common.{◌≡◌, ◌≢◌, ◌<◌, ◌≤◌, ℕ, ◌
 use Rattle.llcp_conn.specs.Conn.{ConnState}
 use Rattle.llcp_link.specs.Serving.{Serving}
 use Rattle.llcp_link.specs.State.{LlcState, conn_from}
-use Rattle.llcp_link.specs.Units.{Open, Turn, last}
+use Rattle.llcp_link.specs.Units.{UnitsSoFar, Turn, last}
 use Rattle.llcp_link.proofs.Clients.{AreDistinct}
 
 -- A service of which a relation tells the units that were brought on each connection of a client's SAP, the last one last.
@@ -16,7 +16,7 @@ pub record Follows {S : Type 0} (m : Serving S) (c : ℕ) (told : S → List (Li
   pub sent : (s : S) (d miu : ℕ) (us : List (List (List ℕ))) → told s us → told (m.sent s d miu) us
 
 -- the connection of the table and that of the definition
-pub record Joined (miu : ℕ) (k : ConnState) (o : Open) : Type 0 where
+pub record Joined (miu : ℕ) (k : ConnState) (o : UnitsSoFar) : Type 0 where
   pub goes : k.here ≡ o.here
   pub near : k.near_miu ≡ miu
   pub under : length k.flight ≤ k.window
@@ -24,7 +24,7 @@ pub record Joined (miu : ℕ) (k : ConnState) (o : Open) : Type 0 where
   pub sa : k.vsa < 16
   pub counted : k.vr ≡ length o.units % 16
 
-abbrev pub Linked : ℕ → Option ConnState → Option Open → Type 0
+abbrev pub Linked : ℕ → Option ConnState → Option UnitsSoFar → Type 0
 Linked miu None None = Unit {0}
 Linked miu None (Some o) = ⊥
 Linked miu (Some k) None = ⊥
@@ -32,7 +32,7 @@ Linked miu (Some k) (Some o) = Joined miu k o
 
 module _ {S : Type 0} (told : S → List (List (List ℕ)) → Type 0) (c miu : ℕ) where
   -- an end, the connection that is open, and the units of those that are over
-  pub record Fits (l : LlcState S) (o : Option Open) (done : List (List (List ℕ))) : Type 0 where
+  pub record Fits (l : LlcState S) (o : Option UnitsSoFar) (done : List (List (List ℕ))) : Type 0 where
     pub near : l.miu ≡ miu
     pub distinct : AreDistinct l.served
     pub link : Linked miu (conn_from c l.served) o
@@ -60,7 +60,7 @@ module _ {S : Type 0} (told : S → List (List (List ℕ)) → Type 0) (c miu : 
     tells = λ us h. b.tells us (a.tells us h);
   }
 
-  pub same_fits : (l m : LlcState S) (o : Option Open) (done : List (List (List ℕ))) → Same l m → Fits l o done → Fits m o done
+  pub same_fits : (l m : LlcState S) (o : Option UnitsSoFar) (done : List (List (List ℕ))) → Same l m → Fits l o done → Fits m o done
   same_fits l m o done s h = record {
     near = s.near ∙ h.near;
     distinct = s.distinct h.distinct;
@@ -68,9 +68,9 @@ module _ {S : Type 0} (told : S → List (List (List ℕ)) → Type 0) (c miu : 
     tells = s.tells (done ++ last o) h.tells;
   }
 
-  pub stays : (l : LlcState S) (o : Option Open) (done : List (List (List ℕ))) → Fits l o done → FitsBehind l (record { open_ = o; over = [] }) done
+  pub stays : (l : LlcState S) (o : Option UnitsSoFar) (done : List (List (List ℕ))) → Fits l o done → FitsBehind l (record { open_ = o; over = [] }) done
   stays l o done h = subst (Fits l o) (sym (append-nil done)) h
 
-  pub same_stays : (l m : LlcState S) (o : Option Open) (done : List (List (List ℕ))) → Same l m → Fits l o done
+  pub same_stays : (l m : LlcState S) (o : Option UnitsSoFar) (done : List (List (List ℕ))) → Same l m → Fits l o done
       → FitsBehind m (record { open_ = o; over = [] }) done
   same_stays l m o done s h = stays m o done (same_fits l m o done s h)

@@ -7,7 +7,7 @@ use Rattle.llcp_pdu.specs.Writing.{inner_bytes, part_bytes, parts_bytes}
 use Rattle.llcp_link.specs.Serving.{Serving}
 use Rattle.llcp_link.specs.State.{LlcState}
 use Rattle.llcp_link.specs.Giving.{Gave, GaveAll, gave, gave_none, gave_first, joined, joined_so, given_so, given_parts, given, IsAllowed, payload_of}
-use Rattle.llcp_link.specs.Fronts.{IsFrontOf, FrontLaw, AloneLaw}
+use Rattle.llcp_link.specs.Fronts.{IsProperPrefix, FrontLaw, AloneLaw}
 
 -- these are those PDUs and one more
 record OneMore (few many : List Part) : Type 0 where
@@ -27,7 +27,7 @@ parts_joined [] qs = refl
 parts_joined (p ∷ ps) qs = ap (λ xs. inner_bytes p ++ xs) (parts_joined ps qs) ∙ sym (append_assoc (inner_bytes p) (parts_bytes ps) (parts_bytes qs))
 
 -- one PDU more stands behind the others in an AGF
-payload_more : (few many : List Part) → 2 ≤ length few → OneMore few many → IsFrontOf (payload_of few) (payload_of many)
+payload_more : (few many : List Part) → 2 ≤ length few → OneMore few many → IsProperPrefix (payload_of few) (payload_of many)
 payload_more [] many n h = absurd (omega arith)
 payload_more (p ∷ []) many n h = absurd (omega arith)
 payload_more (p ∷ q ∷ ps) many n h =
@@ -64,7 +64,7 @@ no_agf (Info d s ns nr info) xs ys e = let a : 0 ≡ 4 * d + 3 = ap first e in o
 no_agf (Rr d s nr) xs ys e = let a : 0 ≡ 4 * d + 3 = ap first e in omega arith
 no_agf (Rnr d s nr) xs ys e = let a : 0 ≡ 4 * d + 3 = ap first e in omega arith
 
-alone_begins_none : (ps qs : List Part) → length ps < 2 → 2 ≤ length qs → IsFrontOf (payload_of ps) (payload_of qs) → ⊥
+alone_begins_none : (ps qs : List Part) → length ps < 2 → 2 ≤ length qs → IsProperPrefix (payload_of ps) (payload_of qs) → ⊥
 alone_begins_none ps [] h k f = absurd (omega arith)
 alone_begins_none ps (q ∷ []) h k f = absurd (omega arith)
 alone_begins_none [] (q ∷ r ∷ qs) h k f = no_agf Symm (f.byte ∷ f.more) (parts_bytes (q ∷ r ∷ qs)) f.is
@@ -115,9 +115,9 @@ module _ {S : Type 0} (m : Serving S) where
       let all : length (given_parts m (suc (suc k)) l).parts ≡ suc (suc k) = several l (suc (suc k)) (omega arith) a in
       let g : Grows (suc k) (given_parts m (suc k) l) (given_parts m (suc (suc k)) l) = given_grows l (gave m l) k all in
       let two : 2 ≤ length (given_parts m (suc k) l).parts = subst (λ x. 2 ≤ x) (sym g.few_are) h in
-      let f : IsFrontOf (payload_of (given_parts m (suc k) l).parts) (payload_of (given_parts m (suc (suc k)) l).parts) =
+      let f : IsProperPrefix (payload_of (given_parts m (suc k) l).parts) (payload_of (given_parts m (suc (suc k)) l).parts) =
       payload_more (given_parts m (suc k) l).parts (given_parts m (suc (suc k)) l).parts two g.one in
-      (inr (h, g.few_are), subst (λ x. IsFrontOf x (given m (suc (suc k)) l)) (sym (given_is l (suc k) r)) (subst (IsFrontOf (payload_of (given_parts m (suc k) l).parts)) (sym (given_is l (suc (suc k)) r)) f))
+      (inr (h, g.few_are), subst (λ x. IsProperPrefix x (given m (suc (suc k)) l)) (sym (given_is l (suc k) r)) (subst (IsProperPrefix (payload_of (given_parts m (suc k) l).parts)) (sym (given_is l (suc (suc k)) r)) f))
 
   one_given : (l : LlcState S) (o : Option (Gave S)) → length (given_so m l o 0).parts < 2
   one_given l None = omega arith
@@ -127,4 +127,4 @@ module _ {S : Type 0} (m : Serving S) where
   alone_law l n r h a f =
       let two : 2 ≤ length (given_parts m n l).parts = subst (λ x. 2 ≤ x) (sym (several l n h a)) h in
       alone_begins_none (given_parts m 1 l).parts (given_parts m n l).parts (one_given l (gave m l)) two
-      (subst (λ x. IsFrontOf x (payload_of (given_parts m n l).parts)) (given_is l 1 r) (subst (IsFrontOf (given m 1 l)) (given_is l n r) f))
+      (subst (λ x. IsProperPrefix x (payload_of (given_parts m n l).parts)) (given_is l 1 r) (subst (IsProperPrefix (given m 1 l)) (given_is l n r) f))

@@ -10,7 +10,7 @@ use Rattle.llcp_pdu.specs.Wire.{sap_count}
 use Rattle.llcp_link.specs.Giving as g
 use Rattle.llcp_link.specs.Giving.{Gave, GaveAll, first_from, gave, gave_first, gave_none, joined, given_so, given_parts, after_giving, may_send, or_else, sap_after}
 use Rattle.llcp_link.specs.Own.{OwnGave, ack_on, unit_on}
-use Rattle.llcp_link.specs.Units.{Open}
+use Rattle.llcp_link.specs.Units.{UnitsSoFar}
 use Rattle.llcp_link.proofs.Clients.{conn_there, conn_with, conn_with_other, distinct_with}
 use Rattle.llcp_link.proofs.Ranged.{either}
 use Rattle.llcp_link.proofs.Following.{Follows, Fits, Linked, same_fits}
@@ -71,7 +71,7 @@ room_of k e = go k.held e
     go true e = absurd cc
     go false e = let h : length k.flight + length k.queue < k.window = ltb-true (length k.flight + length k.queue) k.window e in omega arith
 
-joined_on : (miu : ℕ) (k j : ConnState) → Keeps k j → (length k.flight ≤ k.window → length j.flight ≤ k.window) → (o : Option Open) → Linked miu (Some k) o → Linked miu (Some j) o
+joined_on : (miu : ℕ) (k j : ConnState) → Keeps k j → (length k.flight ≤ k.window → length j.flight ≤ k.window) → (o : Option UnitsSoFar) → Linked miu (Some k) o → Linked miu (Some j) o
 joined_on miu k j q w None x = absurd x
 joined_on miu k j q w (Some o) x = record {
   goes = q.here ∙ x.goes;
@@ -82,7 +82,7 @@ joined_on miu k j q w (Some o) x = record {
   counted = q.vr ∙ x.counted;
 }
 
-module _ {S : Type 0} (m : Serving S) (told : S → List (List (List ℕ)) → Type 0) (c miu : ℕ) (f : Follows m c told) (o : Option Open) (done : List (List (List ℕ))) where
+module _ {S : Type 0} (m : Serving S) (told : S → List (List (List ℕ)) → Type 0) (c miu : ℕ) (f : Follows m c told) (o : Option UnitsSoFar) (done : List (List (List ℕ))) where
   abbrev AllFit : Option (Gave S) → Type 0
   AllFit q = (x : Gave S) → q ≡ Some x → Fits told c miu x.llc o done
 

@@ -6,7 +6,7 @@ use Rattle.llcp_link.specs.Serving.{Serving}
 use Rattle.llcp_link.specs.State.{LlcState, conn_from, with_conn}
 use Rattle.llcp_link.specs.Giving.{Gave, may_send, gave_conn, sends, informs_served, acknowledges_served}
 use Rattle.llcp_link.specs.Kept.{IsServed}
-use Rattle.llcp_link.specs.Offering.{IsLonger, LeftBy, Owes, allowed, owing, part_of, sent_on, info_of, acked_on}
+use Rattle.llcp_link.specs.Offering.{IsLonger, LeftBy, Owes, allowed, owing, part_of, sent_on, info_of, behind_ack}
 use Rattle.llcp_link.proofs.Places.{found_there}
 
 not_false : (b : Bool) → not b ≡ true → b ≡ false
@@ -27,8 +27,8 @@ gives_sent c u h e =
     ∙ ap (λ b. if b then gives_ack (queued c u) else gives_from (queued c u) (c.queue ++ u ∷ [])) (not_held c e)
     ∙ ap (λ xs. gives_from (queued c u) (xs ++ u ∷ [])) h.queue
 
-pub gives_owed : (c : ConnState) → c.owed ≡ true → gives_ack c ≡ record { conn = acked_on c; pdu = Some (Rr c.there c.here c.vr) }
-gives_owed c e = ap (λ b. if b then record { conn = acked_on c; pdu = Some (Rr c.there c.here c.vr) } else record { conn = c; pdu = None }) e
+pub gives_owed : (c : ConnState) → c.owed ≡ true → gives_ack c ≡ record { conn = behind_ack c; pdu = Some (Rr c.there c.here c.vr) }
+gives_owed c e = ap (λ b. if b then record { conn = behind_ack c; pdu = Some (Rr c.there c.here c.vr) } else record { conn = c; pdu = None }) e
 
 none_of : (b : Bool) (c : ConnState) → (if b then Some c else None) ≡ None → b ≡ false
 none_of true c e = cc
@@ -69,17 +69,17 @@ module _ {S : Type 0} (m : Serving S) (l : LlcState S) (s : ℕ) where
   unowed None e = refl
   unowed (Some c) e =
       let k : gives_ack c ≡ record { conn = c; pdu = None } =
-      ap (λ b. if b then record { conn = acked_on c; pdu = Some (Rr c.there c.here c.vr) } else record { conn = c; pdu = None }) (none_of c.owed c e) in
+      ap (λ b. if b then record { conn = behind_ack c; pdu = Some (Rr c.there c.here c.vr) } else record { conn = c; pdu = None }) (none_of c.owed c e) in
       ap {A = Gives} (λ g. gave_conn l g.conn g.pdu) k
 
   pub acknowledges_none : owing (conn_from s l.served) ≡ None → acknowledges_served l (conn_from s l.served) ≡ None
   acknowledges_none e = unowed (conn_from s l.served) e
 
   pub acknowledges_one : (c : ConnState) → conn_from s l.served ≡ Some c → c.owed ≡ true → c.there ≡ s
-      → acknowledges_served l (conn_from s l.served) ≡ Some (record { llc = record l { served = with_conn (acked_on c) l.served; last = Some s }; part = Rr c.there c.here c.vr })
+      → acknowledges_served l (conn_from s l.served) ≡ Some (record { llc = record l { served = with_conn (behind_ack c) l.served; last = Some s }; part = Rr c.there c.here c.vr })
   acknowledges_one c f e t =
       ap (acknowledges_served l) f ∙ ap (λ g. gave_conn l g.conn g.pdu) (gives_owed c e)
-      ∙ ap (λ x. Some (record { llc = record l { served = with_conn (acked_on c) l.served; last = Some x }; part = Rr c.there c.here c.vr })) t
+      ∙ ap (λ x. Some (record { llc = record l { served = with_conn (behind_ack c) l.served; last = Some x }; part = Rr c.there c.here c.vr })) t
 
   -- an acknowledgement that is owed is longer than what is left
   pub ack_longer : (room place : ℕ) → Owes s l.served place → room < 5 → IsLonger room (part_of (acknowledges_served l (conn_from s l.served)))

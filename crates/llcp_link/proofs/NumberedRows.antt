@@ -9,7 +9,7 @@ use Rattle.llcp_conn.specs.Conn.{ConnState, Took, vs, acks, acknowledged, closes
 use Rattle.llcp_link.specs.Serving.{Serving}
 use Rattle.llcp_link.specs.State.{LlcState, Served, conn_from, with_conn, without_conn}
 use Rattle.llcp_link.specs.Taking as t
-use Rattle.llcp_link.specs.Units.{Mark, Open, Ends, Stays, Brings, is_within, informs, acknowledges, turn_of}
+use Rattle.llcp_link.specs.Units.{Mark, UnitsSoFar, Ends, Stays, Brings, is_within, informs, acknowledges, turn_of}
 use Rattle.llcp_link.proofs.Clients.{conn_with, conn_without, distinct_with, distinct_without}
 use Rattle.llcp_link.proofs.Ranged.{either}
 use Rattle.llcp_link.proofs.Following.{Follows, Fits, FitsBehind, Joined, Linked, same_fits}
@@ -58,7 +58,7 @@ module _ {S : Type 0} (m : Serving S) (told : S → List (List (List ℕ)) → T
   answered_behind n p x h = same_fits told c miu n (t.answered n p) x.open_ (done ++ x.over) (answered_same m told c miu f n p) h
 
   -- it ends
-  pub conn_ends : (k : ConnState) (o : Open) → k.there ≡ c → Fits told c miu l (Some o) done
+  pub conn_ends : (k : ConnState) (o : UnitsSoFar) → k.there ≡ c → Fits told c miu l (Some o) done
       → FitsBehind told c miu (t.ends l (Served k)) (turn_of o Ends) done
   conn_ends k o e h = record {
     near = h.near;
@@ -72,12 +72,12 @@ module _ {S : Type 0} (m : Serving S) (told : S → List (List (List ℕ)) → T
       let g : j.there ≡ c = q ∙ e in
       subst (λ z. conn_from z (with_conn j l.served) ≡ Some j) g (conn_with j l.served k (subst (λ z. conn_from z l.served ≡ Some k) (sym g) i))
 
-  reports : (k : ConnState) (o : Open) (r : FrmrReport) (p : ConnState) → p.there ≡ k.there → k.there ≡ c → Fits told c miu l (Some o) done
+  reports : (k : ConnState) (o : UnitsSoFar) (r : FrmrReport) (p : ConnState) → p.there ≡ k.there → k.there ≡ c → Fits told c miu l (Some o) done
       → FitsBehind told c miu (t.served_so m l p (taking.Closed r)) (turn_of o Ends) done
   reports k o r p q e h = answered_behind (t.ends l (Served p)) (Frmr p.there p.here r) (turn_of o Ends) (conn_ends p o (q ∙ e) h)
 
   -- an acknowledgement alone
-  acks_steps : (k : ConnState) (o : Open) (nr : ℕ) (held : Bool) → nr < 16 → k.there ≡ c → conn_from c l.served ≡ Some k → Fits told c miu l (Some o) done → Joined miu k o
+  acks_steps : (k : ConnState) (o : UnitsSoFar) (nr : ℕ) (held : Bool) → nr < 16 → k.there ≡ c → conn_from c l.served ≡ Some k → Fits told c miu l (Some o) done → Joined miu k o
       → FitsBehind told c miu (t.served_so m l (record (acknowledged k nr) { held = held }) taking.Nothing) (turn_of o Stays) done
   acks_steps k o nr held n e i h j =
       let now = record (acknowledged k nr) { held = held } in record {
@@ -94,7 +94,7 @@ module _ {S : Type 0} (m : Serving S) (told : S → List (List (List ℕ)) → T
         tells = subst (λ z. told l.service (z ++ o.units ∷ [])) (sym (append-nil done)) h.tells;
       }
 
-  pub ready_steps : (k : ConnState) (o : Open) (ptype nr : ℕ) (held : Bool) (a : Mark) → nr < 16 → IsMarked k a → k.there ≡ c → conn_from c l.served ≡ Some k
+  pub ready_steps : (k : ConnState) (o : UnitsSoFar) (ptype nr : ℕ) (held : Bool) (a : Mark) → nr < 16 → IsMarked k a → k.there ≡ c → conn_from c l.served ≡ Some k
       → Fits told c miu l (Some o) done → Joined miu k o
       → FitsBehind told c miu (t.served_so m l (takes_nr k ptype nr held).conn (takes_nr k ptype nr held).does) (turn_of o (acknowledges a nr)) done
   ready_steps k o ptype nr held a n v e i h j = rw tests (go (is_outside k nr))
@@ -107,7 +107,7 @@ module _ {S : Type 0} (m : Serving S) (told : S → List (List (List ℕ)) → T
       go false = acks_steps k o nr held n e i h j
 
   -- a unit
-  brings : (k : ConnState) (o : Open) (nr : ℕ) (xs : List ℕ) → nr < 16 → k.there ≡ c → conn_from c l.served ≡ Some k → Fits told c miu l (Some o) done → Joined miu k o
+  brings : (k : ConnState) (o : UnitsSoFar) (nr : ℕ) (xs : List ℕ) → nr < 16 → k.there ≡ c → conn_from c l.served ≡ Some k → Fits told c miu l (Some o) done → Joined miu k o
       → FitsBehind told c miu (t.served_so m l (record (acknowledged k nr) { vr = (k.vr + 1) % 16; owed = true }) (taking.Unit xs)) (turn_of o (Brings xs)) done
   brings k o nr xs n e i h j =
       let now = record (acknowledged k nr) { vr = (k.vr + 1) % 16; owed = true } in record {
@@ -125,7 +125,7 @@ module _ {S : Type 0} (m : Serving S) (told : S → List (List (List ℕ)) → T
             (subst (λ z. told (m.brought l.service z xs) (done ++ (o.units ++ xs ∷ []) ∷ [])) (sym e) (f.brought l.service done o.units xs h.tells));
       }
 
-  pub info_steps : (k : ConnState) (o : Open) (ns nr : ℕ) (xs : List ℕ) (a : Mark) → nr < 16 → IsMarked k a → k.there ≡ c → conn_from c l.served ≡ Some k
+  pub info_steps : (k : ConnState) (o : UnitsSoFar) (ns nr : ℕ) (xs : List ℕ) (a : Mark) → nr < 16 → IsMarked k a → k.there ≡ c → conn_from c l.served ≡ Some k
       → Fits told c miu l (Some o) done → Joined miu k o
       → FitsBehind told c miu (t.served_so m l (takes_unit k ns nr xs).conn (takes_unit k ns nr xs).does) (turn_of o (informs miu o a ns nr xs)) done
   info_steps k o ns nr xs a n v e i h j = rw tests (go (nat_lt k.near_miu (length xs)) (is_outside k nr) (ns == k.vr))

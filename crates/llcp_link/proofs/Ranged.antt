@@ -8,7 +8,7 @@ use Rattle.llcp_pdu.specs.Params.{last_of, rw_in}
 use Rattle.llcp_pdu.specs.Pdus.{pdu}
 use Rattle.llcp_pdu.specs.Ranges.{IsPart, AreParts, AreParams}
 use Rattle.llcp_pdu.specs.Raw.{raw}
-use Rattle.llcp_pdu.specs.Views.{told_by}
+use Rattle.llcp_pdu.specs.Views.{refusal_told}
 use Rattle.llcp_pdu.specs.Wire.{disc_type, info_type, rr_type, rnr_type, rw_end}
 use Rattle.llcp_pdu.proofs.Exact.{are_bytes}
 use Rattle.llcp_pdu.proofs.InRange.{in_range}
@@ -47,7 +47,7 @@ broken_ranged (Some h) = minded_ranged h
 items_ranged : (b : List ℕ) → AreBytes b → AreRanged (items b)
 items_ranged b h = go (pdu b) refl
   where
-    go : (r : Result _ _) → pdu b ≡ r → AreRanged (items_of b (told_by r))
+    go : (r : Result _ _) → pdu b ≡ r → AreRanged (items_of b (refusal_told r))
     go (Ok (One p)) e = (in_range (One p) b (are_bytes b h) (pdu_found (One p) b (are_bytes b h) e), tt)
     go (Ok (Agf ps)) e = parts_ranged ps (in_range (Agf ps) b (are_bytes b h) (pdu_found (Agf ps) b (are_bytes b h) e))
     go (Err f) e = broken_ranged (raw b)

@@ -8,7 +8,7 @@ use Rattle.llcp_conn.specs.declared.conn.Taken.TheVariants as taking
 use Rattle.llcp_conn.specs.Conn.{ConnState, Took, fresh}
 use Rattle.llcp_link.specs.Serving.{Serving}
 use Rattle.llcp_link.specs.State.{LlcState, OwnIs, Asking, Open, Refused, Leaving, Closed, OwnState, Holder, Nobody, Served, Asked, conn_from, with_conn, own_holder, holds_open}
-use Rattle.llcp_link.specs.Names.{rw_of, reached, name_of, answers_to, told_all}
+use Rattle.llcp_link.specs.Names.{rw_of, reached, name_of, answers_to, lookups_told}
 use Rattle.llcp_link.specs.Taking as t
 use Rattle.llcp_link.proofs.Clients.{AreDistinct, not_equal, conn_with_other, conn_without_other, conn_more_other, distinct_with, distinct_without, distinct_more}
 use Rattle.llcp_link.proofs.Ranged.{either}
@@ -61,8 +61,8 @@ module _ {S : Type 0} (m : Serving S) (told : S → List (List (List ℕ)) → T
 
   pub discovers_same : (l : LlcState S) (ps : List Param) → Same told c miu l (t.discovers l ps)
   discovers_same l ps =
-      then_same told c miu l (record l { lookups = told_all ps l.lookups }) _ (beside l _ refl refl refl)
-      (tells_same (record l { lookups = told_all ps l.lookups }) (answers_to l.bound (l.far_miu / 4) ps))
+      then_same told c miu l (record l { lookups = lookups_told ps l.lookups }) _ (beside l _ refl refl refl)
+      (tells_same (record l { lookups = lookups_told ps l.lookups }) (answers_to l.bound (l.far_miu / 4) ps))
 
   -- a connection of another client
   conn_same : (l : LlcState S) (k : ConnState) → (k.there == c) ≡ false → Same told c miu l (record l { served = with_conn k l.served })

@@ -8,7 +8,7 @@ use Rattle.llcp_pdu.specs.declared.part.Part.TheVariants.{Snl}
 use Rattle.llcp_pdu.specs.Ranges.{IsParam, AreParams}
 use Rattle.llcp_pdu.specs.Writing.{tlv_of, params_bytes}
 use Rattle.llcp_link.specs.State.{LlcState}
-use Rattle.llcp_link.specs.Names.{answers_to, told_all}
+use Rattle.llcp_link.specs.Names.{answers_to, lookups_told}
 use Rattle.llcp_link.specs.Taking.{answered, tells, discovers}
 use Rattle.llcp_link.specs.Answers.{IsAnswer, AreAnswers, put_one}
 
@@ -35,14 +35,14 @@ one_more most ps p h all e =
     }
 
 pub discovers_none : {S : Type 0} (l : LlcState S) (ps answers : List Param) → answers ≡ answers_to l.bound (l.far_miu / 4) ps → length answers ≡ 0
-    → record l { lookups = told_all ps l.lookups } ≡ discovers l ps
-discovers_none l ps [] is n = ap (tells (record l { lookups = told_all ps l.lookups })) is
+    → record l { lookups = lookups_told ps l.lookups } ≡ discovers l ps
+discovers_none l ps [] is n = ap (tells (record l { lookups = lookups_told ps l.lookups })) is
 discovers_none l ps (a ∷ more) is n = absurd (let m : suc (length more) ≡ 0 = n in omega arith)
 
 pub discovers_some : {S : Type 0} (l : LlcState S) (ps answers : List Param) → answers ≡ answers_to l.bound (l.far_miu / 4) ps → (length answers ≡ 0 → ⊥)
-    → answered (record l { lookups = told_all ps l.lookups }) (Snl answers) ≡ discovers l ps
+    → answered (record l { lookups = lookups_told ps l.lookups }) (Snl answers) ≡ discovers l ps
 discovers_some l ps [] is n = absurd (n refl)
-discovers_some l ps (a ∷ more) is n = ap (tells (record l { lookups = told_all ps l.lookups })) is
+discovers_some l ps (a ∷ more) is n = ap (tells (record l { lookups = lookups_told ps l.lookups })) is
 
 module _ (f : Param → Option Param) where
   take_none : (n m : ℕ) (xs : List Param) → n ≡ m → take (m - n) xs ≡ []

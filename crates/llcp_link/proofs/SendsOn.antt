@@ -7,7 +7,7 @@ use Rattle.llcp_conn.specs.Conn.{ConnState}
 use Rattle.llcp_link.specs.State.{conn_from, with_conn}
 use Rattle.llcp_link.specs.Giving.{may_send}
 use Rattle.llcp_link.specs.Kept.{AllServed, IsSent, IsServed}
-use Rattle.llcp_link.specs.Offering.{AckedBy, Owes, Sends, SentBy, allowed, owing, acked_on, info_of, sent_on}
+use Rattle.llcp_link.specs.Offering.{AckedBy, Owes, Sends, SentBy, allowed, owing, behind_ack, info_of, sent_on}
 use Rattle.llcp_link.specs.Places.{IsPlace}
 use Rattle.llcp_link.proofs.Places.{found_there, read_at, set_at}
 use Rattle.llcp_link.proofs.Held.{all_set, served_there}
@@ -69,10 +69,10 @@ sent_all s most u old place o all c now is e =
     all_set o.at.conn.here s old place o.at refl all now (subst IsServed (sym (e ∙ ap (λ x. sent_on x u) q)) k)
 
 pub acked_there : (s : ℕ) (old : List ConnState) (place : ℕ) (o : Owes s old place) (all : AllServed old) (c now : ConnState) (p : Part)
-    → c ≡ slice_index_or old place c → now ≡ acked_on c → p ≡ Rr c.there c.here c.vr → AckedBy s old p (slice_set old place now)
+    → c ≡ slice_index_or old place c → now ≡ behind_ack c → p ≡ Rr c.there c.here c.vr → AckedBy s old p (slice_set old place now)
 acked_there s old place o all c now p is e i =
     let q : c ≡ o.at.conn = is ∙ read_at s old place o.at c in
-    let n : now ≡ acked_on o.at.conn = e ∙ ap acked_on q in
+    let n : now ≡ behind_ack o.at.conn = e ∙ ap behind_ack q in
     let t : now.there ≡ s = ap (λ x. x.there) n ∙ o.at.there in
     let r : p ≡ Rr o.at.conn.there o.at.conn.here o.at.conn.vr = i ∙ ap (λ x. Rr x.there x.here x.vr) q in
     let h : IsServed o.at.conn = served_there o.at.conn.here s old place o.at refl all in record {
@@ -86,10 +86,10 @@ acked_there s old place o all c now p is e i =
       size = ap (λ x. length (inner_bytes x)) r;
     }
 
-pub acked_all : (s : ℕ) (old : List ConnState) (place : ℕ) (o : Owes s old place) (all : AllServed old) (c now : ConnState) → c ≡ slice_index_or old place c → now ≡ acked_on c
+pub acked_all : (s : ℕ) (old : List ConnState) (place : ℕ) (o : Owes s old place) (all : AllServed old) (c now : ConnState) → c ≡ slice_index_or old place c → now ≡ behind_ack c
     → AllServed (slice_set old place now)
 acked_all s old place o all c now is e =
     let q : c ≡ o.at.conn = is ∙ read_at s old place o.at c in
     let h : IsServed o.at.conn = served_there o.at.conn.here s old place o.at refl all in
-    let k : IsServed (acked_on o.at.conn) = record { here = h.here; there = h.there; far_miu = h.far_miu; vr = h.vr; vsa = h.vsa; vra = h.vr; live = h.live; queue = h.queue } in
-    all_set o.at.conn.here s old place o.at refl all now (subst IsServed (sym (e ∙ ap acked_on q)) k)
+    let k : IsServed (behind_ack o.at.conn) = record { here = h.here; there = h.there; far_miu = h.far_miu; vr = h.vr; vsa = h.vsa; vra = h.vr; live = h.live; queue = h.queue } in
+    all_set o.at.conn.here s old place o.at refl all now (subst IsServed (sym (e ∙ ap behind_ack q)) k)

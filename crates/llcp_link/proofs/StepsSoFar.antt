@@ -8,7 +8,7 @@ use Rattle.llcp_link.specs.Serving.{Serving}
 use Rattle.llcp_link.specs.State.{LlcState}
 use Rattle.llcp_link.specs.Taking.{Item, Good, step, steps, steps_part}
 use Rattle.llcp_link.specs.Stepping.{stepped}
-use Rattle.llcp_link.specs.Halting.{IsSame, Leaves, Halts}
+use Rattle.llcp_link.specs.Halting.{IsSame, LeavesService, Halts}
 
 pub steps_more : {S : Type 0} (m : Serving S) (l : LlcState S) (xs ys : List Item) → steps m l (xs ++ ys) ≡ steps m (steps m l xs) ys
 steps_more m l [] ys = refl
@@ -37,13 +37,13 @@ pub ends : {S : Type 0} (m : Serving S) (old : LlcState S) (all left : List Part
 ends m old all left now s e =
     sym s.steps ∙ ap (λ xs. steps m old (map Good xs)) (sym (s.split ∙ ap (λ xs. s.front ++ xs) e ∙ append-nil s.front))
 
-pub stops : {S : Type 0} (m : Serving S) (old : LlcState S) (all left : List Part) (now new : LlcState S) → SoFar m old all left now → Leaves m now.service new.service
+pub stops : {S : Type 0} (m : Serving S) (old : LlcState S) (all left : List Part) (now new : LlcState S) → SoFar m old all left now → LeavesService m now.service new.service
     → Halts m old (map Good all) new
 stops m old all left now new s h = record {
   front = map Good s.front;
   behind = map Good left;
   split = ap (map Good) s.split ∙ map-append Good s.front left;
-  service = subst (λ l. Leaves m l.service new.service) (sym s.steps) h;
+  service = subst (λ l. LeavesService m l.service new.service) (sym s.steps) h;
 }
 
 pub same_on : {S : Type 0} (a b c : LlcState S) → IsSame a b → IsSame b c → IsSame a c

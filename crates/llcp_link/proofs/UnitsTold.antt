@@ -5,7 +5,7 @@ use Rattle.llcp_link.specs.Serving.{Serving}
 use Rattle.llcp_link.specs.State.{LlcState, conn_from, restarted}
 use Rattle.llcp_link.specs.Taking.{Item, brought, step, steps}
 use Rattle.llcp_link.specs.Units.{Mark, Turn, last, mark, marks, turn, units}
-use Rattle.llcp_link.specs.Running.{Act, Acted, Does, Else, Gives, IsRun, Takes, Tells, TellsSame, UnitsLaw, end_of, marks_by, marks_of, with_unit}
+use Rattle.llcp_link.specs.Running.{Act, Acted, Does, Else, Gives, IsRun, Takes, Tells, TellsSame, UnitsLaw, end_after_acts, marks_by, marks_of, with_unit}
 use Rattle.llcp_link.proofs.Clients.{AreDistinct}
 use Rattle.llcp_link.proofs.Ranged.{AreRanged, brought_ranged}
 use Rattle.llcp_link.proofs.Following.{Follows, Fits, Linked}
@@ -52,10 +52,10 @@ module _ {S : Type 0} (m : Serving S) (told : S → List (List (List ℕ)) → T
       tells = changed l.service n.service (x.over ++ last x.open_) d.service h.tells;
     }
 
-    pub run_fits : (run : List (Acted S)) (l : LlcState S) → IsRun m changes l run → (x : Turn) → FitsAt l x → FitsAt (end_of l run) (turns c miu x (marks_of m c l run))
+    pub run_fits : (run : List (Acted S)) (l : LlcState S) → IsRun m changes l run → (x : Turn) → FitsAt l x → FitsAt (end_after_acts l run) (turns c miu x (marks_of m c l run))
     run_fits [] l r x h = h
     run_fits (a ∷ run) l r x h =
-        subst (λ z. FitsAt (end_of a.after run) z) (sym (turns_more c miu x (marks_by m c l a.act) (marks_of m c a.after run)))
+        subst (λ z. FitsAt (end_after_acts a.after run) z) (sym (turns_more c miu x (marks_by m c l a.act) (marks_of m c a.after run)))
         (run_fits run a.after r.1 (turns c miu x (marks_by m c l a.act)) (act_fits a.act l a.after r.0 x h))
 
 -- a service that tells its units is one of which a relation tells them

@@ -12,7 +12,7 @@ use Rattle.llcp_link.specs.Serving.{Serving}
 use Rattle.llcp_link.specs.State.{LlcState, Queued, OwnIs, Asking, Open, Refused, Leaving, Closed, OwnState, Holder, Nobody, Served, Asked, conn_from, own_from, own_holder, holds_open, served_holder, holder, with_own, with_conn}
 use Rattle.llcp_link.specs.Asking.{acked_of, acked_on, is_open, is_open_by, standing_of, standing_on, unit_taken_by}
 use Rattle.llcp_link.specs.declared.standing.Standing.TheVariants as stands
-use Rattle.llcp_link.specs.Names.{rw_of, reached, name_of, miu_of, answers_to, told_all}
+use Rattle.llcp_link.specs.Names.{rw_of, reached, name_of, miu_of, answers_to, lookups_told}
 use Rattle.llcp_link.specs.Taking as t
 use Rattle.llcp_link.specs.Taking.{Item, Good, Broken, taken_from, brought, step, steps, steps_part}
 use Rattle.llcp_link.specs.Giving as g
@@ -351,7 +351,7 @@ module _ {S : Type 0} (m : Serving S) (h : ℕ) where
   part_wanes l (Dm d s reason) = heard_wanes l d s dm_on (λ o. dm_here o o.is) (λ o. dm_wanes o o.is)
   part_wanes l (Disc d s) = leaves_wane l d s (holder l d s) (holder_mine l d s)
   part_wanes l (Frmr d s r) = ends_wane l (holder l d s) (holder_mine l d s)
-  part_wanes l (Snl ps) = tells_wane l (record l { lookups = told_all ps l.lookups }) (answers_to l.bound (l.far_miu / 4) ps) refl
+  part_wanes l (Snl ps) = tells_wane l (record l { lookups = lookups_told ps l.lookups }) (answers_to l.bound (l.far_miu / 4) ps) refl
   part_wanes l (Info d s ns nr info) =
       numbered_wane l (λ c. takes c (Info d s ns nr info)) (λ c. unit_took c ns nr info) d s (holder l d s) (holder_mine l d s)
   part_wanes l (Rr d s nr) = numbered_wane l (λ c. takes c (Rr d s nr)) (λ c. nr_took c rr_type nr false) d s (holder l d s) (holder_mine l d s)

@@ -3,7 +3,7 @@ use Rattle.std.specs.Prelude.{◌≡◌, ℕ, ◌+◌, ◌%◌, ◌==◌, Bool, 
 use Rattle.llcp_pdu.specs.declared.part.Part.{Part}
 use Rattle.llcp_pdu.specs.declared.part.Part.TheVariants.{Connect, Disc, Snl}
 use Rattle.llcp_pdu.specs.declared.param.Param.TheVariants.{SdReq}
-use Rattle.llcp_conn.specs.Conn.{queued, refusal, first, has_waiting}
+use Rattle.llcp_conn.specs.Conn.{queued, refusal_to_submit, first, has_waiting}
 use Rattle.llcp_conn.specs.declared.fault.ConnFault.{ConnFault}
 use Rattle.llcp_conn.specs.declared.fault.ConnFault.TheVariants.{NotOpen}
 use Rattle.llcp_link.specs.declared.fault.LlcFault.{LlcFault}
@@ -79,7 +79,7 @@ has_waiting_of (Some o) = has_waiting_on o.is
 
 -- why a unit isn't submitted, if it isn't
 abbrev pub refusal_on : OwnIs → List ℕ → Option ConnFault
-refusal_on (Open c) u = refusal c u
+refusal_on (Open c) u = refusal_to_submit c u
 refusal_on _ u = Some NotOpen
 
 abbrev pub refusal_of : Option OwnState → List ℕ → Option ConnFault

@@ -27,7 +27,7 @@ Holds (Served d) c = d ≡ c
 Holds (Asked o d) c = d ≡ c
 
 -- the connection between two SAPs, whose numbers are these
-pub record IsBetween (h : Holder) (here there : ℕ) (n : ConnNumbers) : Type 0 where
+pub record IsConnBetween (h : Holder) (here there : ℕ) (n : ConnNumbers) : Type 0 where
   pub conn : ConnState
   pub holds : Holds h conn
   pub here_is : conn.here ≡ here
@@ -38,7 +38,7 @@ pub record IsBetween (h : Holder) (here there : ℕ) (n : ConnNumbers) : Type 0 
 -- the connection between two SAPs is given up, where there is one, and tells its numbers
 abbrev pub ClosesHeld : {S : Type 0} → LlcState S → ℕ → ℕ → Option ConnNumbers → LlcState S → Type 0
 ClosesHeld old d s None new = (holder old d s ≡ Nobody) × (new ≡ old)
-ClosesHeld old d s (Some n) new = IsBetween (holder old d s) d s n × (new ≡ ends old (holder old d s))
+ClosesHeld old d s (Some n) new = IsConnBetween (holder old d s) d s n × (new ≡ ends old (holder old d s))
 
 -- one that this end asked for, open to a SAP of the other end
 pub record IsOpenTo (s : ℕ) (o : OwnState) (c : ConnState) : Type 0 where

@@ -5,7 +5,7 @@ use Rattle.llcp_link.specs.State.{LlcState}
 use Rattle.llcp_link.specs.Giving.{IsAllowed, given}
 
 -- these bytes begin those, and there are more
-pub record IsFrontOf (few many : List ℕ) : Type 0 where
+pub record IsProperPrefix (few many : List ℕ) : Type 0 where
   pub byte : ℕ
   pub more : List ℕ
   pub is : many ≡ few ++ byte ∷ more
@@ -14,9 +14,9 @@ pub record IsFrontOf (few many : List ℕ) : Type 0 where
 abbrev pub FrontLaw : {S : Type 0} → Serving S → Type 0
 FrontLaw {S} m =
     (l : LlcState S) (n : ℕ) → l.readable ≡ true → 2 ≤ n → IsAllowed m l (suc n)
-    → IsAllowed m l n × IsFrontOf (given m n l) (given m (suc n) l)
+    → IsAllowed m l n × IsProperPrefix (given m n l) (given m (suc n) l)
 
 -- The payload of one PDU begins none of several.
 abbrev pub AloneLaw : {S : Type 0} → Serving S → Type 0
 AloneLaw {S} m =
-    (l : LlcState S) (n : ℕ) → l.readable ≡ true → 2 ≤ n → IsAllowed m l n → IsFrontOf (given m 1 l) (given m n l) → ⊥
+    (l : LlcState S) (n : ℕ) → l.readable ≡ true → 2 ≤ n → IsAllowed m l n → IsProperPrefix (given m 1 l) (given m n l) → ⊥

@@ -14,15 +14,15 @@ pub record IsSame {S : Type 0} (old new : LlcState S) : Type 0 where
   pub stuck : new.stuck ≡ old.stuck
 
 -- the service is as it was, or as a call of it leaves it that want of memory ended
-abbrev pub Leaves : {S : Type 0} → Serving S → S → S → Type 0
-Leaves m old new = (new ≡ old) ⊎ m.keeps old new
+abbrev pub LeavesService : {S : Type 0} → Serving S → S → S → Type 0
+LeavesService m old new = (new ≡ old) ⊎ m.keeps old new
 
 -- The end took some first of these PDUs, and then memory was wanting.
 pub record Halts {S : Type 0} (m : Serving S) (old : LlcState S) (items : List Item) (new : LlcState S) : Type 0 where
   pub front : List Item
   pub behind : List Item
   pub split : items ≡ front ++ behind
-  pub service : Leaves m (steps m old front).service new.service
+  pub service : LeavesService m (steps m old front).service new.service
 
 -- Memory was wanting: until a restart payloads are neither taken nor given. What no payload changes is as it was,
 -- and the service is as some first of the PDUs leave it.

@@ -60,10 +60,10 @@ abbrev pub told_one : ℕ → ℕ → List Lookup → List Lookup
 told_one tid sap [] = []
 told_one tid sap (x ∷ xs) = if x.tid == tid then record { tid = tid; told = Some sap } ∷ xs else x ∷ told_one tid sap xs
 
-abbrev pub told_by : Param → List Lookup → List Lookup
-told_by (SdRes tid sap) xs = told_one tid sap xs
-told_by _ xs = xs
+abbrev pub lookup_told : Param → List Lookup → List Lookup
+lookup_told (SdRes tid sap) xs = told_one tid sap xs
+lookup_told _ xs = xs
 
-abbrev pub told_all : List Param → List Lookup → List Lookup
-told_all [] xs = xs
-told_all (p ∷ ps) xs = told_all ps (told_by p xs)
+abbrev pub lookups_told : List Param → List Lookup → List Lookup
+lookups_told [] xs = xs
+lookups_told (p ∷ ps) xs = lookups_told ps (lookup_told p xs)

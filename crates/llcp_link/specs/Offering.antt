@@ -8,7 +8,7 @@ use Rattle.llcp_link.specs.State.{LlcState, OwnState, Queued, conn_from, with_co
 use Rattle.llcp_link.specs.Own.{OwnGave}
 use Rattle.llcp_link.specs.Kept.{IsSent, IsServed}
 use Rattle.llcp_link.specs.Giving.{Gave, may_send}
-use Rattle.llcp_link.specs.Halting.{Leaves}
+use Rattle.llcp_link.specs.Halting.{LeavesService}
 use Rattle.llcp_link.specs.Places.{IsPlace}
 use Rattle.llcp_link.specs.Serving.{Serving}
 use Rattle.llcp_link.specs.declared.giving.Next.{Next}
@@ -47,8 +47,8 @@ abbrev pub info_of : ConnState → List ℕ → Part
 info_of c u = Info c.there c.here (vs c) c.vr u
 
 -- once it gave an acknowledgement
-abbrev pub acked_on : ConnState → ConnState
-acked_on c = record c { vra = c.vr; owed = false }
+abbrev pub behind_ack : ConnState → ConnState
+behind_ack c = record c { vra = c.vr; owed = false }
 
 -- the oldest PDU that waits
 abbrev pub queued_first : {S : Type 0} → LlcState S → List Queued → Option (Gave S)
@@ -107,7 +107,7 @@ pub record AckedBy (s : ℕ) (old : List ConnState) (p : Part) (new : List ConnS
   pub owed : conn.owed ≡ true
   pub there : conn.there ≡ s
   pub part : p ≡ Rr conn.there conn.here conn.vr
-  pub left : new ≡ with_conn (acked_on conn) old
+  pub left : new ≡ with_conn (behind_ack conn) old
   pub sent : IsSent p
   pub size : length (inner_bytes p) ≡ 5
 
@@ -118,4 +118,4 @@ LeftBy None s = ⊥
 LeftBy (Some g) s = s ≡ g.llc.service
 
 abbrev pub LeavesNext : {S : Type 0} → Serving S → Option (Gave S) → S → S → Type 0
-LeavesNext m due old new = Leaves m old new ⊎ LeftBy due new
+LeavesNext m due old new = LeavesService m old new ⊎ LeftBy due new

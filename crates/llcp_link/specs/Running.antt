@@ -29,9 +29,9 @@ pub record DoesElse {S : Type 0} (changes : S → S → Type 0) (old new : LlcSt
   pub service : changes old.service new.service
 
 -- the end behind its acts
-abbrev pub end_of : {S : Type 0} → LlcState S → List (Acted S) → LlcState S
-end_of l [] = l
-end_of l (a ∷ more) = end_of a.after more
+abbrev pub end_after_acts : {S : Type 0} → LlcState S → List (Acted S) → LlcState S
+end_after_acts l [] = l
+end_after_acts l (a ∷ more) = end_after_acts a.after more
 
 module _ {S : Type 0} (m : Serving S) where
   abbrev pub Does : (S → S → Type 0) → LlcState S → Act → LlcState S → Type 0
@@ -76,5 +76,5 @@ abbrev pub UnitsLaw : {S : Type 0} → Serving S → Type 0
 UnitsLaw {S} m =
     (told : ℕ → S → List (List (List ℕ))) → Tells m told → (old : LlcState S) (general : List ℕ) (run : List (Acted S))
     → IsRun m (TellsSame told) (restarted m old general) run → (c : ℕ) → IsSap c
-    → told c (end_of (restarted m old general) run).service
+    → told c (end_after_acts (restarted m old general) run).service
     ≡ told c (m.renewed old.service) ++ units c old.miu None (marks_of m c (restarted m old general) run)

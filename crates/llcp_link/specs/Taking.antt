@@ -1,7 +1,7 @@
 -- What an end does with a payload that it takes (NFC Forum LLCP 1.3; the limits of its queue are this project's own).
 use Rattle.std.specs.Prelude.{ℕ, ◌+◌, ◌/◌, ◌==◌, ◌&&◌, ◌||◌, nat_lt, nat_le, Bool, List, [], ◌∷◌, ◌++◌, length, map, Option, Some, None, is_none, if◌then◌else◌, Result, Ok, Err}
 use Rattle.llcp_pdu.specs.declared.fault.PduRefusal.{PduRefusal}
-use Rattle.llcp_pdu.specs.Views.{told_by}
+use Rattle.llcp_pdu.specs.Views.{refusal_told}
 use Rattle.llcp_pdu.specs.declared.param.Param.{Param}
 use Rattle.llcp_pdu.specs.declared.part.Part.{Part}
 use Rattle.llcp_pdu.specs.declared.part.Part.TheVariants.{Symm, Ui, Connect, Disc, Cc, Dm, Frmr, Snl, Info, Rr, Rnr}
@@ -17,7 +17,7 @@ use Rattle.llcp_conn.specs.Conn.{ConnState, fresh, takes, Took, report}
 use Rattle.llcp_link.specs.Serving.{Serving}
 use Rattle.llcp_link.specs.State.{Queued, answer, OwnState, LlcState, most_answers, most_connections, conn_from, with_conn, without_conn, own_from, with_own, Holder, Nobody, Served, Asked, holder}
 use Rattle.llcp_link.specs.Own.{cc_on, closed_on, dm_on, if_there, on_own, took_on}
-use Rattle.llcp_link.specs.Names.{reached, name_of, miu_of, rw_of, own_params, answers_to, told_all}
+use Rattle.llcp_link.specs.Names.{reached, name_of, miu_of, rw_of, own_params, answers_to, lookups_told}
 
 -- the flag of a FRMR for a malformed PDU
 abbrev pub flag_w : ℕ
@@ -67,7 +67,7 @@ items_of b (Err r) = broken (raw b)
 
 -- the PDUs of a payload: of a malformed AGF none
 abbrev pub items : List ℕ → List Item
-items b = items_of b (told_by (pdu b))
+items b = items_of b (refusal_told (pdu b))
 
 -- how many answers wait
 abbrev pub answers_in : List Queued → ℕ
@@ -131,7 +131,7 @@ module _ {S : Type 0} where
   tells l (p ∷ ps) = answered l (Snl (p ∷ ps))
 
   abbrev pub discovers : LlcState S → List Param → LlcState S
-  discovers l ps = tells (record l { lookups = told_all ps l.lookups }) (answers_to l.bound (l.far_miu / 4) ps)
+  discovers l ps = tells (record l { lookups = lookups_told ps l.lookups }) (answers_to l.bound (l.far_miu / 4) ps)
 
   -- a malformed PDU of a connection ends it
   abbrev pub breaks : LlcState S → ℕ → ℕ → Holder → LlcState S

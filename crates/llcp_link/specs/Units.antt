@@ -35,7 +35,7 @@ module _ {S : Type 0} (m : Serving S) where
   marks c l (i ∷ is) = mark c l i ∷ marks c (step m l i) is
 
 -- a connection of the client's SAP: the SAP that it goes to, and its units so far
-pub record Open : Type 0 where
+pub record UnitsSoFar : Type 0 where
   pub here : ℕ
   pub units : List (List ℕ)
 
@@ -50,16 +50,16 @@ pub data Does : Type 0 where
   Brings : List ℕ → Does
 
 -- A PDU between its SAPs. The next I PDU has a right size, N(S) and N(R); a right RR and RNR a right N(R).
-abbrev pub informs : ℕ → Open → Mark → ℕ → ℕ → List ℕ → Does
+abbrev pub informs : ℕ → UnitsSoFar → Mark → ℕ → ℕ → List ℕ → Does
 informs miu o m ns nr info = if not (nat_lt miu (length info)) && (is_within m.vsa m.vs nr && (ns == length o.units % 16)) then Brings info else Ends
 
 abbrev pub acknowledges : Mark → ℕ → Does
 acknowledges m nr = if is_within m.vsa m.vs nr then Stays else Ends
 
-abbrev pub of_it : ℕ → Open → ℕ → ℕ → Does → Does
+abbrev pub of_it : ℕ → UnitsSoFar → ℕ → ℕ → Does → Does
 of_it c o d s does = if (d == o.here) && (s == c) then does else Stays
 
-abbrev pub does_by : ℕ → ℕ → Open → Mark → Item → Does
+abbrev pub does_by : ℕ → ℕ → UnitsSoFar → Mark → Item → Does
 does_by c miu o m (Good (Disc d s)) = of_it c o d s Ends
 does_by c miu o m (Good (Frmr d s r)) = of_it c o d s Ends
 does_by c miu o m (Good (Info d s ns nr info)) = of_it c o d s (informs miu o m ns nr info)
@@ -69,33 +69,33 @@ does_by c miu o m (Broken t d s q) = of_it c o d s Ends
 does_by c miu o m (Good _) = Stays
 
 -- a CONNECT from the client's SAP that is answered with CC begins one
-abbrev pub begun_at : Option ℕ → Option Open
+abbrev pub begun_at : Option ℕ → Option UnitsSoFar
 begun_at None = None
 begun_at (Some sap) = Some (record { here = sap; units = [] })
 
-abbrev pub begun_by : ℕ → Option ℕ → Item → Option Open
+abbrev pub begun_by : ℕ → Option ℕ → Item → Option UnitsSoFar
 begun_by c sap (Good (Connect d s ps)) = if s == c then begun_at sap else None
 begun_by c sap _ = None
 
 -- the connection that is open after a PDU, and the units of one that it ended
 pub record Turn : Type 0 where
-  pub open_ : Option Open
+  pub open_ : Option UnitsSoFar
   pub over : List (List (List ℕ))
 
-abbrev pub turn_of : Open → Does → Turn
+abbrev pub turn_of : UnitsSoFar → Does → Turn
 turn_of o Ends = record { open_ = None; over = o.units ∷ [] }
 turn_of o Stays = record { open_ = Some o; over = [] }
 turn_of o (Brings u) = record { open_ = Some (record o { units = o.units ++ u ∷ [] }); over = [] }
 
-abbrev pub turn : ℕ → ℕ → Option Open → Mark → Turn
+abbrev pub turn : ℕ → ℕ → Option UnitsSoFar → Mark → Turn
 turn c miu None m = record { open_ = begun_by c m.accepted m.item; over = [] }
 turn c miu (Some o) m = turn_of o (does_by c miu o m m.item)
 
-abbrev pub last : Option Open → List (List (List ℕ))
+abbrev pub last : Option UnitsSoFar → List (List (List ℕ))
 last None = []
 last (Some o) = o.units ∷ []
 
 -- the units of each connection of the client's SAP, the one that is still open last
-abbrev pub units : ℕ → ℕ → Option Open → List Mark → List (List (List ℕ))
+abbrev pub units : ℕ → ℕ → Option UnitsSoFar → List Mark → List (List (List ℕ))
 units c miu o [] = last o
 units c miu o (m ∷ ms) = (turn c miu o m).over ++ units c miu (turn c miu o m).open_ ms

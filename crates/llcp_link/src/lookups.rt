@@ -3,7 +3,7 @@
 ghost use Rattle.std.specs.Prelude.{◌≡◌, OnOk, OnErr};
 ghost use Rattle.llcp_pdu.specs.Views.{HoldsParams, params_in};
 ghost use Rattle.llcp_link.specs.Asking.{found_in, put_lookup};
-ghost use Rattle.llcp_link.specs.Names.{told_all, told_one};
+ghost use Rattle.llcp_link.specs.Names.{lookups_told, told_one};
 
 use crate::numbered::{Numbered, place_of};
 use llcp_pdu::{ParamView, ParamWalk};
@@ -73,7 +73,7 @@ fn tell(lookups: &mut Vec<Lookup>, tid: u8, sap: u8)
 /// What the parameters of an SNL tell.
 pub(crate) fn hear(lookups: &mut Vec<Lookup>, params: &[u8])
     requires { HoldsParams params.now }
-    ensures { lookups.new.items ≡ told_all (params_in params.now) lookups.old.items }
+    ensures { lookups.new.items ≡ lookups_told (params_in params.now) lookups.old.items }
 {
     'params: for param in ParamWalk::new(params) {
         if let ParamView::SdRes { tid, sap } = param {

@@ -5,7 +5,7 @@ ghost use Rattle.llcp_pdu.specs.Pdus.{pdu as pdu_in};
 ghost use Rattle.llcp_pdu.specs.Raw.{raw};
 ghost use Rattle.llcp_pdu.specs.Ranges.{IsPdu, AreParts};
 ghost use Rattle.llcp_pdu.specs.Views.{HoldsParts, IsChecked, IsOne, parts_in, shown};
-ghost use Rattle.llcp_link.specs.Halting.{IsSame, Leaves, Halts};
+ghost use Rattle.llcp_link.specs.Halting.{IsSame, LeavesService, Halts};
 ghost use Rattle.llcp_link.specs.Taking.{Good, broken, items, steps};
 ghost use Rattle.llcp_link.specs.Stepping.{stepped};
 
@@ -50,7 +50,7 @@ impl<S: Service> Llc<S> {
         requires range { IsPdu (shown pdu) }
         ensures ok { OnOk result (self.new ≡ stepped S.serving self.old (shown pdu.entry)) }
         ensures same { IsSame self.old self.new }
-        ensures err { OnErr result (Leaves S.serving self.old.service self.new.service) }
+        ensures err { OnErr result (LeavesService S.serving self.old.service self.new.service) }
     {
         match pdu {
             PduView::Connect { dsap, ssap, params } => self.take_connect(dsap, ssap, params),

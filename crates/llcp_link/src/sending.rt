@@ -4,7 +4,7 @@ ghost use Rattle.std.specs.Prelude.{◌≡◌, ◌≤◌, length, true, IfOk, On
 ghost use Rattle.llcp_pdu.specs.declared.part.Part.{Part};
 ghost use Rattle.llcp_link.specs.Giving.{may_send as is_open_to};
 ghost use Rattle.llcp_link.specs.Kept.{AllServed, IsServed};
-ghost use Rattle.llcp_link.specs.Offering.{AckedBy, IsOwer, IsSender, Owes, Sends, SentBy, acked_on, info_of, sent_on};
+ghost use Rattle.llcp_link.specs.Offering.{AckedBy, IsOwer, IsSender, Owes, Sends, SentBy, behind_ack, info_of, sent_on};
 
 use crate::served::place_of;
 use llcp_conn::Conn;
@@ -40,7 +40,7 @@ fn send_on(conn: &mut Conn, unit: &[u8]) -> Result<Part, AllocError>
 /// An acknowledgement that is owed goes out.
 fn ack_on(conn: &mut Conn) -> Part
     requires { conn.old.owed ≡ true }
-    ensures conn { conn.new ≡ acked_on conn.old }
+    ensures conn { conn.new ≡ behind_ack conn.old }
     ensures part { result ≡ Part.Rr conn.old.there conn.old.here conn.old.vr }
 {
     match conn.give_ack() {

@@ -2,7 +2,7 @@
 
 ghost use Rattle.std.specs.Prelude.{◌≡◌, ◌<◌, OnOk, OnErr};
 ghost use Rattle.llcp_conn.specs.Conn.{IsSap, takes_view};
-ghost use Rattle.llcp_link.specs.Halting.{IsSame, Leaves};
+ghost use Rattle.llcp_link.specs.Halting.{IsSame, LeavesService};
 ghost use Rattle.llcp_link.specs.Kept.{IsSent};
 ghost use Rattle.llcp_link.specs.Places.{IsNumbered};
 ghost use Rattle.llcp_link.specs.Closing.{ClosesHeld};
@@ -143,7 +143,7 @@ impl<S: Service> Llc<S> {
         ensures ok { OnOk result (self.new ≡
             numbered S.serving self.old (λ c. takes_view c pdu.now) dsap ssap (holder self.old dsap ssap)) }
         ensures same { IsSame self.old self.new }
-        ensures err { OnErr result (Leaves S.serving self.old.service self.new.service) }
+        ensures err { OnErr result (LeavesService S.serving self.old.service self.new.service) }
     {
         match served::take_view(&mut self.served, dsap, ssap, pdu) {
             Err(_) => Err(AllocError),

@@ -99,9 +99,9 @@ abbrev pub told : Refusal → PduRefusal
 told r = record { place = min r.place last_place; kind = r.kind }
 
 -- what bytes are read as, its fault as it is told
-abbrev pub told_by : {A : Type 0} → Result A Refusal → Result A PduRefusal
-told_by (Ok x) = Ok x
-told_by (Err r) = Err (told r)
+abbrev pub refusal_told : {A : Type 0} → Result A Refusal → Result A PduRefusal
+refusal_told (Ok x) = Ok x
+refusal_told (Err r) = Err (told r)
 
 -- what is shown of what was seen
 abbrev pub seen : {E : Type 0} → Result PduView E → Result Pdu E

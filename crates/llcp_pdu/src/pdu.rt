@@ -5,7 +5,7 @@ ghost use Rattle.llcp_pdu.specs.Faults.{Answers, UnlessMemory};
 ghost use Rattle.llcp_pdu.specs.Pdus.{pdu};
 ghost use Rattle.llcp_pdu.specs.Ranges.{IsPart, AreParts, IsPdu};
 ghost use Rattle.llcp_pdu.specs.Spelling.{LlcpSpelling};
-ghost use Rattle.llcp_pdu.specs.Views.{HoldsParts, IsChecked, parts_in, shown, told_by};
+ghost use Rattle.llcp_pdu.specs.Views.{HoldsParts, IsChecked, parts_in, shown, refusal_told};
 ghost use Rattle.llcp_pdu.specs.Writing.{inner_bytes, part_bytes, parts_bytes, pdu_bytes};
 ghost use Rattle.llcp_pdu.specs.declared.fault.PduFault.TheVariants.{Memory};
 
@@ -28,7 +28,7 @@ pub enum Pdu {
 impl Pdu {
     /// The PDU that some bytes spell.
     pub fn read_from(alloc: Global, bytes: &[u8]) -> Result<Pdu, PduFault>
-        ensures reads { Answers result (told_by (pdu bytes.now)) }
+        ensures reads { Answers result (refusal_told (pdu bytes.now)) }
         ensures exact { UnlessMemory result (λ v. LlcpSpelling v bytes.now) }
         ensures range { IfOk result (λ v. IsPdu v) }
         ensures one { (v w : Pdu) → LlcpSpelling v bytes.now → LlcpSpelling w bytes.now → v ≡ w }

@@ -7,7 +7,7 @@ ghost use Rattle.llcp_pdu.specs.Pdus.{inner, pdu, whole};
 ghost use Rattle.llcp_pdu.specs.Ranges.{IsPdu};
 ghost use Rattle.llcp_pdu.specs.Reading.{gives};
 ghost use Rattle.llcp_pdu.specs.Spelling.{LlcpSpelling};
-ghost use Rattle.llcp_pdu.specs.Views.{IsViewOf, Shows, seen, shown, told_by};
+ghost use Rattle.llcp_pdu.specs.Views.{IsViewOf, Shows, seen, shown, refusal_told};
 ghost use Rattle.llcp_pdu.specs.declared.header.Ptype.TheVariants.{Cc as CcType, Connect as ConnectType, Symm as SymmType, Snl as SnlType};
 ghost use Rattle.llcp_pdu.specs.declared.pdu.Pdu.{Pdu};
 
@@ -76,7 +76,7 @@ pub enum PduView<'a> {
 
 /// The PDU that some bytes spell, read in place: it takes no memory, and costs what the bytes cost, once.
 pub fn view(bytes: &[u8]) -> Result<PduView<'_>, PduRefusal>
-    ensures reads { seen result ≡ told_by (pdu bytes.now) }
+    ensures reads { seen result ≡ refusal_told (pdu bytes.now) }
     ensures exact { (p : Pdu) → Shows result p ↔ LlcpSpelling p bytes.now }
     ensures slices { IfOk result (λ v. IsViewOf v (drop 2 bytes.now)) }
     ensures range { IfOk result (λ v. IsPdu (shown v)) }

@@ -3,6 +3,7 @@ pub mod Headed
 pub mod Bits
 pub mod Numbers
 pub mod Trace
+pub mod Prefix
 pub mod Blocks
 pub mod Words
 pub mod Far

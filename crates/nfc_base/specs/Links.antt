@@ -92,9 +92,9 @@ FarMoved {A} steps stops (Stepped payload reply ∷ rest) far after =
 FarMoved steps stops (Stopped payload ∷ rest) far after = stops far payload after × (rest ≡ [])
 
 -- the payload of a step
-abbrev pub payload_of : FarStep → List ℕ
-payload_of (Stepped payload reply) = payload
-payload_of (Stopped payload) = payload
+abbrev pub step_payload : FarStep → List ℕ
+step_payload (Stepped payload reply) = payload
+step_payload (Stopped payload) = payload
 
 -- what a swap of this payload asked of the far end where it failed
 abbrev pub AskedBy : Bool → EndCause → List ℕ → List FarStep → Type 0
@@ -112,4 +112,4 @@ pub record Swapped {C A : Type 0} (swaps : C → List ℕ → List FarStep → C
 -- A link came from one state to another: in each of these steps of the far end its payload was swapped once, and nothing else was.
 abbrev pub BySwaps : {C : Type 0} → (C → List ℕ → List FarStep → C → Type 0) → List FarStep → C → C → Type 0
 BySwaps swaps [] a b = b ≡ a
-BySwaps {C} swaps (x ∷ did) a b = (mid : C) × swaps a (payload_of x) (x ∷ []) mid × BySwaps swaps did mid b
+BySwaps {C} swaps (x ∷ did) a b = (mid : C) × swaps a (step_payload x) (x ∷ []) mid × BySwaps swaps did mid b

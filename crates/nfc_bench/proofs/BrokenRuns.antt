@@ -29,7 +29,7 @@ use Rattle.bench_world.specs.declared.entry.Answer.TheVariants.{Written, Message
 use Rattle.bench_world.specs.declared.entry.Entry.{Entry}
 use Rattle.bench_world.specs.Behind.{breaking, BreaksThenReads, TellsOneOfThree}
 use Rattle.bench_world.specs.Journal.{NumberedLine, asking_lines, AreEntriesOf}
-use Rattle.bench_world.specs.Legal.{State, Given, Joins, no_joins, FrontOf, AnswerLaw, LegalStep, EachLegal, begun, changed, due, state_after, first_state}
+use Rattle.bench_world.specs.Legal.{State, Given, Joins, no_joins, FrontOf, AnswerLaw, LegalStep, EachLegal, world_at_start, changed, due, state_after, first_state}
 use Rattle.bench_world.specs.Taking.{AreSpelled}
 use Rattle.bench_world.proofs.BrokenRead.{broken_is_read, first_broken_is_read, none_left}
 use Rattle.bench_world.proofs.HeldOn.{nothing_sent}
@@ -38,7 +38,7 @@ use Rattle.bench_world.proofs.OneJournal.{same_answers, same_state}
 use Rattle.bench_world.proofs.Reached.{first_ready, ready_behind}
 use Rattle.bench_world.proofs.WriteBehind.{Done, tag_behind}
 use Rattle.nfc_bench.specs.Run.{IsFates, HaveNoFates, IsRunOf, AreRuns}
-use Rattle.nfc_bench.specs.Sweep.{sweep_lines, break_lines, read_line, last_entry, all_transmissions, told_in, told_if, told_by, message_told, message_written, written_if, written_in, first_told, is_neither}
+use Rattle.nfc_bench.specs.Sweep.{sweep_lines, break_lines, read_line, last_entry, all_transmissions, told_in, told_if, told_by_run, message_told, message_written, written_if, written_in, first_told, is_neither}
 use Rattle.nfc_bench.specs.SweptReads.{HeldBehind, TellsThree, SweptIsRead, NeitherIsEmpty}
 use Rattle.nfc_bench.proofs.Journals.{asking_more, asks_something}
 use Rattle.nfc_bench.proofs.WrittenTag.{named_so, written_placed}
@@ -185,7 +185,7 @@ with_fates s f = record { world = s.world; queue = s.queue ++ f; peers = s.peers
 fates_step : (s t : State) (g : Given) (e : Entry) (f : List Fate) → LegalStep s g e t → e.command ≡ Fates f → s.world.numbers ≡ [] → t ≡ with_fates s f
 fates_step s t g e f step is none =
     let front : FrontOf s g (Fates f) e.events (Some e.answer) t = subst (λ c. FrontOf s g c e.events (Some e.answer) t) is step.front in
-    let quiet : e.events ≡ [] = nothing_sent (begun s g.joins (Fates f)) e.events front.turns front.each in
+    let quiet : e.events ≡ [] = nothing_sent (world_at_start s g.joins (Fates f)) e.events front.turns front.each in
     front.after ∙ ap (λ es. state_after s g.joins (Fates f) es (Some e.answer)) quiet
     ∙ ap (λ ns. record { world = record { field = s.world.field; fars = s.world.fars; numbers = ns }; queue = s.queue ++ f; peers = s.peers; link = s.link }) (sym none)
 
@@ -459,7 +459,7 @@ module _ (lines : List (List ℕ)) (runs : List (List Entry)) (r : AreRuns lines
 
   -- the first of them tells what the tag held, and the first run of all writes the message
   old_first : 0 < length r.broken → first_told r.broken ≡ Some held.0
-  old_first some = ap told_by (slice_get-get_or r.broken 0 [] some) ∙ old_told 0 some refl
+  old_first some = ap told_by_run (slice_get-get_or r.broken 0 [] some) ∙ old_told 0 some refl
 
   written : written_in r.first ≡ message_of m
   written = ap written_if r.last ∙ ap (λ (e : Entry). message_written e.command) is_write ∙ ap message_written write.command

@@ -73,12 +73,12 @@ abbrev pub written_in : List Entry → List ℕ
 written_in run = written_if (last_entry run)
 
 -- the message that the first of some runs told
-abbrev pub told_by : Option (List Entry) → Option (List ℕ)
-told_by None = None
-told_by (Some run) = told_in run
+abbrev pub told_by_run : Option (List Entry) → Option (List ℕ)
+told_by_run None = None
+told_by_run (Some run) = told_in run
 
 abbrev pub first_told : List (List Entry) → Option (List ℕ)
-first_told runs = told_by (slice_get runs 0)
+first_told runs = told_by_run (slice_get runs 0)
 
 -- whether this was told, and it is that message
 abbrev pub tells : Option (List ℕ) → List ℕ → Bool

@@ -9,7 +9,7 @@ use Rattle.nfca_poll.specs.Ident.{IsIdent}
 use Rattle.nfca_poll.specs.Levels.{levels, identifier}
 use Rattle.nfca_poll.specs.Crowd.{Card, Each, ahead, crowd_bits, level_bits_of, AreDistinct}
 use Rattle.nfca_poll.specs.Rounds.{is_same, has_found}
-use Rattle.nfca_poll.specs.Crowd.{told_of, put_by, crowd}
+use Rattle.nfca_poll.specs.Crowd.{picked_of, put_by, crowd}
 use Rattle.nfca_poll.proofs.Clashes.{wrong, Has}
 use Rattle.nfca_poll.proofs.Eaches.{each_map, each_has}
 use Rattle.nfca_poll.proofs.HeardBits.{pointwise_same, pointwise_path}
@@ -145,36 +145,36 @@ has_put z p (q ∷ qs) h = by_place (ahead (crowd_bits p.id) (crowd_bits q.id)) 
 -- the crowd of some devices
 pub crowd_sorted : (w : List Card) → IsSorted (crowd w)
 crowd_sorted [] = tt
-crowd_sorted (c ∷ cs) = put_sorted (told_of c) (crowd cs) (crowd_sorted cs)
+crowd_sorted (c ∷ cs) = put_sorted (picked_of c) (crowd cs) (crowd_sorted cs)
 
 pub crowd_length : (w : List Card) → length (crowd w) ≡ length w
 crowd_length [] = refl
 crowd_length (c ∷ cs) =
     let n : length (crowd cs) ≡ length cs = crowd_length cs in
-    let k : length (put_by (told_of c) (crowd cs)) ≡ 1 + length (crowd cs) = put_length (told_of c) (crowd cs) in
+    let k : length (put_by (picked_of c) (crowd cs)) ≡ 1 + length (crowd cs) = put_length (picked_of c) (crowd cs) in
     omega (arith, n, k)
 
-pub crowd_has : (w : List Card) (z : Picked) → Has z (map told_of w) → Has z (crowd w)
+pub crowd_has : (w : List Card) (z : Picked) → Has z (map picked_of w) → Has z (crowd w)
 crowd_has [] z h = h
-crowd_has (c ∷ cs) z (inl e) = put_has z (told_of c) (crowd cs) (inl e)
-crowd_has (c ∷ cs) z (inr h) = put_has z (told_of c) (crowd cs) (inr (crowd_has cs z h))
+crowd_has (c ∷ cs) z (inl e) = put_has z (picked_of c) (crowd cs) (inl e)
+crowd_has (c ∷ cs) z (inr h) = put_has z (picked_of c) (crowd cs) (inr (crowd_has cs z h))
 
-pub has_crowd : (w : List Card) (z : Picked) → Has z (crowd w) → Has z (map told_of w)
+pub has_crowd : (w : List Card) (z : Picked) → Has z (crowd w) → Has z (map picked_of w)
 has_crowd [] z h = h
-has_crowd (c ∷ cs) z h = elim (has_put z (told_of c) (crowd cs) h) [ inl e ↦ inl e | inr k ↦ inr (has_crowd cs z k) ]
+has_crowd (c ∷ cs) z h = elim (has_put z (picked_of c) (crowd cs) h) [ inl e ↦ inl e | inr k ↦ inr (has_crowd cs z k) ]
 
-pub crowd_unlike : (w : List Card) → AllUnlike (map told_of w) → AllUnlike (crowd w)
+pub crowd_unlike : (w : List Card) → AllUnlike (map picked_of w) → AllUnlike (crowd w)
 crowd_unlike [] u = tt
 crowd_unlike (c ∷ cs) u =
-    put_unlike (told_of c) (crowd cs) (each_of (λ q. q.id ≢ c.id) (crowd cs) (λ z h. each_has (λ q. q.id ≢ c.id) z (map told_of cs) u.0 (has_crowd cs z h))) (crowd_unlike cs u.1)
+    put_unlike (picked_of c) (crowd cs) (each_of (λ q. q.id ≢ c.id) (crowd cs) (λ z h. each_has (λ q. q.id ≢ c.id) z (map picked_of cs) u.0 (has_crowd cs z h))) (crowd_unlike cs u.1)
 
-pub unlike_cards : (w : List Card) → AreDistinct w → AllUnlike (map told_of w)
+pub unlike_cards : (w : List Card) → AreDistinct w → AllUnlike (map picked_of w)
 unlike_cards [] d = tt
-unlike_cards (c ∷ cs) d = (mapped_each told_of (λ q. q.id ≢ c.id) cs d.0, unlike_cards cs d.1)
+unlike_cards (c ∷ cs) d = (mapped_each picked_of (λ q. q.id ≢ c.id) cs d.0, unlike_cards cs d.1)
 
-pub cards_unlike : (w : List Card) → AllUnlike (map told_of w) → AreDistinct w
+pub cards_unlike : (w : List Card) → AllUnlike (map picked_of w) → AreDistinct w
 cards_unlike [] u = tt
-cards_unlike (c ∷ cs) u = (each_unmapped told_of (λ q. q.id ≢ c.id) cs u.0, cards_unlike cs u.1)
+cards_unlike (c ∷ cs) u = (each_unmapped picked_of (λ q. q.id ≢ c.id) cs u.0, cards_unlike cs u.1)
 
 -- the bits tell identifiers apart
 pub ahead_both : (x y : List Bool) → ahead x y ≡ true → ahead y x ≡ true → x ≡ y

@@ -21,7 +21,7 @@ use Rattle.nfca_poll.specs.Crowd.{Card, Each, with_front, cards}
 use Rattle.nfca_poll.specs.Rounds.{Aim, Search, Begins, Seeks, Sends, Told, next_round, sought, search_step, search_lit, search_next, searching}
 use Rattle.nfca_poll.specs.AnyStart.{AreUnlinked, HaveOwnIdents}
 use Rattle.nfca_poll.specs.Polled.{ArePolled}
-use Rattle.nfca_poll.specs.Crowd.{told_of, crowd}
+use Rattle.nfca_poll.specs.Crowd.{picked_of, crowd}
 use Rattle.nfca_poll.proofs.Eaches.{map_twice}
 use Rattle.nfca_poll.proofs.Crowding.{noise-append}
 use Rattle.nfca_poll.proofs.NoisyTurns.{TurnWas, passed, unheard, damaged, lost, by_fates}
@@ -67,7 +67,7 @@ module _ {L : Type 0} (m : Machine L) {identifier' : L → List ℕ} (polled : A
   lit round a es r =
       let b : World L = reset_by (muted m) a in
       let idle : of b ≡ map (λ c. with_front c Idle) (of a) = reset_cards m polled a.listeners r.tidy in
-      let same : map told_of (of b) ≡ map told_of w = ap (map told_of) idle ∙ map_twice told_of (λ c. with_front c Idle) (of a) ∙ r.same in
+      let same : map picked_of (of b) ≡ map picked_of w = ap (map picked_of) idle ∙ map_twice picked_of (λ c. with_front c Idle) (of a) ∙ r.same in
       let F : List Card → Type 0 = λ t. Each (FitsRound false 0 []) t in
       record {
         now = [];
@@ -106,7 +106,7 @@ module _ {L : Type 0} (m : Machine L) {identifier' : L → List ℕ} (polled : A
     more_noise : (now : List Event) → noise now + noise te ≡ noise (now ++ te)
     more_noise now = sym (noise-append now te)
 
-    rounds_turn : (round : ℕ) (found : List Picked) (now : List Event) → Rounds m polled aim w field round found now a es → map told_of (of b) ≡ map told_of (of a) → AreUnlinked m polled.unlinked b.listeners
+    rounds_turn : (round : ℕ) (found : List Picked) (now : List Event) → Rounds m polled aim w field round found now a es → map picked_of (of b) ≡ map picked_of (of a) → AreUnlinked m polled.unlinked b.listeners
         → Rounds m polled aim w field round found (now ++ te) b (es ++ te)
     rounds_turn round found now c same fresh = record {
       few = c.few;

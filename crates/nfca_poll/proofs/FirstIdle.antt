@@ -14,7 +14,7 @@ use Rattle.nfca_poll.specs.Enquiry.{LosesByBreak}
 use Rattle.nfca_poll.specs.Ident.{IsIdent}
 use Rattle.nfca_poll.specs.Front.{Active}
 use Rattle.nfca_poll.specs.Rounds.{is_same}
-use Rattle.nfca_poll.specs.Crowd.{Card, Each, ahead, crowd_bits, with_front, is_idle, is_rest, AreOurs, cards, told_of, put_by, crowd, first_of, first_idle, with_active, left_by, EndsByFirst, PicksFirst, PicksFromRest}
+use Rattle.nfca_poll.specs.Crowd.{Card, Each, ahead, crowd_bits, with_front, is_idle, is_rest, AreOurs, cards, picked_of, put_by, crowd, first_picked, first_idle, with_active, left_by, EndsByFirst, PicksFirst, PicksFromRest}
 use Rattle.nfca_poll.proofs.CrowdParts.{IsFirst, EndsThroughNoise, PicksThroughNoise, EndsAlone, FindsNobody}
 use Rattle.nfca_poll.proofs.HeardBits.{pointwise_same, pointwise_path}
 use Rattle.nfca_poll.proofs.NobodyIdle.{Sleeps}
@@ -22,7 +22,7 @@ use Rattle.nfca_poll.proofs.Causes.{Leads, none, some, leads}
 use Rattle.nfca_poll.proofs.CrowdOrder.{ids_same, ahead_both}
 
 -- one device more
-put_empty : (p : Picked) (ps : List Picked) → first_of ps ≡ Err faults.Nobody → first_of (put_by p ps) ≡ Ok p
+put_empty : (p : Picked) (ps : List Picked) → first_picked ps ≡ Err faults.Nobody → first_picked (put_by p ps) ≡ Ok p
 put_empty p [] e = refl
 put_empty p (q ∷ qs) e = absurd cc
 
@@ -30,22 +30,22 @@ picked_in : Picked → Result Picked PollFault → Picked
 picked_in d (Ok p) = p
 picked_in d (Err f) = d
 
-put_first : (p : Picked) (ps : List Picked) (q : Picked) → first_of ps ≡ Ok q → first_of (put_by p ps) ≡ Ok (if ahead (crowd_bits p.id) (crowd_bits q.id) then p else q)
+put_first : (p : Picked) (ps : List Picked) (q : Picked) → first_picked ps ≡ Ok q → first_picked (put_by p ps) ≡ Ok (if ahead (crowd_bits p.id) (crowd_bits q.id) then p else q)
 unfolding picked_in
 put_first p [] q e = absurd cc
 put_first p (r ∷ rs) q e =
     let same : r ≡ q = ap (picked_in r) e in
     by_order (ahead (crowd_bits p.id) (crowd_bits r.id)) refl ∙ ap (λ (x : Picked). Ok (if ahead (crowd_bits p.id) (crowd_bits x.id) then p else x)) same
   where
-    by_order : (v : Bool) → ahead (crowd_bits p.id) (crowd_bits r.id) ≡ v → first_of (if v then p ∷ r ∷ rs else r ∷ put_by p rs) ≡ Ok (if v then p else r)
+    by_order : (v : Bool) → ahead (crowd_bits p.id) (crowd_bits r.id) ≡ v → first_picked (if v then p ∷ r ∷ rs else r ∷ put_by p rs) ≡ Ok (if v then p else r)
     by_order true e = refl
     by_order false e = refl
 
 skipped : (c : Card) (w : List Card) → is_idle c.front ≡ false → first_idle (c ∷ w) ≡ first_idle w
-skipped c w h = ap (λ v. first_of (crowd (if v then c ∷ filter (λ d. is_idle d.front) w else filter (λ d. is_idle d.front) w))) h
+skipped c w h = ap (λ v. first_picked (crowd (if v then c ∷ filter (λ d. is_idle d.front) w else filter (λ d. is_idle d.front) w))) h
 
-taken : (c : Card) (w : List Card) → is_idle c.front ≡ true → first_idle (c ∷ w) ≡ first_of (put_by (told_of c) (crowd (filter (λ d. is_idle d.front) w)))
-taken c w h = ap (λ v. first_of (crowd (if v then c ∷ filter (λ d. is_idle d.front) w else filter (λ d. is_idle d.front) w))) h
+taken : (c : Card) (w : List Card) → is_idle c.front ≡ true → first_idle (c ∷ w) ≡ first_picked (put_by (picked_of c) (crowd (filter (λ d. is_idle d.front) w)))
+taken c w h = ap (λ v. first_picked (crowd (if v then c ∷ filter (λ d. is_idle d.front) w else filter (λ d. is_idle d.front) w))) h
 
 -- where none is idle there is none
 pub none_idle : (w : List Card) → Each Sleeps w → first_idle w ≡ Err faults.Nobody
@@ -70,36 +70,36 @@ behind id (c ∷ w) e = by_front (is_idle c.front) refl (behind id w e.1)
     by_front : (v : Bool) → is_idle c.front ≡ v → IsLater id (first_idle w) → IsLater id (first_idle (c ∷ w))
     by_front false h (inl k) = inl (skipped c w h ∙ k)
     by_front false h (inr k) = inr (k.0, skipped c w h ∙ k.1, k.2)
-    by_front true h (inl k) = inr (told_of c, taken c w h ∙ put_empty (told_of c) (crowd (filter (λ d. is_idle d.front) w)) k, e.0 h)
+    by_front true h (inl k) = inr (picked_of c, taken c w h ∙ put_empty (picked_of c) (crowd (filter (λ d. is_idle d.front) w)) k, e.0 h)
     by_front true h (inr k) =
-        inr ((if ahead (crowd_bits c.id) (crowd_bits k.0.id) then told_of c else k.0), taken c w h ∙ put_first (told_of c) (crowd (filter (λ d. is_idle d.front) w)) k.0 k.1, choose id (ahead (crowd_bits c.id) (crowd_bits k.0.id)) (told_of c) k.0 (e.0 h) k.2)
+        inr ((if ahead (crowd_bits c.id) (crowd_bits k.0.id) then picked_of c else k.0), taken c w h ∙ put_first (picked_of c) (crowd (filter (λ d. is_idle d.front) w)) k.0 k.1, choose id (ahead (crowd_bits c.id) (crowd_bits k.0.id)) (picked_of c) k.0 (e.0 h) k.2)
 
-at_first : (m : Card) (b : List Card) → is_idle m.front ≡ true → IsLater m.id (first_idle b) → first_idle (m ∷ b) ≡ Ok (told_of m)
-at_first m b h (inl k) = taken m b h ∙ put_empty (told_of m) (crowd (filter (λ d. is_idle d.front) b)) k
+at_first : (m : Card) (b : List Card) → is_idle m.front ≡ true → IsLater m.id (first_idle b) → first_idle (m ∷ b) ≡ Ok (picked_of m)
+at_first m b h (inl k) = taken m b h ∙ put_empty (picked_of m) (crowd (filter (λ d. is_idle d.front) b)) k
 at_first m b h (inr k) =
-    taken m b h ∙ put_first (told_of m) (crowd (filter (λ d. is_idle d.front) b)) k.0 k.1 ∙ ap (λ v. Ok (if v then told_of m else k.0)) k.2
+    taken m b h ∙ put_first (picked_of m) (crowd (filter (λ d. is_idle d.front) b)) k.0 k.1 ∙ ap (λ v. Ok (if v then picked_of m else k.0)) k.2
 
 -- before it stands none that comes before it
 after_ids : (v : Bool) (p q : Picked) → (v ≡ true → ⊥) → ◌≡◌ {A = Result Picked PollFault} (Ok (if v then p else q)) (Ok q)
 after_ids true p q h = absurd (h refl)
 after_ids false p q h = refl
 
-before_first : (a : List Card) (m : Card) (b : List Card) → IsIdent m.id → first_idle (m ∷ b) ≡ Ok (told_of m) → Each (λ c. IsIdent c.id × (is_rest c.front ≡ true)) (a ++ m ∷ b) → Each (IsBehind m.id) (a ++ m ∷ b) → Each (λ c. c.id ≢ m.id) a
-    → first_idle (a ++ m ∷ b) ≡ Ok (told_of m)
+before_first : (a : List Card) (m : Card) (b : List Card) → IsIdent m.id → first_idle (m ∷ b) ≡ Ok (picked_of m) → Each (λ c. IsIdent c.id × (is_rest c.front ≡ true)) (a ++ m ∷ b) → Each (IsBehind m.id) (a ++ m ∷ b) → Each (λ c. c.id ≢ m.id) a
+    → first_idle (a ++ m ∷ b) ≡ Ok (picked_of m)
 before_first [] m b i q cs f d = q
 before_first (c ∷ a) m b i q cs f d = by_front (is_idle c.front) refl (before_first a m b i q cs.1 f.1 d.1)
   where
-    by_front : (v : Bool) → is_idle c.front ≡ v → first_idle (a ++ m ∷ b) ≡ Ok (told_of m) → first_idle (c ∷ (a ++ m ∷ b)) ≡ Ok (told_of m)
+    by_front : (v : Bool) → is_idle c.front ≡ v → first_idle (a ++ m ∷ b) ≡ Ok (picked_of m) → first_idle (c ∷ (a ++ m ∷ b)) ≡ Ok (picked_of m)
     by_front false h k = skipped c (a ++ m ∷ b) h ∙ k
     by_front true h k =
-        taken c (a ++ m ∷ b) h ∙ put_first (told_of c) (crowd (filter (λ d. is_idle d.front) (a ++ m ∷ b))) (told_of m) k
-        ∙ after_ids (ahead (crowd_bits c.id) (crowd_bits m.id)) (told_of c) (told_of m) (λ x. d.0 (ids_same c.id m.id cs.0.0 i (ahead_both (crowd_bits c.id) (crowd_bits m.id) x (f.0 h))))
+        taken c (a ++ m ∷ b) h ∙ put_first (picked_of c) (crowd (filter (λ d. is_idle d.front) (a ++ m ∷ b))) (picked_of m) k
+        ∙ after_ids (ahead (crowd_bits c.id) (crowd_bits m.id)) (picked_of c) (picked_of m) (λ x. d.0 (ids_same c.id m.id cs.0.0 i (ahead_both (crowd_bits c.id) (crowd_bits m.id) x (f.0 h))))
 
 back_of : {X : Type 0} (P : X → Type 0) (a : List X) (x : X) (b : List X) → Each P (a ++ x ∷ b) → P x × Each P b
 back_of P [] x b e = e
 back_of P (y ∷ a) x b e = back_of P a x b e.1
 
-pub first_is : (a : List Card) (m : Card) (b : List Card) → IsFirst a m b → first_idle (a ++ m ∷ b) ≡ Ok (told_of m)
+pub first_is : (a : List Card) (m : Card) (b : List Card) → IsFirst a m b → first_idle (a ++ m ∷ b) ≡ Ok (picked_of m)
 first_is a m b F =
     let own = back_of (λ c. IsIdent c.id × (is_rest c.front ≡ true)) a m b F.cards in
     let later = back_of (IsBehind m.id) a m b F.first in
@@ -153,7 +153,7 @@ through_noise a m b (Ok p) v n F e =
       e.1 ∙ one_active a m b F.distinct_before F.distinct_after ∙ ap (λ x. with_active x (a ++ m ∷ b)) (sym id),
     )
 through_noise a m b (Err faults.Nobody) v n F e = inr e
-through_noise a m b (Err faults.Disturbed) v n F e = ((λ q. ok_no_err (told_of m) (sym (first_is a m b F) ∙ q)), e)
+through_noise a m b (Err faults.Disturbed) v n F e = ((λ q. ok_no_err (picked_of m) (sym (first_is a m b F) ∙ q)), e)
 through_noise a m b (Err faults.FieldLost) v n F e = tt
 through_noise a m b (Err faults.Memory) v n F e = tt
 through_noise a m b (Err faults.NotFound) v n F e = absurd e

@@ -14,7 +14,7 @@ use Rattle.nfca_poll.specs.Rounds.{is_same, Aim, Search, Begins, Seeks, Sends, T
 use Rattle.nfca_poll.specs.AnyStart.{HaveOwnIdents}
 use Rattle.nfca_poll.specs.Polled.{ArePolled, AreTidy}
 use Rattle.nfca_poll.specs.RoundEnds.{FindEnds, LeavesActive, PickEnds, FindsCrowd, SelectsAlone}
-use Rattle.nfca_poll.specs.Crowd.{told_of, crowd}
+use Rattle.nfca_poll.specs.Crowd.{picked_of, crowd}
 use Rattle.nfca_poll.proofs.Clashes.{Has}
 use Rattle.nfca_poll.proofs.Eaches.{each_has}
 use Rattle.nfca_poll.proofs.HeardBits.{pointwise_same, pointwise_path}
@@ -58,8 +58,8 @@ module _ (id : List ℕ) where
   not_found : (w : List Card) (found : List Picked) → Each (λ p. (device_of id).takes p ≡ None) found → found ≡ crowd w → Each (λ c. c.id ≢ id) w
   not_found w found others all =
       each_of (λ c. c.id ≢ id) w
-      (λ c h. not_it (told_of c) (each_has (λ p. (device_of id).takes p ≡ None) (told_of c) found others
-      (let H : List Picked → Type 0 = λ t. Has (told_of c) t in subst H (sym all) (crowd_has w (told_of c) (has_mapped told_of c w h)))))
+      (λ c h. not_it (picked_of c) (each_has (λ p. (device_of id).takes p ≡ None) (picked_of c) found others
+      (let H : List Picked → Type 0 = λ t. Has (picked_of c) t in subst H (sym all) (crowd_has w (picked_of c) (has_mapped picked_of c w h)))))
 
   pick_ends : (w v : List Card) (es : List Event) (r : Result Kind PollFault) → CallEnds (device_of id) w v es r → PickEnds id w r v es
   pick_ends w v es _ (taken p x e left) = is_taken w v p x e left

@@ -8,7 +8,7 @@ use Rattle.nfca_poll.specs.Levels.{levels}
 use Rattle.nfca_poll.specs.Calls.{Reading, Calls, Slp}
 use Rattle.nfca_poll.specs.Front.{Front, Off, Idle, Sleep, Ready, Active, front_next, is_active}
 use Rattle.nfca_poll.specs.Crowd.{Card, Each, with_front, is_idle, ahead, crowd_bits}
-use Rattle.nfca_poll.specs.Crowd.{told_of}
+use Rattle.nfca_poll.specs.Crowd.{picked_of}
 use Rattle.nfca_poll.proofs.Clashes.{wrong, Has}
 use Rattle.nfca_poll.proofs.Eaches.{each_map, each_has, each_front, each_back, map_twice}
 use Rattle.nfca_poll.proofs.Fitting.{card_next}
@@ -27,7 +27,7 @@ FitsBy due n found p (Ready k starred) = ⊥
 FitsBy due n found p (Active starred) = (starred ≡ false) × Has p found × ((due ≡ true) ⊎ (0 < n))
 
 abbrev pub FitsRound : Bool → ℕ → List Picked → Card → Type 0
-FitsRound due n found c = FitsBy due n found (told_of c) c.front
+FitsRound due n found c = FitsBy due n found (picked_of c) c.front
 
 more_by : (due : Bool) (n n' : ℕ) (found : List Picked) (p : Picked) (f : Front) → n ≤ n' → FitsBy due n found p f → FitsBy due n' found p f
 more_by due n n' found p Off l h = h
@@ -39,7 +39,7 @@ more_by due n n' found p (Active s) l h = (h.0, h.1, elim h.2 [ inl e ↦ inl e 
 
 -- more noise changes nothing of it
 pub fits_later : (due : Bool) (n n' : ℕ) (found : List Picked) (w : List Card) → n ≤ n' → Each (FitsRound due n found) w → Each (FitsRound due n' found) w
-fits_later due n n' found w l e = each_map (FitsRound due n found) (FitsRound due n' found) (λ c h. more_by due n n' found (told_of c) c.front l h) w e
+fits_later due n n' found w l e = each_map (FitsRound due n found) (FitsRound due n' found) (λ c h. more_by due n n' found (picked_of c) c.front l h) w e
 
 -- a round begins
 pub fits_reset : (w : List Card) → Each (FitsRound false 0 []) (map (λ c. with_front c Idle) w)
@@ -55,7 +55,7 @@ stands_by n found p (Active s) h = ap (λ v. if v then false else true) h.0
 
 pub fits_stand : (n : ℕ) (found : List Picked) (w : List Card) → Each (λ c. IsIdent c.id) w → Each (FitsRound false n found) w → Each Stands w
 fits_stand n found [] i e = tt
-fits_stand n found (c ∷ cs) i e = ((i.0, stands_by n found (told_of c) c.front e.0), fits_stand n found cs i.1 e.1)
+fits_stand n found (c ∷ cs) i e = ((i.0, stands_by n found (picked_of c) c.front e.0), fits_stand n found cs i.1 e.1)
 
 -- SLP_REQ
 slept_by : (n : ℕ) (found : List Picked) (p : Picked) (ls : List (List ℕ)) (f : Front) → FitsBy true n found p f → FitsBy false n found p (front_next ls f (Calls Slp))
@@ -67,7 +67,7 @@ slept_by n found p ls (Active s) h = h.1
 
 slept : (n : ℕ) (found : List Picked) (w : List Card) → Each (FitsRound true n found) w → Each (FitsRound false n found) (map (card_next (Calls Slp)) w)
 slept n found [] e = tt
-slept n found (c ∷ cs) e = (slept_by n found (told_of c) (levels c.id) c.front e.0, slept n found cs e.1)
+slept n found (c ∷ cs) e = (slept_by n found (picked_of c) (levels c.id) c.front e.0, slept n found cs e.1)
 
 awake_by : (n : ℕ) (found : List Picked) (p : Picked) (f : Front) → 0 < n → FitsBy true n found p f → FitsBy false n found p f
 awake_by n found p Off l h = h
@@ -80,16 +80,16 @@ awake_by n found p (Active s) l h = (h.0, h.1, inr l)
 pub fits_slp : (n t : ℕ) (found : List Picked) (v v' : List Card) (h : Heard) → Each (FitsRound true n found) v → TurnWas (Calls Slp) v v' h t → Each (FitsRound false (n + t) found) v'
 fits_slp n _ found v _ _ e passed = fits_later false n (n + 0) found (map (card_next (Calls Slp)) v) (omega arith) (slept n found v e)
 fits_slp n _ found v _ _ e unheard =
-    each_map (FitsRound true (n + 1) found) (FitsRound false (n + 1) found) (λ c h. awake_by (n + 1) found (told_of c) c.front (omega arith) h) v (fits_later true n (n + 1) found v (omega arith) e)
+    each_map (FitsRound true (n + 1) found) (FitsRound false (n + 1) found) (λ c h. awake_by (n + 1) found (picked_of c) c.front (omega arith) h) v (fits_later true n (n + 1) found v (omega arith) e)
 fits_slp n _ found v _ _ e (damaged x h) = fits_later false n (n + 1) found (map (card_next (Calls Slp)) v) (omega arith) (slept n found v e)
 fits_slp n _ found v _ _ e (lost x h) = fits_later false n (n + 1) found (map (card_next (Calls Slp)) v) (omega arith) (slept n found v e)
 
 -- no turn changes what can be told
-pub told_turn : (r : Reading) (v v' : List Card) (h : Heard) (t : ℕ) → TurnWas r v v' h t → map told_of v' ≡ map told_of v
-told_turn r v _ _ _ passed = map_twice told_of (card_next r) v
+pub told_turn : (r : Reading) (v v' : List Card) (h : Heard) (t : ℕ) → TurnWas r v v' h t → map picked_of v' ≡ map picked_of v
+told_turn r v _ _ _ passed = map_twice picked_of (card_next r) v
 told_turn r v _ _ _ unheard = refl
-told_turn r v _ _ _ (damaged x h) = map_twice told_of (card_next r) v
-told_turn r v _ _ _ (lost x h) = map_twice told_of (card_next r) v
+told_turn r v _ _ _ (damaged x h) = map_twice picked_of (card_next r) v
+told_turn r v _ _ _ (lost x h) = map_twice picked_of (card_next r) v
 
 -- the device that was picked
 sleeps_not : ◌≡◌ {A = Front} Sleep Idle → ⊥
@@ -124,8 +124,8 @@ unfound_by n found p Sleep h new = absurd (new h)
 unfound_by n found p (Ready j s) h new = absurd h
 unfound_by n found p (Active s) h new = absurd (new h.1)
 
-pub unfound_idle : (n : ℕ) (found : List Picked) (w : List Card) (c : Card) → Each (FitsRound false n found) w → Has c w → (Has (told_of c) found → ⊥) → is_idle c.front ≡ true
-unfound_idle n found w c e h new = unfound_by n found (told_of c) c.front (each_has (FitsRound false n found) c w e h) new
+pub unfound_idle : (n : ℕ) (found : List Picked) (w : List Card) (c : Card) → Each (FitsRound false n found) w → Has c w → (Has (picked_of c) found → ⊥) → is_idle c.front ≡ true
+unfound_idle n found w c e h new = unfound_by n found (picked_of c) c.front (each_has (FitsRound false n found) c w e h) new
 
 -- the others, where one more is found
 still_new : (found : List Picked) (p q : Picked) → (q.id ≡ p.id → ⊥) → (Has q found → ⊥) → Has q (found ++ p ∷ []) → ⊥
@@ -153,10 +153,10 @@ awake_aside n found q (Active s) e h = elim h.2 [ inl w ↦ wrong w | inr l ↦ 
 shade_fits : (n : ℕ) (found : List Picked) (p : Picked) (c v : Card) → (c.id ≡ p.id → ⊥) → FitsRound false n found c → Shade true c (cast true c) v → FitsRound true n (found ++ p ∷ []) v
 shade_fits n found p c v ne h (inl e) =
     let P : Card → Type 0 = λ x. FitsRound true n (found ++ p ∷ []) x in
-    subst P (sym e) (other_by n found p (told_of c) c.front ne h)
+    subst P (sym e) (other_by n found p (picked_of c) c.front ne h)
 shade_fits n found p c v ne h (inr k) =
     let P : Card → Type 0 = λ x. FitsRound true n (found ++ p ∷ []) x in
-    subst P (sym k.2) (inr (awake_aside n found (told_of c) c.front k.0 h))
+    subst P (sym k.2) (inr (awake_aside n found (picked_of c) c.front k.0 h))
 
 shades_fit : (n : ℕ) (found : List Picked) (p : Picked) (cs vs : List Card) → Each (λ (c : Card). c.id ≡ p.id → ⊥) cs → Each (FitsRound false n found) cs → Shades true cs (map (cast true) cs) vs
     → Each (FitsRound true n (found ++ p ∷ [])) vs
@@ -172,7 +172,7 @@ each_join P (y ∷ a) x b p q r = (p.0, each_join P a x b p.1 q r)
 -- A device was picked from these.
 module _ (n : ℕ) (found : List Picked) (start : List Card) (ls : List (List ℕ)) (kind : Kind) (v : List Card) (fits : Each (FitsRound false n found) start) (k : PickedFrom start ls kind v) where
   abbrev pub the_picked : Picked
-  the_picked = told_of k.picked
+  the_picked = picked_of k.picked
 
   fits_parts : Each (FitsRound false n found) (k.before ++ k.picked ∷ k.behind)
   fits_parts = let P : List Card → Type 0 = λ t. Each (FitsRound false n found) t in subst P k.parts fits
@@ -202,9 +202,9 @@ module _ (n : ℕ) (found : List Picked) (start : List Card) (ls : List (List �
       (shades_fit n found the_picked k.behind k.behind' k.apart_behind back (subst C (picked_new new) k.shades_behind)))
 
   -- it stands before all others that aren't found
-  pub picked_first : (Has the_picked found → ⊥) → (z : Picked) → Has z (map told_of start) → (Has z found → ⊥) → ahead (crowd_bits k.picked.id) (crowd_bits z.id) ≡ true
+  pub picked_first : (Has the_picked found → ⊥) → (z : Picked) → Has z (map picked_of start) → (Has z found → ⊥) → ahead (crowd_bits k.picked.id) (crowd_bits z.id) ≡ true
   picked_first new z h unfound =
-      let c : (c : Card) × Has c start × (z ≡ told_of c) = mapped_has told_of z start h in
+      let c : (c : Card) × Has c start × (z ≡ picked_of c) = mapped_has picked_of z start h in
       let N : Picked → Type 0 = λ q. Has q found → ⊥ in
       let idle : is_idle c.0.front ≡ true = unfound_idle n found start c.0 fits c.1 (subst N c.2 unfound) in
       let F : Card → Type 0 = λ d. is_idle (part_of k.idle d.front) ≡ true → ahead (crowd_bits k.picked.id) (crowd_bits d.id) ≡ true in

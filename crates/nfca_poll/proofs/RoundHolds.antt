@@ -17,8 +17,9 @@ use Rattle.nfca_poll.specs.RoundTrace.{rounds, is_noisy, last_four, AreNoisy, Mi
 use Rattle.nfca_poll.specs.AnyStart.{AreUnlinked, HaveOwnIdents}
 use Rattle.nfca_poll.specs.Polled.{ArePolled, AreTidy}
 use Rattle.nfca_poll.specs.RoundEnds.{LeavesActive}
-use Rattle.nfca_poll.specs.Crowd.{told_of, crowd}
+use Rattle.nfca_poll.specs.Crowd.{picked_of, crowd}
 use Rattle.nfca_poll.specs.RoundEnds as ends
+use Rattle.nfc_base.specs.Prefix.{IsPrefix}
 use Rattle.nfca_poll.proofs.Clashes.{wrong, Has}
 use Rattle.nfca_poll.proofs.Eaches.{each_has, has_middle}
 use Rattle.nfca_poll.proofs.Selects.{identifier_of}
@@ -32,13 +33,13 @@ use Rattle.nfca_poll.proofs.RoundCards.{FitsRound, picked_again, picked_sends, p
 -- How a call by rounds ends: it took a device, found nobody more, gave all rounds up, or found too many.
 pub data CallEnds {X : Type 0} (aim : Aim X) (w : List Card) (v : List Card) (es : List Event) : Result X PollFault → Type 0 where
   taken : (p : Picked) (x : X) → aim.takes p ≡ Some x → LeavesActive p.id p.kind w v → CallEnds aim w v es (Ok x)
-  nobody : (found : List Picked) → Each (λ p. aim.takes p ≡ None) found → ends.IsFrontOf found (crowd w) → (found ≡ crowd w) ⊎ Misses es → CallEnds aim w v es (aim.nobody found)
+  nobody : (found : List Picked) → Each (λ p. aim.takes p ≡ None) found → IsPrefix found (crowd w) → (found ≡ crowd w) ⊎ Misses es → CallEnds aim w v es (aim.nobody found)
   gave_up : GivesUp es → CallEnds aim w v es (Err faults.Disturbed)
   too_many : most_found < length w → CallEnds aim w v es (Err faults.BadAnswer)
 
 -- What doesn't change in a resolution: the cards at its start, and its turns of SENS_REQ, which stand behind others.
 pub record Resolves (w : List Card) (found : List Picked) (start : List Card) (ts : List Turn) (now : List Event) : Type 0 where
-  pub same : map told_of start ≡ map told_of w
+  pub same : map picked_of start ≡ map picked_of w
   pub fits : Each (FitsRound false (noise now) found) start
   pub earlier : List Turn
   pub all : calls now ≡ earlier ++ ts
@@ -60,7 +61,7 @@ module _ {L : Type 0} (m : Machine L) {identifier' : L → List ℕ} (polled : A
     pub few : round ≤ most_rounds
     pub here : InRound es round now
     pub unlinked : AreUnlinked m polled.unlinked a.listeners
-    pub same : map told_of (cards_of a) ≡ map told_of w
+    pub same : map picked_of (cards_of a) ≡ map picked_of w
     pub rest : List Picked
     pub known : crowd w ≡ found ++ rest
     pub others : Each (λ p. aim.takes p ≡ None) found
@@ -84,7 +85,7 @@ module _ {L : Type 0} (m : Machine L) {identifier' : L → List ℕ} (polled : A
   pub record AtReset (round : ℕ) (a : World L) (es : List Event) : Type 0 where
     pub few : round ≤ most_rounds
     pub tidy : AreTidy polled a.listeners
-    pub same : map told_of (cards_of a) ≡ map told_of w
+    pub same : map picked_of (cards_of a) ≡ map picked_of w
     pub noisy : AreNoisy (rounds es)
     pub count : length (rounds es) + 1 ≡ round
 
@@ -95,25 +96,25 @@ module _ {L : Type 0} (m : Machine L) {identifier' : L → List ℕ} (polled : A
   Holds (Told r) a es = CallEnds aim w (cards_of a) es r
 
   -- the devices, whatever state they are in
-  all_unlike : AllUnlike (map told_of w)
+  all_unlike : AllUnlike (map picked_of w)
   all_unlike = unlike_cards w field.distinct
 
   crowd_apart : (found rest : List Picked) → crowd w ≡ found ++ rest → AllUnlike (found ++ rest)
   crowd_apart found rest e = let P : List Picked → Type 0 = λ t. AllUnlike t in subst P e (crowd_unlike w all_unlike)
 
-  told_idents : Each (λ (p : Picked). IsIdent p.id) (map told_of w)
-  told_idents = mapped_each told_of (λ (p : Picked). IsIdent p.id) w field.idents
+  told_idents : Each (λ (p : Picked). IsIdent p.id) (map picked_of w)
+  told_idents = mapped_each picked_of (λ (p : Picked). IsIdent p.id) w field.idents
 
   crowd_idents : (found rest : List Picked) → crowd w ≡ found ++ rest → Each (λ (p : Picked). IsIdent p.id) (found ++ rest)
   crowd_idents found rest e =
       let P : List Picked → Type 0 = λ t. Each (λ (p : Picked). IsIdent p.id) t in
-      subst P e (each_of (λ (p : Picked). IsIdent p.id) (crowd w) (λ z h. each_has (λ (p : Picked). IsIdent p.id) z (map told_of w) told_idents (has_crowd w z h)))
+      subst P e (each_of (λ (p : Picked). IsIdent p.id) (crowd w) (λ z h. each_has (λ (p : Picked). IsIdent p.id) z (map picked_of w) told_idents (has_crowd w z h)))
 
-  pub same_distinct : (v : List Card) → map told_of v ≡ map told_of w → AreDistinct v
+  pub same_distinct : (v : List Card) → map picked_of v ≡ map picked_of w → AreDistinct v
   same_distinct v e = let P : List Picked → Type 0 = λ t. AllUnlike t in cards_unlike v (subst P (sym e) all_unlike)
 
-  pub same_idents : (v : List Card) → map told_of v ≡ map told_of w → Each (λ c. IsIdent c.id) v
-  same_idents v e = let P : List Picked → Type 0 = λ t. Each (λ (p : Picked). IsIdent p.id) t in each_unmapped told_of (λ (p : Picked). IsIdent p.id) v (subst P (sym e) told_idents)
+  pub same_idents : (v : List Card) → map picked_of v ≡ map picked_of w → Each (λ c. IsIdent c.id) v
+  same_idents v e = let P : List Picked → Type 0 = λ t. Each (λ (p : Picked). IsIdent p.id) t in each_unmapped picked_of (λ (p : Picked). IsIdent p.id) v (subst P (sym e) told_idents)
 
   -- a round is given up that had noise
   pub gives_round_up : (round : ℕ) (found : List Picked) (now : List Event) (a : World L) (es : List Event) → Rounds round found now a es → 0 < noise now → Holds (next_round round) a es
@@ -138,17 +139,17 @@ module _ {L : Type 0} (m : Machine L) {identifier' : L → List ℕ} (polled : A
       let P : List Turn → Type 0 = λ t. 2 ≤ length (filter is_noisy t) in
       subst P (sym (ap last_four e ∙ last_are earlier ts four)) two
 
-  idle_left : (n : ℕ) (found : List Picked) (start : List Card) (z : Picked) → Each (FitsRound false n found) start → NoneIdle start → Has z (map told_of start) → (Has z found → ⊥) → ⊥
+  idle_left : (n : ℕ) (found : List Picked) (start : List Card) (z : Picked) → Each (FitsRound false n found) start → NoneIdle start → Has z (map picked_of start) → (Has z found → ⊥) → ⊥
   idle_left n found start z fits none here unfound =
-      let c : (c : Card) × Has c start × (z ≡ told_of c) = mapped_has told_of z start here in
+      let c : (c : Card) × Has c start × (z ≡ picked_of c) = mapped_has picked_of z start here in
       let N : Picked → Type 0 = λ q. Has q found → ⊥ in
       wrong (sym (each_has (λ (d : Card). is_idle d.front ≡ false) c.0 start none c.1) ∙ unfound_idle n found start c.0 fits c.1 (subst N c.2 unfound))
 
-  none_left : (n : ℕ) (found : List Picked) (start : List Card) (rest : List Picked) → map told_of start ≡ map told_of w → Each (FitsRound false n found) start → crowd w ≡ found ++ rest → NoneIdle start → rest ≡ []
+  none_left : (n : ℕ) (found : List Picked) (start : List Card) (rest : List Picked) → map picked_of start ≡ map picked_of w → Each (FitsRound false n found) start → crowd w ≡ found ++ rest → NoneIdle start → rest ≡ []
   none_left n found start [] same fits known none = refl
   none_left n found start (z ∷ zs) same fits known none =
       let H : List Picked → Type 0 = λ t. Has z t in
-      let here : Has z (map told_of start) = subst H (sym same) (has_crowd w z (subst H (sym known) (has_back z found (z ∷ zs) (inl refl)))) in
+      let here : Has z (map picked_of start) = subst H (sym same) (has_crowd w z (subst H (sym known) (has_back z found (z ∷ zs) (inl refl)))) in
       let unfound : Has z found → ⊥ = λ h. unlike_apart found (z ∷ zs) z (crowd_apart found (z ∷ zs) known) h (inl refl) in
       absurd (idle_left n found start z fits none here unfound)
 
@@ -168,12 +169,12 @@ module _ {L : Type 0} (m : Machine L) {identifier' : L → List ℕ} (polled : A
     abbrev p : Picked
     p = record { id = identifier ls; kind = kind }
 
-    is_it : p ≡ told_of k.picked
+    is_it : p ≡ picked_of k.picked
     is_it =
         let P : List ℕ → Kind → Picked = λ i j. record { id = i; kind = j } in
         ap (λ i. P i kind) (ap identifier k.same_levels ∙ identifier_of k.picked.id k.own_id) ∙ ap (P k.picked.id) k.same_kind
 
-    leaves_active : LeavesActive (told_of k.picked).id (told_of k.picked).kind w (cards_of a)
+    leaves_active : LeavesActive (picked_of k.picked).id (picked_of k.picked).kind w (cards_of a)
     leaves_active = (
       k.before',
       k.behind',
@@ -185,41 +186,41 @@ module _ {L : Type 0} (m : Machine L) {identifier' : L → List ℕ} (polled : A
     takes : (x : X) → aim.takes p ≡ Some x → CallEnds aim w (cards_of a) es (Ok x)
     takes x e =
         let P : Picked → Type 0 = λ q. aim.takes q ≡ Some x in
-        taken (told_of k.picked) x (subst P is_it e) leaves_active
+        taken (picked_of k.picked) x (subst P is_it e) leaves_active
 
-    in_field : Has (told_of k.picked) (map told_of start)
+    in_field : Has (picked_of k.picked) (map picked_of start)
     in_field =
         let H : List Card → Type 0 = λ t. Has k.picked t in
-        has_mapped told_of k.picked start (subst H (sym k.parts) (has_middle k.picked k.before k.behind))
+        has_mapped picked_of k.picked start (subst H (sym k.parts) (has_middle k.picked k.before k.behind))
 
     -- found before
-    twice : has_found found (told_of k.picked).id ≡ true → 0 < noise now
+    twice : has_found found (picked_of k.picked).id ≡ true → 0 < noise now
     twice e =
-        let q : (q : Picked) × Has q found × (q.id ≡ (told_of k.picked).id) = has_found_is found (told_of k.picked).id e in
+        let q : (q : Picked) × Has q found × (q.id ≡ (picked_of k.picked).id) = has_found_is found (picked_of k.picked).id e in
         let H : List Picked → Type 0 = λ t. Has q.0 t in
-        let all : Has q.0 (map told_of w) = has_crowd w q.0 (subst H (sym c.known) (has_front q.0 found c.rest q.1)) in
-        let I : List Picked → Type 0 = λ t. Has (told_of k.picked) t in
-        let same : q.0 ≡ told_of k.picked = same_by_id (map told_of w) q.0 (told_of k.picked) all_unlike all (subst I r.same in_field) q.2 in
+        let all : Has q.0 (map picked_of w) = has_crowd w q.0 (subst H (sym c.known) (has_front q.0 found c.rest q.1)) in
+        let I : List Picked → Type 0 = λ t. Has (picked_of k.picked) t in
+        let same : q.0 ≡ picked_of k.picked = same_by_id (map picked_of w) q.0 (picked_of k.picked) all_unlike all (subst I r.same in_field) q.2 in
         let F : Picked → Type 0 = λ t. Has t found in
         picked_again (noise now) found start ls kind (cards_of a) r.fits k (subst F same q.1)
 
     -- not found before: it is the next of the crowd
-    once : has_found found (told_of k.picked).id ≡ false → Has (told_of k.picked) found → ⊥
-    once e h = wrong (sym e ∙ found_has found (told_of k.picked) h)
+    once : has_found found (picked_of k.picked).id ≡ false → Has (picked_of k.picked) found → ⊥
+    once e h = wrong (sym e ∙ found_has found (picked_of k.picked) h)
 
-    the_next : (Has (told_of k.picked) found → ⊥) → (more : List Picked) × (c.rest ≡ told_of k.picked ∷ more)
+    the_next : (Has (picked_of k.picked) found → ⊥) → (more : List Picked) × (c.rest ≡ picked_of k.picked ∷ more)
     the_next new =
-        let I : List Picked → Type 0 = λ t. Has (told_of k.picked) t in
+        let I : List Picked → Type 0 = λ t. Has (picked_of k.picked) t in
         let S : List Picked → Type 0 = λ t. IsSorted t in
-        let there : Has (told_of k.picked) (found ++ c.rest) = subst I c.known (crowd_has w (told_of k.picked) (subst I r.same in_field)) in
-        next_is found c.rest (told_of k.picked) (subst S c.known (crowd_sorted w)) (crowd_apart found c.rest c.known) (crowd_idents found c.rest c.known) there new
+        let there : Has (picked_of k.picked) (found ++ c.rest) = subst I c.known (crowd_has w (picked_of k.picked) (subst I r.same in_field)) in
+        next_is found c.rest (picked_of k.picked) (subst S c.known (crowd_sorted w)) (crowd_apart found c.rest c.known) (crowd_idents found c.rest c.known) there new
         (λ z h. picked_first (noise now) found start ls kind (cards_of a) r.fits k new z
         (let H : List Picked → Type 0 = λ t. Has z t in subst H (sym r.same) (has_crowd w z (subst H (sym c.known) (has_back z found c.rest h))))
         (λ f. unlike_apart found c.rest z (crowd_apart found c.rest c.known) f h))
 
-    no_room : (more : List Picked) → c.rest ≡ told_of k.picked ∷ more → nat_lt (length found) most_found ≡ false → most_found < length w
+    no_room : (more : List Picked) → c.rest ≡ picked_of k.picked ∷ more → nat_lt (length found) most_found ≡ false → most_found < length w
     no_room more e q =
-        let n : length (crowd w) ≡ length found + length (told_of k.picked ∷ more) = ap length (c.known ∙ ap (λ t. found ++ t) e) ∙ length-append found (told_of k.picked ∷ more) in
+        let n : length (crowd w) ≡ length found + length (picked_of k.picked ∷ more) = ap length (c.known ∙ ap (λ t. found ++ t) e) ∙ length-append found (picked_of k.picked ∷ more) in
         let l : length (crowd w) ≡ length w = crowd_length w in
         let f : most_found ≤ length found = full (length found) q in
         omega (arith, n, l, f)
@@ -227,9 +228,9 @@ module _ {L : Type 0} (m : Machine L) {identifier' : L → List ℕ} (polled : A
         full : (i : ℕ) → nat_lt i most_found ≡ false → most_found ≤ i
         full i h = grind arith
 
-    sends : aim.takes (told_of k.picked) ≡ None → (Has (told_of k.picked) found → ⊥) → InSend round (found ++ told_of k.picked ∷ []) a es
+    sends : aim.takes (picked_of k.picked) ≡ None → (Has (picked_of k.picked) found → ⊥) → InSend round (found ++ picked_of k.picked ∷ []) a es
     sends e new =
-        let more : (more : List Picked) × (c.rest ≡ told_of k.picked ∷ more) = the_next new in
+        let more : (more : List Picked) × (c.rest ≡ picked_of k.picked ∷ more) = the_next new in
         record {
           now = now;
           common = record {
@@ -238,22 +239,22 @@ module _ {L : Type 0} (m : Machine L) {identifier' : L → List ℕ} (polled : A
             unlinked = c.unlinked;
             same = c.same;
             rest = more.0;
-            known = c.known ∙ ap (λ t. found ++ t) more.1 ∙ sym (append_assoc found (told_of k.picked ∷ []) more.0);
-            others = each_snoc (λ q. aim.takes q ≡ None) found (told_of k.picked) c.others e;
+            known = c.known ∙ ap (λ t. found ++ t) more.1 ∙ sym (append_assoc found (picked_of k.picked ∷ []) more.0);
+            others = each_snoc (λ q. aim.takes q ≡ None) found (picked_of k.picked) c.others e;
           };
           fits = picked_sends (noise now) found start ls kind (cards_of a) r.fits k new;
         }
 
-    meets : aim.takes (told_of k.picked) ≡ None → Holds (met aim next_round round found (told_of k.picked)) a es
-    meets e = by_found (has_found found (told_of k.picked).id) refl
+    meets : aim.takes (picked_of k.picked) ≡ None → Holds (met aim next_round round found (picked_of k.picked)) a es
+    meets e = by_found (has_found found (picked_of k.picked).id) refl
       where
-        by_room : (Has (told_of k.picked) found → ⊥) → (v : Bool) → nat_lt (length found) most_found ≡ v
-            → Holds (if v then Sends round (found ++ told_of k.picked ∷ []) else Told (Err faults.BadAnswer)) a es
+        by_room : (Has (picked_of k.picked) found → ⊥) → (v : Bool) → nat_lt (length found) most_found ≡ v
+            → Holds (if v then Sends round (found ++ picked_of k.picked ∷ []) else Told (Err faults.BadAnswer)) a es
         by_room new true q = sends e new
-        by_room new false q = let more : (more : List Picked) × (c.rest ≡ told_of k.picked ∷ more) = the_next new in too_many (no_room more.0 more.1 q)
+        by_room new false q = let more : (more : List Picked) × (c.rest ≡ picked_of k.picked ∷ more) = the_next new in too_many (no_room more.0 more.1 q)
 
-        by_found : (v : Bool) → has_found found (told_of k.picked).id ≡ v
-            → Holds (if v then next_round round else if nat_lt (length found) most_found then Sends round (found ++ told_of k.picked ∷ []) else Told (Err faults.BadAnswer)) a es
+        by_found : (v : Bool) → has_found found (picked_of k.picked).id ≡ v
+            → Holds (if v then next_round round else if nat_lt (length found) most_found then Sends round (found ++ picked_of k.picked ∷ []) else Told (Err faults.BadAnswer)) a es
         by_found true q = gives_round_up round found now a es c (twice q)
         by_found false q = by_room (once q) (nat_lt (length found) most_found) refl
 

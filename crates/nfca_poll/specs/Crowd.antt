@@ -103,8 +103,8 @@ pub record IsCrowd (w : List Card) : Type 0 where
   pub distinct : AreDistinct w
 
 -- what a reader can tell of a device
-abbrev pub told_of : Card → Picked
-told_of c = record { id = c.id; kind = c.kind }
+abbrev pub picked_of : Card → Picked
+picked_of c = record { id = c.id; kind = c.kind }
 
 -- a device at its place in crowd order
 abbrev pub put_by : Picked → List Picked → List Picked
@@ -114,15 +114,15 @@ put_by p (q ∷ qs) = if ahead (crowd_bits p.id) (crowd_bits q.id) then p ∷ q 
 -- the crowd: the devices in crowd order
 abbrev pub crowd : List Card → List Picked
 crowd [] = []
-crowd (c ∷ cs) = put_by (told_of c) (crowd cs)
+crowd (c ∷ cs) = put_by (picked_of c) (crowd cs)
 
 -- The first of the crowd of those that are idle, or nobody.
-abbrev pub first_of : List Picked → Result Picked PollFault
-first_of [] = Err Nobody
-first_of (p ∷ ps) = Ok p
+abbrev pub first_picked : List Picked → Result Picked PollFault
+first_picked [] = Err Nobody
+first_picked (p ∷ ps) = Ok p
 
 abbrev pub first_idle : List Card → Result Picked PollFault
-first_idle w = first_of (crowd (filter (λ c. is_idle c.front) w))
+first_idle w = first_picked (crowd (filter (λ c. is_idle c.front) w))
 
 -- the devices once this one is active, all others being as they were
 abbrev pub with_active : List ℕ → List Card → List Card

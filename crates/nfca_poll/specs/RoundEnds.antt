@@ -9,20 +9,17 @@ use Rattle.nfca_poll.specs.declared.fault.Picked.{Picked}
 use Rattle.nfca_poll.specs.declared.fault.PollFault.{PollFault}
 use Rattle.nfca_poll.specs.declared.fault.PollFault.TheVariants.{Nobody, Disturbed, FieldLost, Memory, NotFound, BadAnswer}
 use Rattle.nfca_poll.specs.Front.{Active}
-use Rattle.nfca_poll.specs.Crowd.{Each, Card, told_of, crowd, is_rest, cards}
+use Rattle.nfca_poll.specs.Crowd.{Each, Card, picked_of, crowd, is_rest, cards}
 use Rattle.nfca_poll.specs.Rounds.{most_found}
 use Rattle.nfca_poll.specs.AnyStart.{HaveOwnIdents}
 use Rattle.nfca_poll.specs.Polled.{ArePolled, AreTidy}
 use Rattle.nfca_poll.specs.RoundTrace.{Misses, GivesUp}
-
--- the first list begins the second
-abbrev pub IsFrontOf : List Picked → List Picked → Type 0
-IsFrontOf xs ys = (zs : List Picked) × (ys ≡ xs ++ zs)
+use Rattle.nfc_base.specs.Prefix.{IsPrefix}
 
 -- How a search for all devices ends over these ones: it found the first of the crowd, and left others out only at a missed
 -- end; it was disturbed only where each of its rounds had noise; a bad answer is one device too many in a round.
 abbrev pub FindEnds : List Card → Result (List Picked) PollFault → List Event → Type 0
-FindEnds w (Ok found) es = IsFrontOf found (crowd w) × ((found ≡ crowd w) ⊎ Misses es)
+FindEnds w (Ok found) es = IsPrefix found (crowd w) × ((found ≡ crowd w) ⊎ Misses es)
 FindEnds w (Err Nobody) es = ⊥
 FindEnds w (Err Disturbed) es = GivesUp es
 FindEnds w (Err FieldLost) es = Unit {0}
@@ -34,7 +31,7 @@ FindEnds w (Err BadAnswer) es = most_found < length w
 abbrev pub LeavesActive : List ℕ → Kind → List Card → List Card → Type 0
 LeavesActive id kind w v =
     (a : List Card) × (b : List Card) × (v ≡ a ++ record { id = id; kind = kind; front = Active false } ∷ b)
-    × Each (λ c. is_rest c.front ≡ true) (a ++ b) × (map told_of v ≡ map told_of w)
+    × Each (λ c. is_rest c.front ≡ true) (a ++ b) × (map picked_of v ≡ map picked_of w)
 
 -- How a search for one device ends over these ones: it is there, and selected alone; or it isn't there, or the end was missed;
 -- or each of the rounds had noise; or a round found one too many.

@@ -53,9 +53,9 @@ id_at (i ∷ is) zero = Some i
 id_at (i ∷ is) (suc n) = id_at is n
 
 -- The masks whose rounds are still to be made: the first is the next.
-abbrev pub first_of : List Mask → Option Mask
-first_of [] = None
-first_of (m ∷ ms) = Some m
+abbrev pub next_mask : List Mask → Option Mask
+next_mask [] = None
+next_mask (m ∷ ms) = Some m
 
 abbrev pub behind_first : List Mask → List Mask
 behind_first [] = []

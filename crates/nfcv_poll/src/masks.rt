@@ -1,7 +1,7 @@
 //! The masks whose rounds are still to be made.
 
 ghost use Rattle.std.specs.Prelude.{◌≡◌, ◌∷◌, ◌++◌, [], reverse, length, nat_eq, Err, OnOk, OnErr};
-ghost use Rattle.nfcv_poll.specs.Search.{first_of, behind_first};
+ghost use Rattle.nfcv_poll.specs.Search.{next_mask, behind_first};
 ghost use Rattle.nfca_poll.specs.declared.fault.PollFault.TheVariants.{Memory};
 
 use crate::mask::Mask;
@@ -52,7 +52,7 @@ impl Masks {
 
     /// Takes the mask that is upon the others.
     pub fn pop(&mut self) -> Option<Mask>
-        ensures first { result ≡ first_of self.old }
+        ensures first { result ≡ next_mask self.old }
         ensures rest { self.new ≡ behind_first self.old }
     {
         self.masks.pop()

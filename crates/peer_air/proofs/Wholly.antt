@@ -23,7 +23,7 @@ use Rattle.dep_link.specs.Payloads.{payloads}
 use Rattle.dep_link.specs.Exchange.{frames_of}
 use Rattle.dep_link.specs.Answering.{answering_air}
 use Rattle.dep_link.specs.Asking.{Standing, MayReply, due_at, dep_next, HasPeer, ExchangeTurns, AreFrames}
-use Rattle.dep_link.specs.DepLinks.{DepSeen, Swap, PeerOf, TurnsOf, Exchanged, StandsAt, brought, dep_swaps, since}
+use Rattle.dep_link.specs.DepLinks.{DepSeen, Swap, PeerOf, TurnsOf, PayloadExchanged, StandsAt, brought, dep_swaps, since}
 use Rattle.dep_link.proofs.SwapEnds.{first_here}
 use Rattle.far_air.specs.FarEnds.{FarTable}
 use Rattle.far_air.specs.FarWorld.{far_air}
@@ -210,7 +210,7 @@ module _ {L F : Type 0} (k : Ghosts L) (laws : Laws k) (target : L → TargetSta
 module _ {L F A : Type 0} (k : Ghosts L) (laws : Laws k) (target : L → TargetState) (linked : L → Bool) (t : FarTable F) (links : IsLinked k.machine linked) (fars : IsFarTable t)
     (restarts : A → List ℕ → A → Type 0) (steps : A → List ℕ → List ℕ → A → Type 0) (stops : A → List ℕ → A → Type 0) (view : A → Choosing F) (kind : IsOfTable restarts steps t view)
     (fits : (a : A) (payload reply : List ℕ) (b : A) → steps a payload reply b → length reply ≤ limit) where
-  moved_at : (a b : DepSeen L) (out : List ℕ) (did : List FarStep) (x : Exchanged k target a b (record { out = out; did = did }))
+  moved_at : (a b : DepSeen L) (out : List ℕ) (did : List FarStep) (x : PayloadExchanged k target a b (record { out = out; did = did }))
       → (far after : A) → FarMoved steps stops did far after → IsWhole k target linked t did → (place : ℕ) → Stands k target linked t a.air place → (os : List (Option F))
       → SwapTurn k target linked t a b (record { out = out; did = did }) place os (view far) (view after)
   moved_at a b out [] x far after moved whole place stands os =
@@ -246,7 +246,7 @@ swaps_far k laws target linked t restarts steps stops view fits links fars kind 
     moved_at k laws target linked t links fars restarts steps stops view kind fits a b s.out s.did x far after moved whole place stands os
 
 stop_far : {L F : Type 0} (k : Ghosts L) → Laws k → (target : L → TargetState) (linked : L → Bool) (t : FarTable F) → IsLinked k.machine linked → IsFarTable t
-    → (a b : DepSeen L) (out : List ℕ) (did : List FarStep) (x : Exchanged k target a b (record { out = out; did = did }))
+    → (a b : DepSeen L) (out : List ℕ) (did : List FarStep) (x : PayloadExchanged k target a b (record { out = out; did = did }))
     → (payload : List ℕ) → did ≡ Stopped payload ∷ [] → (place : ℕ) → Stands k target linked t a.air place → (far : Choosing F) (os : List (Option F)) → SwapFront k target linked t a b out place os far
 stop_far k laws target linked t links fars a b out [] x payload e place stands far os = absurd cc
 stop_far k laws target linked t links fars a b out (Stepped p reply ∷ did) x payload e place stands far os = absurd cc

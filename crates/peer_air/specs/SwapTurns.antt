@@ -3,7 +3,7 @@
 use Rattle.std.specs.Prelude.{◌≡◌, ◌≤◌, ℕ, List, [], ◌∷◌, length, Bool, true, Option, Some, None}
 use Rattle.nfc_base.specs.Choosing.{Choosing, first_number, later_numbers}
 use Rattle.nfc_base.specs.Signal.{Signal}
-use Rattle.nfc_base.specs.Links.{FarStep, Stepped, Stopped, FarMoved, BySwaps, payload_of}
+use Rattle.nfc_base.specs.Links.{FarStep, Stepped, Stopped, FarMoved, BySwaps, step_payload}
 use Rattle.nfc_base.specs.declared.event.Event.TheVariants.{Request}
 use Rattle.nfc_base.specs.declared.event.Fate.TheVariants.{Pass}
 use Rattle.air_core.specs.Turn.{Air, moment, after_event}
@@ -14,7 +14,7 @@ use Rattle.dep_link.specs.Sizes.{limit}
 use Rattle.dep_link.specs.Target.{TargetState}
 use Rattle.dep_link.specs.Initiator.{InitState}
 use Rattle.dep_link.specs.Asking.{Standing, HasPeer, ExchangeTurns, asks, stand, dep_next}
-use Rattle.dep_link.specs.DepLinks.{DepSeen, Swap, Exchanged, StandsAt, dep_swaps}
+use Rattle.dep_link.specs.DepLinks.{DepSeen, Swap, PayloadExchanged, StandsAt, dep_swaps}
 use Rattle.dep_link.specs.Stopping.{HeardUpTo}
 use Rattle.far_air.specs.FarEnds.{FarTable}
 use Rattle.far_air.specs.FarLaws.{IsFarTable, IsLinked, IsOfTable}
@@ -28,7 +28,7 @@ did_with out (Some reply) = Stepped out reply ∷ []
 -- the swaps in each of which it made one of these steps
 abbrev pub swaps_of : List FarStep → List Swap
 swaps_of [] = []
-swaps_of (x ∷ did) = record { out = payload_of x; did = x ∷ [] } ∷ swaps_of did
+swaps_of (x ∷ did) = record { out = step_payload x; did = x ∷ [] } ∷ swaps_of did
 
 module _ {L F : Type 0} (k : Ghosts L) (target : L → TargetState) (linked : L → Bool) (t : FarTable F) where
   -- A far end went from one state to another in an exchange of this payload, in which it gave that reply, by the next
@@ -100,13 +100,13 @@ module _ {L F : Type 0} (k : Ghosts L) (target : L → TargetState) (linked : L 
     -- its peer stands.
     abbrev pub SwapsFar : Type 0
     SwapsFar = IsLinked k.machine linked → IsFarTable t → IsOfTable restarts steps t view
-        → (a b : DepSeen L) (s : Swap) → Exchanged k target a b s
+        → (a b : DepSeen L) (s : Swap) → PayloadExchanged k target a b s
         → (far after : A) → FarMoved steps stops s.did far after → IsWhole s.did → (place : ℕ) → Stands a.air place → (os : List (Option F))
         → SwapTurn a b s place os (view far) (view after)
 
     abbrev pub StopsFar : Type 0
     StopsFar = IsLinked k.machine linked → IsFarTable t
-        → (a b : DepSeen L) (s : Swap) → Exchanged k target a b s
+        → (a b : DepSeen L) (s : Swap) → PayloadExchanged k target a b s
         → (payload : List ℕ) → s.did ≡ Stopped payload ∷ [] → (place : ℕ) → Stands a.air place → (far : Choosing F) (os : List (Option F))
         → SwapFront a b s.out place os far
 

@@ -8,7 +8,7 @@ use Rattle.snep_core.specs.declared.fault.SnepFault.TheVariants.{Memory}
 use Rattle.snep_core.specs.Calling.{FailsAt, FailsBy, Talks}
 use Rattle.snep_core.specs.Jobs.{Asks, Begins, Closes, Collects, Done, Job, Looks, Over, Refused, Sap, Sends, Value, Waits}
 use Rattle.snep_core.specs.Talk.{AllReady, EndState, Ends, OnSap, Step, all_done, all_opening, all_over, begins_all, begun, client_saps, is_over, leave_from, leaving, own_of, saps, some_open}
-use Rattle.snep_core.specs.RepliesLeft.{IsCounted, IsUnderWay}
+use Rattle.snep_core.specs.RepliesLeft.{IsBelowCountEnd, IsUnderWay}
 use Rattle.snep_core.specs.Waning.{Leaving, Serves}
 use Rattle.snep_core.proofs.CallsEnd.{calls_begin}
 use Rattle.snep_core.proofs.Following.{Follow, told_follow}
@@ -72,10 +72,10 @@ pub close_opens : (ss : List ℕ) (l new : EndState) (jobs : List OnSap) → som
 close_opens ss l new jobs h o = closes_some ss l h ∙ ap (λ (r : AllReady). begun r.llc r.jobs) o
 
 pub close_way : (ss : List ℕ) (l new : EndState) (jobs : List OnSap) → some_open l ss ≡ true → all_opening (leave_from ss) l ≡ record { llc = new; jobs = jobs }
-    → IsDistinct eqb ss → AllByRecursion (IsCounted l) ss → IsUnderWay (record { llc = new; jobs = jobs; idle = 0 })
+    → IsDistinct eqb ss → AllByRecursion (IsBelowCountEnd l) ss → IsUnderWay (record { llc = new; jobs = jobs; idle = 0 })
 close_way ss l new jobs h o d c =
     calls_begin l (leave_from ss) (record { llc = new; jobs = jobs; idle = 0 }) (subst (IsDistinct eqb) (sym (leave_saps ss)) d)
-    (subst (AllByRecursion (IsCounted l)) (sym (leave_saps ss)) c) (close_opens ss l new jobs h o)
+    (subst (AllByRecursion (IsBelowCountEnd l)) (sym (leave_saps ss)) c) (close_opens ss l new jobs h o)
 
 module _ {C A : Type 0} (seen : C → CarrierView) (swaps : C → List ℕ → List FarStep → C → Type 0) (steps : A → List ℕ → List ℕ → A → Type 0) (stops : A → List ℕ → A → Type 0)
     (numbers : List ℕ) (ss : List ℕ) (l : EndState) (some : some_open l ss ≡ true) where

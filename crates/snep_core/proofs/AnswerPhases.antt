@@ -3,7 +3,7 @@ use Rattle.std.proofs.Common.{◌≡◌, ◌<◌, ◌≤◌, ℕ, List, [], ◌�
 use Rattle.llcp_pdu.specs.General.{IsMiu}
 use Rattle.snep_core.specs.declared.message.Answer.{Answer}
 use Rattle.snep_core.specs.Accord.{IsPaired, Numbers}
-use Rattle.snep_core.specs.Jobs.{Ending, Job, Over, Sends, told_all}
+use Rattle.snep_core.specs.Jobs.{Ending, Job, Over, Sends, job_told}
 use Rattle.snep_core.specs.Message.{message}
 use Rattle.snep_core.specs.Server.{Received, ServerState, received}
 use Rattle.snep_core.specs.Session.{Gathering, Offer, Session, fresh_session, obeys, sent}
@@ -49,7 +49,7 @@ module _ (limit : ℕ) (ask : Asked) (answer : Answer) (end : Ending) (now : Lis
   ends_so AnswerHeard e q = absurd cc
   ends_so Answered e q = record { end_is = cc; queue_is = refl; units_is = refl; session_is = refl }
 
-  module _ (sap : ℕ) (six : length (message answer []) ≡ 6) (ended : told_all (Sends ask.most []) (message answer [] ∷ []) ≡ Some (Over end)) where
+  module _ (sap : ℕ) (six : length (message answer []) ≡ 6) (ended : job_told (Sends ask.most []) (message answer [] ∷ []) ≡ Some (Over end)) where
     module _ (miu size : ℕ) (table : List Offer) where
       answers : IsMiu size → ask.size ≤ limit → (s : ServerState) → StandsAt sap limit table later Answering s → Tells sap limit table later size Answering s
       answers fits k s h = says sap size limit table later fits Answering AnswerHeard answer six refl refl refl refl k refl refl refl s h

@@ -18,8 +18,8 @@ use Rattle.llcp_link.proofs.Ranged.{either}
 use Rattle.llcp_link.proofs.Submitted.{own_with}
 use Rattle.llcp_link.proofs.Waning.{Wanes, is_of, given_wanes, pending_wanes, taken_wanes}
 use Rattle.snep_core.specs.Jobs.{Job, Begins, Closes, has_byte}
-use Rattle.snep_core.specs.Talk.{AllReady, EndState, Ends, Finds, Gets, GivenUp, GivesUp, Leaves, Puts, Task, TaskOn, all_opening, begun, connected, get_bytes, opening, own_of, put_bytes, server_sap, Goes, OnSap, Ready, Step, Told, Working, all_emptied, all_heard, all_over, all_readied, all_well, as_they_came, emptied, emptied_by, gave_any, gave_something, goes_on, heard, heard_with, idle_after, most_idle, given_up, leaving, readied, ready, ready_so, replied, saps, settled, silent, with_job, told_by, took, units_of}
-use Rattle.snep_core.specs.RepliesLeft.{CallsBegin, CallsEnd, IsCounted, IsUnderWay, RepliesFall, all_to_come, job_left, replies_left, task_saps, to_come}
+use Rattle.snep_core.specs.Talk.{AllReady, EndState, Ends, Finds, Gets, GivenUp, GivesUp, Leaves, Puts, Task, TaskOn, all_opening, begun, connected, get_bytes, opening, own_of, put_bytes, server_sap, Goes, OnSap, Ready, Step, ComesTo, Working, all_emptied, all_heard, all_over, all_readied, all_well, as_they_came, emptied, emptied_by, gave_any, gave_something, goes_on, heard, heard_with, idle_after, most_idle, given_up, leaving, readied, ready, ready_so, replied, saps, settled, silent, with_job, call_behind, took, units_of}
+use Rattle.snep_core.specs.RepliesLeft.{CallsBegin, CallsEnd, IsBelowCountEnd, IsUnderWay, RepliesFall, all_to_come, job_left, replies_left, task_saps, to_come}
 use Rattle.snep_core.specs.Waning.{LessensTo, Putting}
 use Rattle.snep_core.proofs.Falling.{both_lessen, gave_lessens, turn_falls}
 use Rattle.snep_core.proofs.Jobs.{heard_lets}
@@ -41,7 +41,7 @@ same_elsewhere l sap job r h (x ∷ xs) n =
     omega arith
 
 counted_elsewhere : (l : EndState) (sap : ℕ) (job : Job) (r : Ready) → Readies l sap job r → (ss : List ℕ) → NotAmong sap ss
-    → AllByRecursion (IsCounted l) ss → AllByRecursion (IsCounted r.llc) ss
+    → AllByRecursion (IsBelowCountEnd l) ss → AllByRecursion (IsBelowCountEnd r.llc) ss
 counted_elsewhere l sap job r h [] n c = tt
 counted_elsewhere l sap job r h (s ∷ ss) n c =
     (subst (λ o. acked_of o < count_end) (sym (h.others s n.0)) c.0, counted_elsewhere l sap job r h ss n.1 c.1)
@@ -49,7 +49,7 @@ counted_elsewhere l sap job r h (s ∷ ss) n c =
 -- what all jobs submit
 record AllReadies (l : EndState) (xs : List OnSap) (r : AllReady) : Type 0 where
   pub left : all_to_come r.llc r.jobs ≤ all_to_come l xs
-  pub counted : AllByRecursion (IsCounted l) (saps xs) → AllByRecursion (IsCounted r.llc) (saps xs)
+  pub counted : AllByRecursion (IsBelowCountEnd l) (saps xs) → AllByRecursion (IsBelowCountEnd r.llc) (saps xs)
   pub others : (s : ℕ) → NotAmong s (saps xs) → own_from s r.llc.own ≡ own_from s l.own
   pub same : saps r.jobs ≡ saps xs
 
@@ -97,7 +97,7 @@ bound_by s a b w h =
 abbrev Wane : EndState → EndState → Type 0
 Wane l new = (s : ℕ) → Wanes (is_of s (own_from s l.own)) (is_of s (own_from s new.own))
 
-counted_on : (l new : EndState) → Wane l new → (ss : List ℕ) → AllByRecursion (IsCounted l) ss → AllByRecursion (IsCounted new) ss
+counted_on : (l new : EndState) → Wane l new → (ss : List ℕ) → AllByRecursion (IsBelowCountEnd l) ss → AllByRecursion (IsBelowCountEnd new) ss
 counted_on l new w [] c = tt
 counted_on l new w (s ∷ ss) c = (bound_by s (own_from s l.own) (own_from s new.own) (w s) c.0, counted_on l new w ss c.1)
 
@@ -107,7 +107,7 @@ to_come_on l new w (x ∷ xs) =
     (let a = pending_wanes x.sap (own_from x.sap l.own) (own_from x.sap new.own) (w x.sap) in let b = to_come_on l new w xs in omega arith)
 
 -- one job hears what came on its connection
-one_heard : (l new : EndState) → Wane l new → (waiting : Bool) (sap : ℕ) (job now : Job) → IsCounted l sap → heard waiting new sap job ≡ Some now
+one_heard : (l new : EndState) → Wane l new → (waiting : Bool) (sap : ℕ) (job now : Job) → IsBelowCountEnd l sap → heard waiting new sap job ≡ Some now
     → LessensTo (gave_something (own_from sap l.own) (own_from sap new.own) || has_byte (units_of (own_from sap new.own)))
     (to_come (own_from sap l.own) job) (to_come (own_from sap new.own) now)
 one_heard l new w waiting sap job now c e =
@@ -121,7 +121,7 @@ record AllHeard (l new : EndState) (xs ys : List OnSap) : Type 0 where
   pub left : LessensTo (gave_any l new xs) (all_to_come l xs) (all_to_come new ys)
   pub same : saps ys ≡ saps xs
 
-all_hear : (l new : EndState) → Wane l new → (xs ys : List OnSap) → AllByRecursion (IsCounted l) (saps xs) → all_well (all_heard l new xs) ≡ Some ys → AllHeard l new xs ys
+all_hear : (l new : EndState) → Wane l new → (xs ys : List OnSap) → AllByRecursion (IsBelowCountEnd l) (saps xs) → all_well (all_heard l new xs) ≡ Some ys → AllHeard l new xs ys
 all_hear l new w [] ys c e = let k : [] ≡ ys = cc in subst (AllHeard l new []) k (record { left = omega arith; same = refl })
 all_hear l new w (x ∷ xs) ys c e = go (λ zs j. all_hear l new w xs zs c.1 j) (heard waiting new x.sap x.job) refl (all_well (all_heard l new xs)) refl e
   where
@@ -171,7 +171,7 @@ module _ (l new : EndState) (h : StandsAs l new) where
       let a = pending_is x.sap (own_from x.sap l.own) in let b = pending_is x.sap (own_from x.sap new.own) in
       let c = ap pending_on (h x.sap) in let d = to_come_still xs in omega arith
 
-  counted_still : (ss : List ℕ) → AllByRecursion (IsCounted l) ss → AllByRecursion (IsCounted new) ss
+  counted_still : (ss : List ℕ) → AllByRecursion (IsBelowCountEnd l) ss → AllByRecursion (IsBelowCountEnd new) ss
   counted_still [] c = tt
   counted_still (s ∷ ss) c =
       let e : acked_of (own_from s new.own) ≡ acked_of (own_from s l.own) =
@@ -206,10 +206,10 @@ took_falls w way r h mid l one two next e = go (all_well (all_heard mid l r.jobs
     same : saps r.jobs ≡ saps w.jobs
     same = h.same
 
-    begun : AllByRecursion (IsCounted mid) (saps r.jobs)
-    begun = counted_on r.llc mid one (saps r.jobs) (subst (AllByRecursion (IsCounted r.llc)) (sym same) (h.counted way.counted))
+    begun : AllByRecursion (IsBelowCountEnd mid) (saps r.jobs)
+    begun = counted_on r.llc mid one (saps r.jobs) (subst (AllByRecursion (IsBelowCountEnd r.llc)) (sym same) (h.counted way.counted))
 
-    go : (q : Option (List OnSap)) → all_well (all_heard mid l r.jobs) ≡ q → told_by l r.jobs (all_heard mid l r.jobs) (idle_after (gave_any mid l r.jobs) w.idle) q ≡ Goes next
+    go : (q : Option (List OnSap)) → all_well (all_heard mid l r.jobs) ≡ q → call_behind l r.jobs (all_heard mid l r.jobs) (idle_after (gave_any mid l r.jobs) w.idle) q ≡ Goes next
         → IsUnderWay next × (replies_left next < replies_left w)
     go None i k = absurd cc
     go (Some now) i k =
@@ -220,7 +220,7 @@ took_falls w way r h mid l one two next e = go (all_well (all_heard mid l r.jobs
           record {
             apart = subst (IsDistinct eqb) (sym (a.same ∙ same)) way.apart;
             counted = counted_still l (all_emptied r.jobs l) still (saps now)
-                (subst (AllByRecursion (IsCounted l)) (sym a.same) (counted_on mid l two (saps r.jobs) begun));
+                (subst (AllByRecursion (IsBelowCountEnd l)) (sym a.same) (counted_on mid l two (saps r.jobs) begun));
             idle = low;
           },
           (let x = to_come_on r.llc mid one r.jobs in let y = h.left in let z = to_come_still l (all_emptied r.jobs l) still now in
@@ -239,11 +239,11 @@ some_left : (w : Working) → IsUnderWay w → 0 < replies_left w
 some_left w way = (let i = way.idle in omega arith)
 
 -- nothing is heard behind the end of a call
-ended : (xs : List OnSap) (l : EndState) (ns : List ℕ) (did : List FarStep) (to : Step) → Told ns (Ends xs l) did to → length did ≡ 0
+ended : (xs : List OnSap) (l : EndState) (ns : List ℕ) (did : List FarStep) (to : Step) → ComesTo ns (Ends xs l) did to → length did ≡ 0
 ended xs l ns [] to t = refl
 ended xs l ns (d ∷ ds) to t = absurd t
 
-gave_up : (l : GivenUp) (ns : List ℕ) (did : List FarStep) (to : Step) → Told ns (GivesUp l) did to → length did ≡ 0
+gave_up : (l : GivenUp) (ns : List ℕ) (did : List FarStep) (to : Step) → ComesTo ns (GivesUp l) did to → length did ≡ 0
 gave_up l ns [] to t = refl
 gave_up l ns (d ∷ ds) to t = absurd t
 
@@ -258,7 +258,7 @@ calls_end w ns (Stepped out reply ∷ did) to way t = go (λ next f u. calls_end
     later : List ℕ
     later = later_numbers ns
 
-    go : ((next : Working) → IsUnderWay next → Told later (Goes next) did to → length did ≤ replies_left next) → (from : Step) → replied n w reply ≡ from → Told later from did to → length (Stepped out reply ∷ did) ≤ replies_left w
+    go : ((next : Working) → IsUnderWay next → ComesTo later (Goes next) did to → length did ≤ replies_left next) → (from : Step) → replied n w reply ≡ from → ComesTo later from did to → length (Stepped out reply ∷ did) ≤ replies_left w
     go rest (Goes next) e u = (let f = replies_fall w n reply next way e in let more = rest next f.0 u in omega arith)
     go rest (Ends xs l) e u = (let z = ended xs l later did to u in let v = some_left w way in omega arith)
     go rest (GivesUp l) e u = (let z = gave_up l later did to u in let v = some_left w way in omega arith)
@@ -286,7 +286,7 @@ put_elsewhere s o (x ∷ os) n = go (x.here == o.here) refl (put_elsewhere s o o
 
 -- What a task puts before a payload leaves the other connections as they are.
 pub record Opens (l : EndState) (sap : ℕ) (r : Ready) : Type 0 where
-  pub counted : IsCounted l sap → IsCounted r.llc sap
+  pub counted : IsBelowCountEnd l sap → IsBelowCountEnd r.llc sap
   pub others : (s : ℕ) → (sap == s) ≡ false → own_from s r.llc.own ≡ own_from s l.own
 
 itself : (m : ℕ) → (m == m) ≡ true
@@ -319,14 +319,14 @@ one_opens l sap (Finds name) = record { counted = λ c. c; others = λ s n. refl
 one_opens l sap Leaves = leaving_opens l sap (is_open_by (own_of sap l))
 
 counted_apart : (l : EndState) (sap : ℕ) (r : Ready) → Opens l sap r → (ss : List ℕ) → NotAmong sap ss
-    → AllByRecursion (IsCounted l) ss → AllByRecursion (IsCounted r.llc) ss
+    → AllByRecursion (IsBelowCountEnd l) ss → AllByRecursion (IsBelowCountEnd r.llc) ss
 counted_apart l sap r h [] n c = tt
 counted_apart l sap r h (s ∷ ss) n c =
     (subst (λ o. acked_of o < count_end) (sym (h.others s n.0)) c.0, counted_apart l sap r h ss n.1 c.1)
 
 -- what all tasks put there
 record AllOpens (l : EndState) (xs : List TaskOn) (r : AllReady) : Type 0 where
-  pub counted : AllByRecursion (IsCounted l) (task_saps xs) → AllByRecursion (IsCounted r.llc) (task_saps xs)
+  pub counted : AllByRecursion (IsBelowCountEnd l) (task_saps xs) → AllByRecursion (IsBelowCountEnd r.llc) (task_saps xs)
   pub others : (s : ℕ) → NotAmong s (task_saps xs) → own_from s r.llc.own ≡ own_from s l.own
   pub same : saps r.jobs ≡ task_saps xs
 
@@ -345,11 +345,11 @@ all_opens (x ∷ xs) l d = go (opening l x.sap x.task) (one_opens l x.sap x.task
       same = ap (λ ss. x.sap ∷ ss) m.same;
     }
 
-begun_under_way : (l : EndState) (tasks : List TaskOn) (r : AllReady) → IsDistinct eqb (task_saps tasks) → AllByRecursion (IsCounted l) (task_saps tasks)
+begun_under_way : (l : EndState) (tasks : List TaskOn) (r : AllReady) → IsDistinct eqb (task_saps tasks) → AllByRecursion (IsBelowCountEnd l) (task_saps tasks)
     → AllOpens l tasks r → IsUnderWay (record { llc = r.llc; jobs = r.jobs; idle = 0 })
 begun_under_way l tasks r d c m = record {
   apart = subst (IsDistinct eqb) (sym m.same) d;
-  counted = subst (AllByRecursion (IsCounted r.llc)) (sym m.same) (m.counted c);
+  counted = subst (AllByRecursion (IsBelowCountEnd r.llc)) (sym m.same) (m.counted c);
   idle = omega arith;
 }
 

@@ -10,7 +10,7 @@ use Rattle.llcp_conn.specs.Conn.{ConnState, Took, gives, gives_ack, queued, take
 use Rattle.llcp_link.specs.Serving.{Serving}
 use Rattle.llcp_link.specs.State.{LlcState, Queued, OwnState, Holder, Nobody, Served, Asked, conn_from, holder, own_from}
 use Rattle.llcp_pdu.specs.Wire.{sap_count}
-use Rattle.llcp_link.specs.Names.{rw_of, reached, name_of, answers_to, told_all}
+use Rattle.llcp_link.specs.Names.{rw_of, reached, name_of, answers_to, lookups_told}
 use Rattle.llcp_link.specs.Taking as t
 use Rattle.llcp_link.specs.Taking.{Item, Good, Broken, step, steps}
 use Rattle.llcp_link.specs.Own.{OwnGave, ack_on, unit_on}
@@ -85,7 +85,7 @@ module _ {S : Type 0} (m : Serving S) (P : S → Type 0) (begun : (s : S) (c : �
   step_keeps l (Good (Dm d s r)) h = h
   step_keeps l (Good (Disc d s)) h = leaves_keeps l d s (holder l d s) h
   step_keeps l (Good (Frmr d s r)) h = ends_keeps l (holder l d s) h
-  step_keeps l (Good (Snl ps)) h = tells_keeps (record l { lookups = told_all ps l.lookups }) (answers_to l.bound (l.far_miu / 4) ps) h
+  step_keeps l (Good (Snl ps)) h = tells_keeps (record l { lookups = lookups_told ps l.lookups }) (answers_to l.bound (l.far_miu / 4) ps) h
   step_keeps l (Good (Info d s ns nr xs)) h = numbered_keeps l (λ k. takes k (Info d s ns nr xs)) d s (holder l d s) h
   step_keeps l (Good (Rr d s nr)) h = numbered_keeps l (λ k. takes k (Rr d s nr)) d s (holder l d s) h
   step_keeps l (Good (Rnr d s nr)) h = numbered_keeps l (λ k. takes k (Rnr d s nr)) d s (holder l d s) h

@@ -4,7 +4,7 @@ use Rattle.llcp_pdu.specs.declared.part.Part.{Part}
 use Rattle.llcp_pdu.specs.declared.pdu.Pdu.{Pdu}
 use Rattle.llcp_pdu.specs.declared.pdu.Pdu.TheVariants.{Agf, One}
 use Rattle.llcp_pdu.specs.Pdus.{pdu}
-use Rattle.llcp_pdu.specs.Views.{told_by}
+use Rattle.llcp_pdu.specs.Views.{refusal_told}
 use Rattle.llcp_pdu.specs.Ranges.{IsPart, AreParts}
 use Rattle.llcp_pdu.specs.Writing.{inner_bytes, part_bytes, pdu_bytes}
 use Rattle.llcp_pdu.proofs.Written.{pdu_back}
@@ -19,7 +19,7 @@ abbrev pub IsShort : Part → Type 0
 IsShort p = IsPart p × (length (part_bytes p) < 65536)
 
 items_back : (v : Pdu) (is : List Item) → pdu (pdu_bytes v) ≡ Ok v → items_of (pdu_bytes v) (Ok v) ≡ is → items (pdu_bytes v) ≡ is
-items_back v is e i = ap (λ r. items_of (pdu_bytes v) (told_by r)) e ∙ i
+items_back v is e i = ap (λ r. items_of (pdu_bytes v) (refusal_told r)) e ∙ i
 
 module _ {S T : Type 0} (m : Serving S) (n : Serving T) (P : LlcState S → LlcState T → Type 0) where
   -- what is due is in range, and the other end takes it

@@ -17,7 +17,7 @@ use Rattle.snep_core.specs.Accord.{Accords, AsideFails, IsClientSap, IsClosed, I
 use Rattle.snep_core.specs.Calling.{FailsBy, Talks, fault_of, gives_up}
 use Rattle.snep_core.specs.Jobs.{Closes, Done, Job, Over, has_byte, told_in}
 use Rattle.snep_core.specs.Server.{Received, ServerState, serving}
-use Rattle.snep_core.specs.Talk.{AllReady, CameTo, EndState, Ends, GivesUp, Goes, OnSap, Step, Working, all_closed, all_emptied, all_heard, all_opening, all_over, all_readied, all_well, as_they_came, begun, client_saps, closes, emptied, gave_any, gave_something, goes_on, heard, heard_so, heard_with, idle_after, is_over, is_waiting, leave_from, leaving, own_of, payload, readied, ready, ready_so, replied, replied_ready, settled, silent, told_by, took, units_of, with_job}
+use Rattle.snep_core.specs.Talk.{AllReady, CameTo, EndState, Ends, GivesUp, Goes, OnSap, Step, Working, all_closed, all_emptied, all_heard, all_opening, all_over, all_readied, all_well, as_they_came, begun, client_saps, closes, emptied, gave_any, gave_something, goes_on, heard, heard_so, heard_with, idle_after, is_over, is_waiting, leave_from, leaving, own_of, payload, readied, ready, ready_so, replied, replied_ready, settled, silent, call_behind, took, units_of, with_job}
 use Rattle.snep_core.proofs.Asides.{AllRested, Quiet, Rested, accord_at, client_queues, sides_at, sides_by}
 use Rattle.snep_core.proofs.Carrying.{AtFronts, FirstSo, HopSo, at_front, handed, handed_first}
 use Rattle.snep_core.proofs.Courses.{Course, IsSafe, breaks_off, came}
@@ -280,7 +280,7 @@ module _ (names : List Bound) (s : ServerState) (z : Sizes) where
 
         took_is : took mid new jobs 0 ≡ settled new (closers now client_saps) 0
         took_is =
-            ap (λ o. told_by new jobs (all_heard mid new jobs) (idle_after (gave_any mid new jobs) 0) o)
+            ap (λ o. call_behind new jobs (all_heard mid new jobs) (idle_after (gave_any mid new jobs) 0) o)
             (ap all_well (closers_heard mid new q now (quiet_at told waits new r a) fewer client_saps) ∙ all_came (closers now client_saps))
             ∙ ap (λ b. settled (all_emptied jobs new) (closers now client_saps) (idle_after b 0)) (closers_gave mid new q g gave_ client_saps (ours g mine))
             ∙ ap (λ (e : EndState). settled e (closers now client_saps) 0) (closers_emptied mid new q now (quiet_at told waits new r a) fewer client_saps)

@@ -2,7 +2,7 @@
 use Rattle.std.proofs.Common.{◌≡◌, ◌<◌, ◌≤◌, ◌⊎◌, ◌||◌, Bool, true, false, ℕ, List, [], ◌∷◌, ◌++◌, length, Option, Some, None, is_some, refl, sym, ap}
 use Rattle.llcp_conn.specs.Conn.{first}
 use Rattle.snep_core.specs.Accord.{IsPaired, Numbers, is_some_of}
-use Rattle.snep_core.specs.Jobs.{Job, told_all, told_in}
+use Rattle.snep_core.specs.Jobs.{Job, job_told, told_in}
 use Rattle.snep_core.specs.Server.{Received, ServerState, serving}
 use Rattle.snep_core.specs.Session.{Offer, Session, fresh_session}
 use Rattle.snep_core.specs.Talk.{EndState, finished, is_over}
@@ -62,7 +62,7 @@ module _ (sap limit : ℕ) (table : List Offer) (c : Conversation) where
   pub record Hears (from : c.Phase) : Type 0 where
     pub to : c.Phase
     pub holds : c.Holds to
-    pub told : told_all (c.job_at from) (c.units_at from) ≡ Some (c.job_at to)
+    pub told : job_told (c.job_at from) (c.units_at from) ≡ Some (c.job_at to)
     pub apart : is_some (first (c.queue_at from)) ≡ true → c.units_at from ≡ []
     pub queue_is : c.queue_at to ≡ c.queue_at from
     pub units_is : c.units_at to ≡ []
@@ -108,7 +108,7 @@ pub no_unit : (u : List ℕ) (units : List (List ℕ)) → ◌≡◌ {A = List (
 no_unit u units e = cc
 
 -- nothing is heard while a unit waits to be given
-pub told_apart : (waiting : Bool) (job : Job) (us : List (List ℕ)) (o : Option Job) → told_all job us ≡ o → (waiting ≡ true → us ≡ []) → told_in waiting job us ≡ o
+pub told_apart : (waiting : Bool) (job : Job) (us : List (List ℕ)) (o : Option Job) → job_told job us ≡ o → (waiting ≡ true → us ≡ []) → told_in waiting job us ≡ o
 told_apart waiting job [] o e f = e
 told_apart true job (u ∷ us) o e f = absurd (no_unit u us (sym (f refl)))
 told_apart false job (u ∷ us) o e f = e
@@ -119,7 +119,7 @@ module _ (sap limit : ℕ) (table : List Offer) (c : Conversation) (ph : c.Phase
   hears_nothing e = record {
     to = ph;
     holds = holds;
-    told = ap (told_all (c.job_at ph)) e;
+    told = ap (job_told (c.job_at ph)) e;
     apart = λ w. e;
     queue_is = refl;
     units_is = e;

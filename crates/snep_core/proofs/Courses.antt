@@ -10,7 +10,7 @@ use Rattle.snep_core.specs.declared.fault.SnepFault.{SnepFault}
 use Rattle.snep_core.specs.Accord.{IsPeer, PeerState, PeerSteps}
 use Rattle.snep_core.specs.Calling.{Breaks, IsCut, Talks, fault_of}
 use Rattle.snep_core.specs.Server.{Received, serving}
-use Rattle.snep_core.specs.Talk.{EndState, Ends, GivesUp, Goes, Step, Told, Working, numbers_behind, payload, ready, replied, silent}
+use Rattle.snep_core.specs.Talk.{EndState, Ends, GivesUp, Goes, Step, ComesTo, Working, numbers_behind, payload, ready, replied, silent}
 
 module _ (Adds : List Received → Type 0) where
   -- However the client's next payload comes to the peer, what is accepted is of this kind.
@@ -64,7 +64,7 @@ module _ (Adds : List Received → Type 0) where
   module _ (course : Course) {C A : Type 0} (seen : C → CarrierView) (swaps : C → List ℕ → List FarStep → C → Type 0) (steps : A → List ℕ → List ℕ → A → Type 0)
       (stops : A → List ℕ → A → Type 0) (view : A → PeerState) (peer : IsPeer steps stops view) where
     -- from one step to another
-    talks_on : (ns : List ℕ) (did : List FarStep) (from to : Step) (far after : A) → course.At from (view far) → Told ns from did to
+    talks_on : (ns : List ℕ) (did : List FarStep) (from to : Step) (far after : A) → course.At from (view far) → ComesTo ns from did to
         → FarMoved steps stops did far after → course.At to (view after)
     talks_on ns [] from to far after h t f = subst (λ z. course.At z (view after)) (sym t) (subst (λ z. course.At from (view z)) (sym f) h)
     talks_on ns (Stopped out ∷ did) (Goes w) to far after h t f = absurd t

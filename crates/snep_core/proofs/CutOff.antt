@@ -3,12 +3,12 @@ use Rattle.std.proofs.Common.{◌≡◌, ◌⊎◌, ℕ, List, [], Option, Some,
 use Rattle.llcp_link.specs.State.{LlcState}
 use Rattle.llcp_link.specs.Taking.{Item, brought, steps, taken_from}
 use Rattle.llcp_link.specs.Giving.{Gave, IsAllowed, gave, given_parts}
-use Rattle.llcp_link.specs.Halting.{Leaves, IsStuck}
+use Rattle.llcp_link.specs.Halting.{LeavesService, IsStuck}
 use Rattle.llcp_link.specs.Offering.{LeavesNext, LeftBy}
 use Rattle.llcp_link.specs.Answering.{Answers, IsStuckGiving}
 use Rattle.llcp_link.proofs.StepsSoFar.{steps_more}
 use Rattle.snep_core.specs.Payloads.{CutOffAccepts}
-use Rattle.llcp_conn.specs.Window.{IsFront}
+use Rattle.nfc_base.specs.Prefix.{IsPrefix}
 use Rattle.snep_core.specs.Server.{Received, ServerState, received, serving, session_of}
 use Rattle.snep_core.specs.Session.{did}
 use Rattle.snep_core.proofs.PayloadLaw.{front_more}
@@ -17,17 +17,17 @@ use Rattle.snep_core.proofs.CallsKeep.{Keeps, gave_keeps, giving_keeps, parts_ke
 abbrev Accepted : LlcState ServerState → List Received
 Accepted l = l.service.accepted
 
-same_front : (xs ys : List Received) → ys ≡ xs → IsFront xs ys
+same_front : (xs ys : List Received) → ys ≡ xs → IsPrefix xs ys
 same_front xs ys e = ([], e ∙ sym (append-nil xs))
 
 -- PDUs that come add to what is accepted
-pub taking_adds : (l : LlcState ServerState) (is : List Item) → IsFront (Accepted l) (Accepted (steps serving l is))
+pub taking_adds : (l : LlcState ServerState) (is : List Item) → IsPrefix (Accepted l) (Accepted (steps serving l is))
 taking_adds l is =
-    steps_keep serving (λ s. IsFront (Accepted l) s.accepted) (λ s c h. h)
+    steps_keep serving (λ s. IsPrefix (Accepted l) s.accepted) (λ s c h. h)
     (λ s c u h. front_more (Accepted l) s.accepted (received c (did s.limit s.table (session_of s c) u).accepts) h) l is (same_front (Accepted l) (Accepted l) refl)
 
 -- want of memory leaves what was accepted
-pub left_same : (old new : ServerState) → Leaves serving old new → new.accepted ≡ old.accepted
+pub left_same : (old new : ServerState) → LeavesService serving old new → new.accepted ≡ old.accepted
 left_same old new (inl e) = subst (λ z. z.accepted ≡ old.accepted) (sym e) refl
 left_same old new (inr k) = k.accepted
 
@@ -52,21 +52,21 @@ module _ (xs : List Received) where
       front_same (inr (n, a, e)) = subst (λ z. IsSame z.service) (sym e) (parts_keep serving IsSame (λ s c miu h. h) n l h)
 
 cut_taking : (old new : LlcState ServerState) (payload : List ℕ) → IsStuck serving old (brought old payload) new
-    → IsFront (Accepted old) (Accepted new) × IsFront (Accepted new) (Accepted (taken_from serving old payload))
+    → IsPrefix (Accepted old) (Accepted new) × IsPrefix (Accepted new) (Accepted (taken_from serving old payload))
 cut_taking old new payload k =
     let h = k.halts in
     let e = left_same (steps serving old h.front).service new.service h.service in
-    let whole : IsFront (Accepted (steps serving old h.front)) (Accepted (steps serving old (brought old payload))) =
-    subst (λ is. IsFront (Accepted (steps serving old h.front)) (Accepted (steps serving old is))) (sym h.split)
-    (subst (λ z. IsFront (Accepted (steps serving old h.front)) (Accepted z)) (sym (steps_more serving old h.front h.behind)) (taking_adds (steps serving old h.front) h.behind)) in
-    (subst (IsFront (Accepted old)) (sym e) (taking_adds old h.front), subst (λ z. IsFront z (Accepted (taken_from serving old payload))) (sym e) whole)
+    let whole : IsPrefix (Accepted (steps serving old h.front)) (Accepted (steps serving old (brought old payload))) =
+    subst (λ is. IsPrefix (Accepted (steps serving old h.front)) (Accepted (steps serving old is))) (sym h.split)
+    (subst (λ z. IsPrefix (Accepted (steps serving old h.front)) (Accepted z)) (sym (steps_more serving old h.front h.behind)) (taking_adds (steps serving old h.front) h.behind)) in
+    (subst (IsPrefix (Accepted old)) (sym e) (taking_adds old h.front), subst (λ z. IsPrefix z (Accepted (taken_from serving old payload))) (sym e) whole)
 
 cut_giving : (old new : LlcState ServerState) (payload : List ℕ) → IsStuckGiving serving (taken_from serving old payload) new
-    → IsFront (Accepted old) (Accepted new) × IsFront (Accepted new) (Accepted (taken_from serving old payload))
+    → IsPrefix (Accepted old) (Accepted new) × IsPrefix (Accepted new) (Accepted (taken_from serving old payload))
 cut_giving old new payload k =
     let whole = taken_from serving old payload in
     let e = giving_same (Accepted whole) whole new refl k in
-    (subst (IsFront (Accepted old)) (sym e) (taking_adds old (brought old payload)), same_front (Accepted new) (Accepted whole) (sym e))
+    (subst (IsPrefix (Accepted old)) (sym e) (taking_adds old (brought old payload)), same_front (Accepted new) (Accepted whole) (sym e))
 
 whole_accepts : (count : ℕ) (old done : LlcState ServerState) (payload reply : List ℕ) → Answers serving count old payload reply done → Accepted done ≡ Accepted (taken_from serving old payload)
 whole_accepts count old done payload reply h =

@@ -10,7 +10,7 @@ use Rattle.snep_core.specs.declared.first.First.TheVariants.{Says, Whole, Partly
 use Rattle.snep_core.specs.Message.{put_code, number}
 use Rattle.snep_core.specs.First.{info_of, by_code, first_of}
 use Rattle.snep_core.specs.Puts.{length_of, IsPut, IsPartly, Reaches, IsGroup, IsUnfinished, GroupPuts, grouped, Groups, Puts, PutsOne}
-use Rattle.snep_core.specs.Cuts.{put_of, NoneEmpty, IsCut, Job, IsJob, AreJobs, units_of, fit, PutsFront, FrontsPut, LastPut}
+use Rattle.snep_core.specs.Cuts.{put_bytes, NoneEmpty, IsCut, PutInUnits, IsJob, AreJobs, units_of_puts, fit, PutsFront, FrontsPut, LastPut}
 
 not_lt : (m n : ℕ) → n ≤ m → nat_lt m n ≡ false
 not_lt m n h = grind (arith, nat_tests)
@@ -21,7 +21,7 @@ pub record Begins (m u : List ℕ) (rest : List ℕ) : Type 0 where
   pub is : u ≡ 16 ∷ 2 ∷ (length m / 16777216) ∷ (length m / 65536 % 256) ∷ (length m / 256 % 256) ∷ (length m % 256) ∷ info
   pub message : m ≡ info ++ rest
 
-pub begins : (m u rest : List ℕ) → 6 ≤ length u → put_of m ≡ u ++ rest → Begins m u rest
+pub begins : (m u rest : List ℕ) → 6 ≤ length u → put_bytes m ≡ u ++ rest → Begins m u rest
 begins m [] rest h e = absurd (omega arith)
 begins m (a ∷ []) rest h e = absurd (omega arith)
 begins m (a ∷ b ∷ []) rest h e = absurd (omega arith)
@@ -75,7 +75,7 @@ reaches n have (v ∷ w ∷ us) h k e =
     let c = h.1.0 in
     (omega arith, reaches n (have + length v) (w ∷ us) h.1 (omega arith) (omega arith))
 
-cut_groups : (limit : ℕ) (m : List ℕ) (us : List (List ℕ)) → length m < 2 ^ 32 → length m ≤ limit → IsCut (put_of m) us
+cut_groups : (limit : ℕ) (m : List ℕ) (us : List (List ℕ)) → length m < 2 ^ 32 → length m ≤ limit → IsCut (put_bytes m) us
     → IsGroup limit us × GroupPuts limit us (m ∷ [])
 cut_groups limit m [] h k c = absurd c
 cut_groups limit m (u ∷ us) h k (six, full, e) =
@@ -87,7 +87,7 @@ cut_groups limit m (u ∷ us) h k (six, full, e) =
       inl (f.is_put, (rw (whole, f.length_is) refl), (rw f.length_is k), (rw whole refl)),
     )
   where
-    go : (us : List (List ℕ)) → NoneEmpty us → put_of m ≡ u ++ concat us → (b : Begins m u (concat us)) → FirstOf limit m u b.info
+    go : (us : List (List ℕ)) → NoneEmpty us → put_bytes m ≡ u ++ concat us → (b : Begins m u (concat us)) → FirstOf limit m u b.info
         → info_of u ++ concat us ≡ m → length m ≡ length b.info + length (concat us) → IsGroup limit (u ∷ us)
     go [] full e b f w t =
         let s : m ≡ b.info = b.message ∙ append-nil b.info in
@@ -103,7 +103,7 @@ cut_groups limit m (u ∷ us) h k (six, full, e) =
 
 -- a front of a cut that isn't all of it
 front_open : (limit : ℕ) (m u : List ℕ) (came : List (List ℕ)) (v : List ℕ) (more : List (List ℕ)) → length m < 2 ^ 32 → length m ≤ limit
-    → IsCut (put_of m) (u ∷ came ++ v ∷ more) → IsUnfinished limit (u ∷ came)
+    → IsCut (put_bytes m) (u ∷ came ++ v ∷ more) → IsUnfinished limit (u ∷ came)
 front_open limit m u came v more h k (six, full, e) =
     let b = begins m u (concat (came ++ v ∷ more)) six e in
     let f = first_is limit m u (concat (came ++ v ∷ more)) h b in
@@ -119,7 +119,7 @@ front_open limit m u came v more h k (six, full, e) =
         (let r = shorter came full.1 in let a = length-append w (concat came) in let b = length-append w (concat (came ++ v ∷ more)) in omega arith)
 
 -- a message that is too long: its first unit is a group that puts nothing
-long_group : (limit : ℕ) (m u : List ℕ) (later : List (List ℕ)) → length m < 2 ^ 32 → limit < length m → IsCut (put_of m) (u ∷ later)
+long_group : (limit : ℕ) (m u : List ℕ) (later : List (List ℕ)) → length m < 2 ^ 32 → limit < length m → IsCut (put_bytes m) (u ∷ later)
     → IsGroup limit (u ∷ []) × GroupPuts limit (u ∷ []) []
 long_group limit m u later h k (six, full, e) =
     let b = begins m u (concat later) six e in
@@ -146,23 +146,23 @@ split (x ∷ xs) (y ∷ ys) cs ds e =
       | inr r ↦ inr (r.0, r.1, ap (λ q. q ∷ xs) (sym z) ∙ ap (λ q. y ∷ q) r.2)
     ]
 
-fit_more : (limit : ℕ) (j : Job) (js : List Job) → length j.message ≤ limit → fit limit (j ∷ js) ≡ j.message ∷ fit limit js
+fit_more : (limit : ℕ) (j : PutInUnits) (js : List PutInUnits) → length j.message ≤ limit → fit limit (j ∷ js) ≡ j.message ∷ fit limit js
 fit_more limit j js h = rw (not_lt limit (length j.message) h) refl
 
-fit_less : (limit : ℕ) (j : Job) (js : List Job) → limit < length j.message → fit limit (j ∷ js) ≡ fit limit js
+fit_less : (limit : ℕ) (j : PutInUnits) (js : List PutInUnits) → limit < length j.message → fit limit (j ∷ js) ≡ fit limit js
 fit_less limit j js h = rw (lt-ltb limit (length j.message) h) refl
 
 -- a front that ends within a message that fits
-inside : (limit : ℕ) (m : List ℕ) (came : List (List ℕ)) (v : List ℕ) (rest us : List (List ℕ)) → length m < 2 ^ 32 → length m ≤ limit → IsCut (put_of m) us
+inside : (limit : ℕ) (m : List ℕ) (came : List (List ℕ)) (v : List ℕ) (rest us : List (List ℕ)) → length m < 2 ^ 32 → length m ≤ limit → IsCut (put_bytes m) us
     → us ≡ came ++ v ∷ rest → IsUnfinished limit came
 inside limit m [] v rest us h k c e = tt
 inside limit m (u ∷ came) v rest us h k c e = front_open limit m u came v rest h k (rw e at c)
 
-job_front : (limit : ℕ) (j : Job) (js : List Job) (came more : List (List ℕ)) → length j.message < 2 ^ 32
-    → ((length j.message ≤ limit) × IsCut (put_of j.message) j.units)
-    ⊎ ((limit < length j.message) × ((u : List ℕ) × (later : List (List ℕ)) × (j.units ≡ u ∷ []) × IsCut (put_of j.message) (u ∷ later)))
-    → ((rest : List (List ℕ)) → units_of js ≡ rest ++ more → PutsFront limit js rest)
-    → ((rest : List (List ℕ)) × (came ≡ j.units ++ rest) × (units_of js ≡ rest ++ more)) ⊎ ((v : List ℕ) × (rest : List (List ℕ)) × (j.units ≡ came ++ v ∷ rest))
+job_front : (limit : ℕ) (j : PutInUnits) (js : List PutInUnits) (came more : List (List ℕ)) → length j.message < 2 ^ 32
+    → ((length j.message ≤ limit) × IsCut (put_bytes j.message) j.units)
+    ⊎ ((limit < length j.message) × ((u : List ℕ) × (later : List (List ℕ)) × (j.units ≡ u ∷ []) × IsCut (put_bytes j.message) (u ∷ later)))
+    → ((rest : List (List ℕ)) → units_of_puts js ≡ rest ++ more → PutsFront limit js rest)
+    → ((rest : List (List ℕ)) × (came ≡ j.units ++ rest) × (units_of_puts js ≡ rest ++ more)) ⊎ ((v : List ℕ) × (rest : List (List ℕ)) × (j.units ≡ came ++ v ∷ rest))
     → PutsFront limit (j ∷ js) came
 job_front limit j js came more size (inl (short, cut)) later (inl (rest, c, f)) =
     let r = later rest f in
@@ -207,27 +207,27 @@ fronts_put limit [] came more h e = none came e
     none [] e = record { put = []; rest = []; front = refl; puts = puts_open limit [] tt }
     none (u ∷ came) e = cc
 fronts_put limit (j ∷ js) came more ((size, job), jobs) e =
-    job_front limit j js came more size job (λ rest f. fronts_put limit js rest more jobs f) (split j.units came (units_of js) more e)
+    job_front limit j js came more size job (λ rest f. fronts_put limit js rest more jobs f) (split j.units came (units_of_puts js) more e)
 
 -- jobs that came whole
-jobs_before : (limit : ℕ) (done : List Job) (came put : List (List ℕ)) → AreJobs limit done → Puts limit came put
-    → Puts limit (units_of done ++ came) (fit limit done ++ put)
+jobs_before : (limit : ℕ) (done : List PutInUnits) (came put : List (List ℕ)) → AreJobs limit done → Puts limit came put
+    → Puts limit (units_of_puts done ++ came) (fit limit done ++ put)
 jobs_before limit [] came put h p = p
 jobs_before limit (j ∷ js) came put ((size, inl (short, cut)), jobs) p =
     let g = cut_groups limit j.message j.units size short cut in
-    rw (append_assoc j.units (units_of js) came, fit_more limit j js short)
-    (puts_after limit j.units (units_of js ++ came) (fit limit js ++ put) (j.message ∷ []) g.0 g.1 (jobs_before limit js came put jobs p))
+    rw (append_assoc j.units (units_of_puts js) came, fit_more limit j js short)
+    (puts_after limit j.units (units_of_puts js ++ came) (fit limit js ++ put) (j.message ∷ []) g.0 g.1 (jobs_before limit js came put jobs p))
 jobs_before limit (j ∷ js) came put ((size, inr (long, (u, after, one, cut))), jobs) p =
     let g = long_group limit j.message u after size long cut in
-    rw (append_assoc j.units (units_of js) came, fit_less limit j js long, one)
-    (puts_after limit (u ∷ []) (units_of js ++ came) (fit limit js ++ put) [] g.0 g.1 (jobs_before limit js came put jobs p))
+    rw (append_assoc j.units (units_of_puts js) came, fit_less limit j js long, one)
+    (puts_after limit (u ∷ []) (units_of_puts js ++ came) (fit limit js ++ put) [] g.0 g.1 (jobs_before limit js came put jobs p))
 
 first_none : (limit : ℕ) (u v : List ℕ) (came rest : List (List ℕ)) → u ∷ [] ≡ came ++ v ∷ rest → IsUnfinished limit came
 first_none limit u v [] rest e = tt
 first_none limit u v (x ∷ []) rest e = cc
 first_none limit u v (x ∷ y ∷ came) rest e = cc
 
-part_open : (limit : ℕ) (last : Job) (part : List (List ℕ)) (v : List ℕ) (rest : List (List ℕ)) → IsJob limit last → last.units ≡ part ++ v ∷ rest
+part_open : (limit : ℕ) (last : PutInUnits) (part : List (List ℕ)) (v : List ℕ) (rest : List (List ℕ)) → IsJob limit last → last.units ≡ part ++ v ∷ rest
     → Puts limit part []
 part_open limit last part v rest (size, inl (short, cut)) e = puts_open limit part (inside limit last.message part v rest last.units size short cut e)
 part_open limit last part v rest (size, inr (long, (u, after, one, cut))) e = puts_open limit part (first_none limit u v part rest (sym one ∙ e))

@@ -10,7 +10,7 @@ use Rattle.snep_core.specs.declared.fault.SnepFault.{SnepFault}
 use Rattle.snep_core.specs.declared.fault.SnepFault.TheVariants.{Memory}
 use Rattle.snep_core.specs.declared.job.Awaiting.{Awaiting}
 use Rattle.snep_core.specs.Listening.{all_awaiting}
-use Rattle.snep_core.specs.Calling.{Exchanged, IsCut, fault_of}
+use Rattle.snep_core.specs.Calling.{ExchangedOnce, IsCut, fault_of}
 use Rattle.snep_core.specs.Talk.{EndState, OnSap, silent}
 
 module _ {C A : Type 0} (seen : C → CarrierView) (swaps : C → List ℕ → List FarStep → C → Type 0) (steps : A → List ℕ → List ℕ → A → Type 0)
@@ -61,7 +61,7 @@ module _ {C A : Type 0} (seen : C → CarrierView) (swaps : C → List ℕ → L
 
   pub exchanged : (jobs : List OnSap) (reply : List ℕ) (all : List Awaiting) (new : EndState) → SwapDone steps (seen link) (seen now) out reply far after
       → Swapped swaps steps stops link out far now after (λ did. did ≡ Stepped out reply ∷ []) → new ≡ taken_from silent mid reply
-      → all ≡ all_awaiting mid jobs → Exchanged seen swaps steps stops count jobs llc link far all new now after
+      → all ≡ all_awaiting mid jobs → ExchangedOnce seen swaps steps stops count jobs llc link far all new now after
   exchanged jobs reply all new done swapped took awaited = record {
     reply = reply;
     swap = subst (λ b. SwapDone steps (seen link) (seen now) b reply far after) g.bytes_are done;

@@ -10,7 +10,7 @@ use Rattle.llcp_link.specs.Taking.{taken_from}
 use Rattle.llcp_link.specs.State.{own_from}
 use Rattle.llcp_link.proofs.Ranged.{either}
 use Rattle.snep_core.specs.Jobs.{Job, Begins, Waits, Sends, Asks, Collects, Looks, Closes, Over, Ending, told_in}
-use Rattle.snep_core.specs.Talk.{EndState, Ends, GivesUp, Goes, OnSap, Step, Told, Working, all_emptied, all_heard, all_over, all_readied, all_well, as_they_came, emptied, gave_any, given_up, goes_on, heard, heard_so, heard_with, idle_after, is_over, most_idle, one_on, own_of, readied, ready, replied, saps, settled, own_of, silent, told_by, took, units_of}
+use Rattle.snep_core.specs.Talk.{EndState, Ends, GivesUp, Goes, OnSap, Step, ComesTo, Working, all_emptied, all_heard, all_over, all_readied, all_well, as_they_came, emptied, gave_any, given_up, goes_on, heard, heard_so, heard_with, idle_after, is_over, most_idle, one_on, own_of, readied, ready, replied, saps, settled, own_of, silent, call_behind, took, units_of}
 use Rattle.snep_core.specs.RepliesLeft.{IsUnderWay}
 use Rattle.snep_core.specs.Waning.{Aim, IsOf, Serves, aim_of}
 use Rattle.snep_core.proofs.Jobs.{heard_lets, serves_own}
@@ -80,11 +80,11 @@ took_from xs ys old l idle f = go (all_well (all_heard old l ys)) refl
     n : ℕ
     n = idle_after (gave_any old l ys) idle
 
-    go : (o : Option (List OnSap)) → all_well (all_heard old l ys) ≡ o → StepsFrom xs (told_by l ys (all_heard old l ys) n o)
+    go : (o : Option (List OnSap)) → all_well (all_heard old l ys) ≡ o → StepsFrom xs (call_behind l ys (all_heard old l ys) n o)
     go None e = tt
     go (Some now) e = settled_from xs now (all_emptied ys l) n (follow_on xs ys now f (hear_follow old l ys now e))
 
-told_from : (xs : List OnSap) (ns : List ℕ) (did : List FarStep) (from to : Step) → StepsFrom xs from → Told ns from did to → StepsFrom xs to
+told_from : (xs : List OnSap) (ns : List ℕ) (did : List FarStep) (from to : Step) → StepsFrom xs from → ComesTo ns from did to → StepsFrom xs to
 told_from xs ns [] from to h t = subst (StepsFrom xs) (sym t) h
 told_from xs ns (Stepped out reply ∷ did) (Goes w) to h (q, more) =
     told_from xs (later_numbers ns) did (replied (first_number ns) w reply) to
@@ -126,7 +126,7 @@ follow_self [] = tt
 follow_self (x ∷ xs) = (refl, λ aim s. s, λ e o. o, follow_self xs)
 
 -- the jobs that a call ends with
-pub told_follow : (w : Working) (ns : List ℕ) (did : List FarStep) (jobs : List OnSap) (new : EndState) → Told ns (Goes w) did (Ends jobs new)
+pub told_follow : (w : Working) (ns : List ℕ) (did : List FarStep) (jobs : List OnSap) (new : EndState) → ComesTo ns (Goes w) did (Ends jobs new)
     → Follow w.jobs jobs × (all_over jobs ≡ true)
 told_follow w ns did jobs new t = told_from w.jobs ns did (Goes w) (Ends jobs new) (follow_self w.jobs) t
 
@@ -158,7 +158,7 @@ unfolding IsDistinct
 one_under_way sap job l c = record { apart = (tt, tt); counted = (c, tt); idle = omega arith }
 
 pub told_only : (sap : ℕ) (job : Job) (l : EndState) (idle : ℕ) (ns : List ℕ) (did : List FarStep) (jobs : List OnSap) (new : EndState)
-    → Told ns (Goes (record { llc = l; jobs = one_on sap job; idle = idle })) did (Ends jobs new) → OnlyEnding sap job jobs
+    → ComesTo ns (Goes (record { llc = l; jobs = one_on sap job; idle = idle })) did (Ends jobs new) → OnlyEnding sap job jobs
 told_only sap job l idle ns did jobs new t =
     let h = told_from (one_on sap job) ns did (Goes (record { llc = l; jobs = one_on sap job; idle = idle })) (Ends jobs new) (follow_self (one_on sap job)) t in
     ends_only sap job jobs h.0 h.1

@@ -6,7 +6,7 @@ use Rattle.nfc_base.specs.Links.{CarrierView, FarStep}
 use Rattle.snep_core.specs.declared.fault.SnepFault.{SnepFault}
 use Rattle.snep_core.specs.declared.job.Refusal.{Refusal}
 use Rattle.snep_core.specs.declared.job.Refusal.TheVariants as refusals
-use Rattle.snep_core.specs.Accord.{Accords, GetFails, IsClientSap, IsGot, IsPeer, PeerState, Refuses}
+use Rattle.snep_core.specs.Accord.{Accords, GetFails, IsClientSap, IsGot, IsPeer, PeerState, RefusesGet}
 use Rattle.snep_core.specs.Calling.{RequestFails, Talks, fault_of, refused_by}
 use Rattle.snep_core.specs.Jobs.{Over, Refused, Value}
 use Rattle.snep_core.specs.Talk.{EndState, Ends, Gets, begins_from, one_on}
@@ -35,7 +35,7 @@ module _ (sap : ℕ) (range : IsClientSap sap) (most : ℕ) (key : List ℕ) (p 
         go (inr (e, beyond, accepted)) = absurd cc
 
     -- refused for what the table has
-    refused_for : (r : Refusal) → Refuses p.service.table most key (refused_by r) → length key ≤ p.service.limit → q.service.accepted ≡ p.service.accepted
+    refused_for : (r : Refusal) → RefusesGet p.service.table most key (refused_by r) → length key ≤ p.service.limit → q.service.accepted ≡ p.service.accepted
         → Ended sap range (ask most key) p read x.outcome z (Refused r) l q → GetFails sap most key p (refused_by r) l q
     refused_for refusals.Reject why within accepted h = absurd why
     refused_for refusals.NotFound why within accepted h = record { within = within; refuses = why; accepted = accepted; answered = h.answered }

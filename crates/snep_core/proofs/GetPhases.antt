@@ -9,9 +9,9 @@ use Rattle.snep_core.specs.declared.job.Refusal.TheVariants as refusals
 use Rattle.snep_core.specs.declared.session.Word.{Word}
 use Rattle.snep_core.specs.declared.session.Word.TheVariants.{Answers, Offers}
 use Rattle.snep_core.specs.declared.session.Due.TheVariants.{Tells}
-use Rattle.snep_core.specs.Accord.{Refuses}
+use Rattle.snep_core.specs.Accord.{RefusesGet}
 use Rattle.snep_core.specs.Calling.{refused_by}
-use Rattle.snep_core.specs.Jobs.{Ending, Over, Refused, Sends, Value, told_all}
+use Rattle.snep_core.specs.Jobs.{Ending, Over, Refused, Sends, Value, job_told}
 use Rattle.snep_core.specs.Message.{four_bytes, get_code, message}
 use Rattle.snep_core.specs.Server.{Received}
 use Rattle.snep_core.specs.Session.{Did, Offer, fresh_session, gets, got, value_of}
@@ -45,7 +45,7 @@ get_read limit most key short = record {
 -- what a table comes to that is asked for a key
 abbrev pub ComesTo : List Offer → ℕ → List ℕ → Ending → Type 0
 ComesTo table most key (Value v) = (value_of key table ≡ Some v) × (length v ≤ most)
-ComesTo table most key (Refused r) = Refuses table most key (refused_by r)
+ComesTo table most key (Refused r) = RefusesGet table most key (refused_by r)
 ComesTo table most key _ = ⊥
 
 -- what comes of a get: the value, or why it is refused; nothing is accepted
@@ -59,8 +59,8 @@ module _ (sap limit : ℕ) (table : List Offer) (most : ℕ) (key : List ℕ) (o
   abbrev says_only : Word → Did
   says_only w = record { session = record fresh_session { due = Tells w ∷ [] }; accepts = None }
 
-  refused : (a : Answer) (r : Refusal) → length (message a []) ≡ 6 → told_all (Sends (Some most) []) (message a [] ∷ []) ≡ Some (Over (Refused r))
-      → gets table (four_bytes most ++ key) ≡ Answers a → Refuses table most key (refused_by r) → GetOutcome sap limit table most key old
+  refused : (a : Answer) (r : Refusal) → length (message a []) ≡ 6 → job_told (Sends (Some most) []) (message a [] ∷ []) ≡ Some (Over (Refused r))
+      → gets table (four_bytes most ++ key) ≡ Answers a → RefusesGet table most key (refused_by r) → GetOutcome sap limit table most key old
   refused a r six told e why = record {
     end = Refused r;
     outcome = answered limit (ask most key) a (Refused r) old sap six told table old None

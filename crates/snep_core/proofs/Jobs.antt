@@ -8,7 +8,7 @@ use Rattle.snep_core.specs.declared.job.Refusal.{Refusal}
 use Rattle.snep_core.specs.declared.message.Answer.TheVariants as answers
 use Rattle.snep_core.specs.Message.{answer_code}
 use Rattle.snep_core.specs.First.{info_of}
-use Rattle.snep_core.specs.Jobs.{Job, Begins, Waits, Sends, Asks, Collects, Looks, Closes, Over, Done, Value, Sap, Refused, ended_by, has_byte, head_of, is_bare, refusal, sent_told, success_told, told, told_all, told_in, told_on, value_told, waiting_told}
+use Rattle.snep_core.specs.Jobs.{Job, Begins, Waits, Sends, Asks, Collects, Looks, Closes, Over, Done, Value, Sap, Refused, ended_by, has_byte, head_of, is_bare, refusal_by_code, sent_told, success_told, told, job_told, told_in, told_on, value_told, waiting_told}
 use Rattle.snep_core.specs.Talk.{EndState, emptied, finished, found_so, heard, heard_so, is_lost, is_waiting, units_of}
 use Rattle.llcp_link.specs.Asking.{found_in, standing_of}
 use Rattle.llcp_link.specs.State.{own_from}
@@ -54,7 +54,7 @@ waiting_follows aim most rest unit (Some h) =
     either {X = Option Job} (FollowsIf aim (Waits most rest)) (is_bare h unit) _ None
     (λ b. either {X = Option Job} (FollowsIf aim (Waits most rest)) (h.code == answer_code answers.Continue) (Some (Sends most rest)) _
     (λ c. follows_one aim (Waits most rest) (Sends most rest) (record { serves = λ x. x; left = omega arith }))
-    (λ c. refused_follows aim (Waits most rest) most (λ x. x) (let z = some_left most in omega arith) (refusal most h.code)))
+    (λ c. refused_follows aim (Waits most rest) most (λ x. x) (let z = some_left most in omega arith) (refusal_by_code most h.code)))
     (λ b. follows_none aim (Waits most rest))
 
 success_follows : (aim : Aim) (most : Option ℕ) (h : Head) (unit : List ℕ) → FollowsIf aim (Sends most []) (success_told most h unit)
@@ -76,7 +76,7 @@ sent_follows aim most unit (Some h) =
     either {X = Option Job} (FollowsIf aim (Sends most [])) (h.code == answer_code answers.Success) (success_told most h unit) _
     (λ b. success_follows aim most h unit)
     (λ b. either {X = Option Job} (FollowsIf aim (Sends most [])) (is_bare h unit) _ None
-    (λ c. refused_follows aim (Sends most []) most (λ x. x) (let z = some_left most in omega arith) (refusal most h.code))
+    (λ c. refused_follows aim (Sends most []) most (λ x. x) (let z = some_left most in omega arith) (refusal_by_code most h.code))
     (λ c. follows_none aim (Sends most [])))
 
 -- What a unit makes of a job: the same aim, and less to come where it has a byte.
@@ -189,7 +189,7 @@ finished_left l sap (Asks size have) = refl
 finished_left l sap (Collects size have) = refl
 finished_left l sap (Over o) = refl
 
-told_so : (waiting : Bool) (job mid : Job) (us : List (List ℕ)) → told_in waiting job us ≡ Some mid → told_all job us ≡ Some mid
+told_so : (waiting : Bool) (job mid : Job) (us : List (List ℕ)) → told_in waiting job us ≡ Some mid → job_told job us ≡ Some mid
 told_so waiting job mid [] e = e
 told_so true job mid (u ∷ us) e = absurd cc
 told_so false job mid (u ∷ us) e = e

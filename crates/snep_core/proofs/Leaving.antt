@@ -4,7 +4,7 @@ use Rattle.std.specs.List.{AllByRecursion, IsDistinct}
 use Rattle.llcp_conn.specs.Conn.{count_end}
 use Rattle.llcp_link.specs.Asking.{acked_of, is_open_by}
 use Rattle.snep_core.specs.Jobs.{Done, Job, Over}
-use Rattle.snep_core.specs.RepliesLeft.{IsCounted, task_saps}
+use Rattle.snep_core.specs.RepliesLeft.{IsBelowCountEnd, task_saps}
 use Rattle.snep_core.specs.Talk.{AllReady, EndState, Ends, Leaves, OnSap, Ready, all_done, all_opening, all_over, beginning, begins_all, begun, leave_from, leaving, opening, own_of, ready_so, some_open, with_job}
 use Rattle.snep_core.proofs.AllJobs.{all_so, behind}
 use Rattle.snep_core.proofs.CallsEnd.{NotAmong, one_opens}
@@ -71,7 +71,7 @@ pub same_first : (l : EndState) (ss : List ℕ) → AreSame l l ss
 same_first l [] = tt
 same_first l (s ∷ ss) = (refl, same_first l ss)
 
-pub counted_then : (old l : EndState) (s : ℕ) → own_of s l ≡ own_of s old → IsCounted l s → IsCounted old s
+pub counted_then : (old l : EndState) (s : ℕ) → own_of s l ≡ own_of s old → IsBelowCountEnd l s → IsBelowCountEnd old s
 counted_then old l s e c = subst (λ o. acked_of o < count_end) e c
 
 pub distinct_next : (s : ℕ) (ss : List ℕ) → IsDistinct eqb (s ∷ ss) → NotAmong s ss × IsDistinct eqb ss

@@ -1,7 +1,7 @@
 -- What a client put and was told, by what the units put that came.
 use Rattle.std.proofs.Common.{◌≡◌, ℕ, nat_lt, Bool, true, false, List, [], ◌∷◌, ◌++◌, length, refl, sym, ap, ◌∙◌, inl, inr, append-nil, if◌then◌else◌}
-use Rattle.snep_core.specs.Cuts.{fit, units_of}
-use Rattle.snep_core.specs.Links.{Answered, AreToldRight, IsToldRight, IsToldSo, LinkAccepts, LinkLaw, Put, Rejected, Success, Told, Unanswered, fitting, jobs_of, put_before, put_of, puts_of, told_taken}
+use Rattle.snep_core.specs.Cuts.{fit, units_of_puts}
+use Rattle.snep_core.specs.Links.{Answered, AreToldRight, IsToldRight, IsToldSo, LinkAccepts, ClientLinkLaw, Put, Rejected, Success, Told, Unanswered, fitting, jobs_of, put_before, put_of, puts_of, told_taken}
 use Rattle.snep_core.proofs.Cuts.{last_puts, puts_one}
 
 module _ (limit : ℕ) where
@@ -88,11 +88,11 @@ module _ (limit : ℕ) where
           });
         }
 
-pub link_law : LinkLaw
+pub link_law : ClientLinkLaw
 link_law limit done last part [] accepted jobs job right units told p = go told
   where
     accepts : accepted ≡ fit limit (jobs_of done) ++ fit limit (last.job ∷ [])
-    accepts = puts_one limit (units_of (jobs_of done) ++ part) accepted _ p (last_puts limit (jobs_of done) last.job part [] jobs job units)
+    accepts = puts_one limit (units_of_puts (jobs_of done) ++ part) accepted _ p (last_puts limit (jobs_of done) last.job part [] jobs job units)
 
     go : IsToldSo limit last [] → LinkAccepts limit (puts_of done ++ put_of last ∷ []) accepted
     go (inl (e, t)) = told_right limit done last right accepted t accepts
@@ -100,7 +100,7 @@ link_law limit done last part [] accepted jobs job right units told p = go told
 link_law limit done last part (v ∷ more) accepted jobs job right units told p = go told
   where
     accepts : accepted ≡ fit limit (jobs_of done)
-    accepts = puts_one limit (units_of (jobs_of done) ++ part) accepted _ p (last_puts limit (jobs_of done) last.job part (v ∷ more) jobs job units)
+    accepts = puts_one limit (units_of_puts (jobs_of done) ++ part) accepted _ p (last_puts limit (jobs_of done) last.job part (v ∷ more) jobs job units)
 
     go : IsToldSo limit last (v ∷ more) → LinkAccepts limit (puts_of done ++ put_of last ∷ []) accepted
     go (inl (e, t)) = cc

@@ -7,7 +7,7 @@ use Rattle.llcp_link.specs.Asking.{forgotten, unit_of, unit_taken_by, without_ow
 use Rattle.llcp_link.specs.Waning.{pending}
 use Rattle.llcp_link.proofs.OwnPlaces.{here_of, with_same}
 use Rattle.llcp_link.proofs.Submitted.{own_with}
-use Rattle.snep_core.specs.Jobs.{Job, has_byte, told, told_all, told_in, told_on}
+use Rattle.snep_core.specs.Jobs.{Job, has_byte, told, job_told, told_in, told_on}
 use Rattle.snep_core.specs.Talk.{EndState, emptied, emptied_by, finished, heard, heard_so, is_lost, own_of, units_of}
 
 is_same : (m n : ℕ) → m ≡ n → (m == n) ≡ true
@@ -119,14 +119,14 @@ byte_on [] us = refl
 byte_on (b ∷ bs) us = refl
 
 -- What a job comes to where no unit waits to be given.
-told_free : (job : Job) (us : List (List ℕ)) → told_in false job us ≡ told_all job us
+told_free : (job : Job) (us : List (List ℕ)) → told_in false job us ≡ job_told job us
 told_free job [] = refl
 told_free job (u ∷ us) = refl
 
 -- One unit is heard, and the others are as they were.
 pub record HearsOne (sap : ℕ) (l new : EndState) (job : Job) (u : List ℕ) (some : Bool) : Type 0 where
   pub units_are : units_of (own_of sap l) ≡ u ∷ units_of (own_of sap new)
-  pub told_is : told_all job (units_of (own_of sap l)) ≡ told_on (told job u) (units_of (own_of sap new))
+  pub told_is : job_told job (units_of (own_of sap l)) ≡ told_on (told job u) (units_of (own_of sap new))
   pub some_is : (some || has_byte (units_of (own_of sap l))) ≡ ((some || has_byte (u ∷ [])) || has_byte (units_of (own_of sap new)))
   pub emptied_is : emptied new sap ≡ emptied l sap
   pub forgotten_is : forgotten new sap ≡ forgotten l sap
@@ -136,7 +136,7 @@ pub hears_one : (sap : ℕ) (l new : EndState) (job : Job) (u : List ℕ) (some 
     → HearsOne sap l new job u some
 hears_one sap l new job u some e k = subst (λ z. HearsOne sap l z job u some) (sym k) (record {
   units_are = one.0;
-  told_is = ap (told_all job) one.0;
+  told_is = ap (job_told job) one.0;
   some_is =
       ap (λ us. some || has_byte us) one.0 ∙ ap (λ b. some || b) (byte_on u (units_of (own_of sap (taken sap l))))
       ∙ either_or some (has_byte (u ∷ [])) (has_byte (units_of (own_of sap (taken sap l))));

@@ -4,12 +4,12 @@ use Rattle.std.proofs.lemmas.List.{length-replicate}
 use Rattle.llcp_link.specs.State.{LlcState, restarted}
 use Rattle.llcp_link.specs.Taking.{Item, brought, steps}
 use Rattle.llcp_link.specs.Units.{Mark, Turn, marks}
-use Rattle.llcp_link.specs.Running.{Acted, end_of, marks_of}
+use Rattle.llcp_link.specs.Running.{Acted, end_after_acts, marks_of}
 use Rattle.llcp_link.proofs.Ranged.{AreRanged, brought_ranged}
 use Rattle.llcp_link.proofs.Following.{Follows}
 use Rattle.llcp_link.proofs.UnitsTold.{FitsAt, at_first, items_fit, run_fits, turns, turns_more, turns_units}
-use Rattle.snep_core.specs.Payloads.{AcceptedInOrder, AcceptsPuts, AllPut, IsServerRun, OffersElse, PayloadsAccepted, Place, accepted_from, end_there, marks_there}
-use Rattle.llcp_conn.specs.Window.{IsFront}
+use Rattle.snep_core.specs.Payloads.{AcceptedInOrder, AcceptsPuts, AllPut, IsServerRun, OffersElse, PayloadsAccepted, PlaceInActs, accepted_from, end_there, marks_there}
+use Rattle.nfc_base.specs.Prefix.{IsPrefix}
 use Rattle.snep_core.specs.Server.{Received, ServerState, received, serving, session_of}
 use Rattle.llcp_pdu.specs.Wire.{sap_count}
 use Rattle.snep_core.specs.Session.{did, fresh_session}
@@ -39,7 +39,7 @@ module _ (c : ℕ) (old : LlcState ServerState) where
     };
   }
 
-  runs : (l : LlcState ServerState) (run : List (Acted ServerState)) → IsServerRun l run → (x : Turn) → Stands l x → Stands (end_of l run) (turns c old.miu x (marks_of serving c l run))
+  runs : (l : LlcState ServerState) (run : List (Acted ServerState)) → IsServerRun l run → (x : Turn) → Stands l x → Stands (end_after_acts l run) (turns c old.miu x (marks_of serving c l run))
   runs l run r x h =
       run_fits serving Tells c old.miu follows OffersElse (server_changed c old.service.limit (accepted_from c old.service.accepted)) run l r x h
 
@@ -51,18 +51,18 @@ module _ (c : ℕ) (old : LlcState ServerState) where
         put = subst (λ z. AllPut old.service.limit z t.got) (turns_units c old.miu at_first ms) (told_puts old.service.limit (session_of l.service c).gathered _ t.got t.puts);
       }
 
-  there : (general : List ℕ) → c < sap_count → (p : Place (restarted serving old general)) → AreRanged p.came
+  there : (general : List ℕ) → c < sap_count → (p : PlaceInActs (restarted serving old general)) → AreRanged p.came
       → Stands (end_there (restarted serving old general) p) (turns c old.miu at_first (marks_there c (restarted serving old general) p))
   there general h p w =
       let begin = restarted serving old general in
       let x = turns c old.miu at_first (marks_of serving c begin p.before) in
-      subst (λ z. Stands (end_there begin p) z) (sym (turns_more c old.miu at_first (marks_of serving c begin p.before) (marks serving c (end_of begin p.before) p.came)))
-      (items_fit serving Tells c old.miu follows p.came w (end_of begin p.before) x (runs begin p.before p.run at_first (begins general h)))
+      subst (λ z. Stands (end_there begin p) z) (sym (turns_more c old.miu at_first (marks_of serving c begin p.before) (marks serving c (end_after_acts begin p.before) p.came)))
+      (items_fit serving Tells c old.miu follows p.came w (end_after_acts begin p.before) x (runs begin p.before p.run at_first (begins general h)))
 
 pub payloads_accepted : PayloadsAccepted
 payloads_accepted old general run r c h =
     let begin = restarted serving old general in
-    accepts_puts c old (end_of begin run) (marks_of serving c begin run) (runs c old begin run r at_first (begins c old general h))
+    accepts_puts c old (end_after_acts begin run) (marks_of serving c begin run) (runs c old begin run r at_first (begins c old general h))
 
 ranged_front : (xs ys all : List Item) → all ≡ xs ++ ys → AreRanged all → AreRanged xs × AreRanged ys
 ranged_front xs ys all e h = go xs (subst AreRanged e h)
@@ -72,12 +72,12 @@ ranged_front xs ys all e h = go xs (subst AreRanged e h)
     go (x ∷ xs) h = let k = go xs h.1 in ((h.0, k.0), k.1)
 
 -- what was accepted stays, and more is accepted behind it
-pub front_more : (a b more : List Received) → IsFront a b → IsFront a (b ++ more)
+pub front_more : (a b more : List Received) → IsPrefix a b → IsPrefix a (b ++ more)
 front_more a b more (rest, e) = (rest ++ more, ap (λ z. z ++ more) e ∙ append_assoc a rest more)
 
 module _ (before : List Received) where
   abbrev Grows : ServerState → List (List (List ℕ)) → Type 0
-  Grows s us = IsFront before s.accepted
+  Grows s us = IsPrefix before s.accepted
 
   grows : (c : ℕ) → Follows serving c Grows
   grows c = record {
@@ -89,20 +89,20 @@ module _ (before : List Received) where
   }
 
   grows_changed : (s t : ServerState) (us : List (List (List ℕ))) → OffersElse s t → Grows s us → Grows t us
-  grows_changed s t us (table, e) h = subst (λ z. IsFront before z.accepted) (sym e) h
+  grows_changed s t us (table, e) h = subst (λ z. IsPrefix before z.accepted) (sym e) h
 
 pub accepted_in_order : AcceptedInOrder
 accepted_in_order old general p =
     let begin = restarted serving old general in
-    let w = ranged_front p.came p.behind (brought (end_of begin p.before) p.payload) p.split (brought_ranged (end_of begin p.before) p.payload p.bytes) in
+    let w = ranged_front p.came p.behind (brought (end_after_acts begin p.before) p.payload) p.split (brought_ranged (end_after_acts begin p.before) p.payload p.bytes) in
     record {
       puts = λ c h. accepts_puts c old (end_there begin p) (marks_there c begin p) (there c old general h p w.0);
       front = λ more r. front more r w;
     }
   where
     front : (more : List (Acted ServerState)) → IsServerRun (steps serving (end_there (restarted serving old general) p) p.behind) more → AreRanged p.came × AreRanged p.behind
-        → IsFront (end_there (restarted serving old general) p).service.accepted
-        (end_of (steps serving (end_there (restarted serving old general) p) p.behind) more).service.accepted
+        → IsPrefix (end_there (restarted serving old general) p).service.accepted
+        (end_after_acts (steps serving (end_there (restarted serving old general) p) p.behind) more).service.accepted
     front more r w =
         let begin = restarted serving old general in
         let l = end_there begin p in

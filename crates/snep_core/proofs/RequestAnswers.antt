@@ -16,7 +16,7 @@ use Rattle.snep_core.specs.declared.job.Refusal.TheVariants as refusals
 use Rattle.snep_core.specs.Cuts.{NoneEmpty}
 use Rattle.snep_core.specs.First.{info_of}
 use Rattle.snep_core.specs.Accord.{IsPaired, Numbers}
-use Rattle.snep_core.specs.Jobs.{Begins, Over, Refused, Sends, told_all}
+use Rattle.snep_core.specs.Jobs.{Begins, Over, Refused, Sends, job_told}
 use Rattle.snep_core.specs.Message.{message}
 use Rattle.snep_core.specs.Server.{Received, ServerState, serving}
 use Rattle.snep_core.specs.Session.{Offer, Sent, Session, fresh_session, sent}
@@ -220,11 +220,11 @@ module _ (sap miu size limit : ℕ) (table : List Offer) (ask : Asked) (old : Li
   abbrev Heard_ : Here_ → Type 0
   Heard_ ph = Hears sap limit table (conversation miu limit table ask old later) ph
 
-  refused_by : (rest : List ℕ) → told_all (behind_first ask.most rest) (message answers.Reject [] ∷ []) ≡ Some (Over (Refused refusals.Reject))
+  refused_by : (rest : List ℕ) → job_told (behind_first ask.most rest) (message answers.Reject [] ∷ []) ≡ Some (Over (Refused refusals.Reject))
   refused_by [] = refl
   refused_by (b ∷ bs) = refl
 
-  continued_by : (rest : List ℕ) → 0 < length rest → told_all (behind_first ask.most rest) (message answers.Continue [] ∷ []) ≡ Some (Sends ask.most rest)
+  continued_by : (rest : List ℕ) → 0 < length rest → job_told (behind_first ask.most rest) (message answers.Continue [] ∷ []) ≡ Some (Sends ask.most rest)
   continued_by [] h = absurd (omega arith)
   continued_by (b ∷ bs) h = refl
 

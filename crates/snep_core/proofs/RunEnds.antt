@@ -9,7 +9,7 @@ use Rattle.std.specs.List.{AllByRecursion}
 use Rattle.snep_core.specs.Accord.{Accords, AllAdd, EndedFrom, IsClientSap, IsPeer, IsRun, PeerState, PutsEnded, PutsFailed, RunAdds, RunFails, SlotTells, TellsOf, is_in, most_clients}
 use Rattle.snep_core.specs.Calling.{FailsAt, RunFailsAt, RunsTo, Talks, fault_of, slots_left}
 use Rattle.snep_core.specs.Jobs.{Asks, Begins, Closes, Collects, Done, Ending, Job, Looks, Over, Refused, Sap, Sends, Value, Waits}
-use Rattle.snep_core.specs.RepliesLeft.{IsCounted, IsUnderWay, task_saps}
+use Rattle.snep_core.specs.RepliesLeft.{IsBelowCountEnd, IsUnderWay, task_saps}
 use Rattle.snep_core.specs.Server.{Received}
 use Rattle.snep_core.specs.Slots.{AllFit, NoMessage, NoneStaged, Rejected, Slot, Staged, Success, all_puts, answered_by, has_staged, is_staged_at, job_from, marked, noted, slot_at, slot_count, some_staged}
 use Rattle.snep_core.specs.Talk.{AllReady, EndState, Ends, OnSap, Puts, Step, TaskOn, all_opening, all_over, begins_all, beginning, begun, client_sap, opening, put_bytes, sap_of_slot, saps, with_job}
@@ -194,7 +194,7 @@ module _ (slots : List Slot) (fits : AllFit slots) (eight : length slots ≡ slo
       ap beginning e ∙ ap (λ b. if b then Ends jobs new else begun new jobs) on
 
   pub run_way : (l new : EndState) (jobs : List OnSap) → some_staged slots ≡ true → all_opening (all_puts slots) l ≡ record { llc = new; jobs = jobs }
-      → AllByRecursion (IsCounted l) (task_saps (all_puts slots)) → IsUnderWay (record { llc = new; jobs = jobs; idle = 0 })
+      → AllByRecursion (IsBelowCountEnd l) (task_saps (all_puts slots)) → IsUnderWay (record { llc = new; jobs = jobs; idle = 0 })
   run_way l new jobs w e c =
       calls_begin l (all_puts slots) (record { llc = new; jobs = jobs; idle = 0 }) (puts_distinct slots client_sap) c (run_opens l new jobs w e)
 

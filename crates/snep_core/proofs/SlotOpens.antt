@@ -5,7 +5,7 @@ use Rattle.std.specs.List.{AllByRecursion}
 use Rattle.llcp_conn.specs.Conn.{count_end}
 use Rattle.llcp_link.specs.Asking.{acked_of}
 use Rattle.snep_core.specs.Jobs.{Job}
-use Rattle.snep_core.specs.RepliesLeft.{IsCounted, task_saps}
+use Rattle.snep_core.specs.RepliesLeft.{IsBelowCountEnd, task_saps}
 use Rattle.snep_core.specs.Slots.{NoMessage, Rejected, Slot, Staged, Success, put_with, puts_from}
 use Rattle.snep_core.specs.Talk.{AllReady, EndState, OnSap, Puts, Ready, all_opening, opening, own_of, ready_so, with_job}
 use Rattle.snep_core.proofs.AllJobs.{all_so, behind}
@@ -42,9 +42,9 @@ opened_put a m l new job e = ap (λ (r : Ready). with_job a r (all_opening [])) 
 
 -- the acknowledgements on them are counted
 abbrev pub AreCounted : EndState → ℕ → List Slot → Type 0
-AreCounted l a xs = AllByRecursion (IsCounted l) (task_saps (puts_from a xs))
+AreCounted l a xs = AllByRecursion (IsBelowCountEnd l) (task_saps (puts_from a xs))
 
-pub counted_next : (l now : EndState) (a : ℕ) (x : Slot) (xs : List Slot) → own_of a now ≡ own_of a l → AllByRecursion (IsCounted now) (task_saps (put_with a x []))
+pub counted_next : (l now : EndState) (a : ℕ) (x : Slot) (xs : List Slot) → own_of a now ≡ own_of a l → AllByRecursion (IsBelowCountEnd now) (task_saps (put_with a x []))
     → AreCounted l (a + 1) xs → AreCounted l a (x ∷ xs)
 counted_next l now a (Staged m) xs e c more = (subst (λ o. acked_of o < count_end) e c.0, more)
 counted_next l now a NoMessage xs e c more = more

@@ -3,7 +3,7 @@ use Rattle.std.proofs.Common.{◌≡◌, ℕ, Bool, true, false, List, [], ◌�
 use Rattle.std.specs.List.{IsDistinct}
 use Rattle.std.proofs.lemmas.List.{append_assoc}
 use Rattle.nfc_base.specs.Choosing.{first_number, later_numbers}
-use Rattle.nfc_base.specs.Links.{CarrierView, FarStep, Stepped, Stopped, FarMoved, SwapDone, Swapped, BySwaps, payload_of}
+use Rattle.nfc_base.specs.Links.{CarrierView, FarStep, Stepped, Stopped, FarMoved, SwapDone, Swapped, BySwaps, step_payload}
 use Rattle.llcp_link.specs.Asking.{has_waiting_of}
 use Rattle.llcp_link.specs.Giving.{given, after_giving}
 use Rattle.snep_core.specs.declared.job.Awaiting.{Awaiting}
@@ -12,16 +12,16 @@ use Rattle.snep_core.specs.declared.job.Turn.{Turn}
 use Rattle.snep_core.specs.declared.job.Turn.TheVariants.{Ended, Went, GaveUp}
 use Rattle.snep_core.specs.declared.fault.SnepFault.{SnepFault}
 use Rattle.snep_core.specs.declared.fault.SnepFault.TheVariants.{BadPeer, Memory}
-use Rattle.snep_core.specs.Calling.{Breaks, Exchanged, FailsAt, FailsBy, GivesUpThere, IsCut, IsStep, Talks, Turned, TurnedTo, gives_up, last_of, payloads}
+use Rattle.snep_core.specs.Calling.{Breaks, ExchangedOnce, FailsAt, FailsBy, GivesUpThere, IsCut, IsStep, Talks, Turned, TurnedTo, gives_up, last_of, payloads}
 use Rattle.snep_core.specs.Jobs.{Job, has_byte}
 use Rattle.snep_core.specs.Listening.{HearsAll, all_awaiting, all_come, awaited_saps, empties, forgets, gave_one}
 use Rattle.snep_core.proofs.AllJobs.{awaited_so, come_saps, come_so, empties_so, forgets_so, gave_so, ready_saps}
-use Rattle.snep_core.specs.Talk.{AllReady, AreApart, CameTo, EndState, Ends, GivesUp, Goes, OnSap, Step, Told, Working, all_emptied, all_heard, all_over, all_readied, as_they_came, emptied, gave_any, gave_something, given_up, goes_on, heard, heard_with, idle_after, most_idle, numbers_behind, one_on, own_of, payload, ready, replied, replied_ready, saps, settled, silent, told_by, took, units_of}
+use Rattle.snep_core.specs.Talk.{AllReady, AreApart, CameTo, EndState, Ends, GivesUp, Goes, OnSap, Step, ComesTo, Working, all_emptied, all_heard, all_over, all_readied, as_they_came, emptied, gave_any, gave_something, given_up, goes_on, heard, heard_with, idle_after, most_idle, numbers_behind, one_on, own_of, payload, ready, replied, replied_ready, saps, settled, silent, call_behind, took, units_of}
 
-told_more : (from : Step) (ns : List ℕ) (did : List FarStep) (w : Working) (reply : List ℕ) (to : Step) → Told ns from did (Goes w)
+told_more : (from : Step) (ns : List ℕ) (did : List FarStep) (w : Working) (reply : List ℕ) (to : Step) → ComesTo ns from did (Goes w)
     → replied (first_number (numbers_behind did ns)) w reply ≡ to
-    → Told ns from (did ++ Stepped (payload (first_number (numbers_behind did ns)) w) reply ∷ []) to
-told_more from ns [] w reply to t e = subst (λ s. Told ns s (Stepped (payload (first_number ns) w) reply ∷ []) to) t (refl, sym e)
+    → ComesTo ns from (did ++ Stepped (payload (first_number (numbers_behind did ns)) w) reply ∷ []) to
+told_more from ns [] w reply to t e = subst (λ s. ComesTo ns s (Stepped (payload (first_number ns) w) reply ∷ []) to) t (refl, sym e)
 told_more (Goes v) ns (Stepped p r ∷ did) w reply to (q, more) e = (q, told_more (replied (first_number ns) v r) (later_numbers ns) did w reply to more e)
 told_more (Goes v) ns (Stopped p ∷ did) w reply to t e = absurd t
 told_more (Ends o l) ns (x ∷ did) w reply to t e = absurd t
@@ -31,17 +31,17 @@ behind_more : (did : List FarStep) (x : FarStep) (ns : List ℕ) → numbers_beh
 behind_more [] x ns = refl
 behind_more (y ∷ did) x ns = behind_more did x (later_numbers ns)
 
-payloads_more : (did : List FarStep) (x : FarStep) → payloads (did ++ x ∷ []) ≡ payloads did ++ payload_of x ∷ []
+payloads_more : (did : List FarStep) (x : FarStep) → payloads (did ++ x ∷ []) ≡ payloads did ++ step_payload x ∷ []
 payloads_more [] x = refl
-payloads_more (y ∷ did) x = ap (λ z. payload_of y ∷ z) (payloads_more did x)
+payloads_more (y ∷ did) x = ap (λ z. step_payload y ∷ z) (payloads_more did x)
 
-last_more : (before : Option (List ℕ)) (did : List FarStep) (x : FarStep) → last_of before (did ++ x ∷ []) ≡ Some (payload_of x)
+last_more : (before : Option (List ℕ)) (did : List FarStep) (x : FarStep) → last_of before (did ++ x ∷ []) ≡ Some (step_payload x)
 last_more before [] x = refl
-last_more before (y ∷ did) x = last_more (Some (payload_of y)) did x
+last_more before (y ∷ did) x = last_more (Some (step_payload y)) did x
 
 module _ {C A : Type 0} (seen : C → CarrierView) (swaps : C → List ℕ → List FarStep → C → Type 0) (steps : A → List ℕ → List ℕ → A → Type 0)
     (stops : A → List ℕ → A → Type 0) where
-  far_more : (from : Step) (ns : List ℕ) (did : List FarStep) (w : Working) → Told ns from did (Goes w) → (far mid after : A) (out reply : List ℕ)
+  far_more : (from : Step) (ns : List ℕ) (did : List FarStep) (w : Working) → ComesTo ns from did (Goes w) → (far mid after : A) (out reply : List ℕ)
       → FarMoved steps stops did far mid → steps mid out reply after → FarMoved steps stops (did ++ Stepped out reply ∷ []) far after
   far_more from ns [] w t far mid after out reply m s = (after, subst (λ z. steps z out reply after) m s, refl)
   far_more (Goes v) ns (Stepped p r ∷ did) w (q, more) far mid after out reply (x, s1, m) s =
@@ -50,8 +50,8 @@ module _ {C A : Type 0} (seen : C → CarrierView) (swaps : C → List ℕ → L
   far_more (Ends o l) ns (x ∷ did) w t far mid after out reply m s = absurd t
   far_more (GivesUp l) ns (x ∷ did) w t far mid after out reply m s = absurd t
 
-  by_more : (did : List FarStep) (x : FarStep) (a mid now : C) → BySwaps swaps did a mid → swaps mid (payload_of x) (x ∷ []) now → BySwaps swaps (did ++ x ∷ []) a now
-  by_more [] x a mid now b s = (now, subst (λ z. swaps z (payload_of x) (x ∷ []) now) b s, refl)
+  by_more : (did : List FarStep) (x : FarStep) (a mid now : C) → BySwaps swaps did a mid → swaps mid (step_payload x) (x ∷ []) now → BySwaps swaps (did ++ x ∷ []) a now
+  by_more [] x a mid now b s = (now, subst (λ z. swaps z (step_payload x) (x ∷ []) now) b s, refl)
   by_more (y ∷ did) x a mid now (half, one, rest) s = (half, one, by_more did x half mid now rest s)
 
   abbrev pub talks_none : (numbers : List ℕ) (from : Step) (link : C) (far : A) → Talks seen swaps steps stops numbers from link far from link far
@@ -187,7 +187,7 @@ module _ (sap : ℕ) (old mid new : EndState) (job now : Job) (idle : ℕ) where
       → gave ≡ (gave_something (own_of sap old) (own_of sap mid) || has_byte (units_of (own_of sap mid)))
       → took old mid (one_on sap now) idle ≡ settled (emptied mid sap) (one_on sap next) (idle_after gave idle)
   took_some next gave h e =
-      ap (λ o. told_by mid (one_on sap now) (record { sap = sap; job = o } ∷ [])
+      ap (λ o. call_behind mid (one_on sap now) (record { sap = sap; job = o } ∷ [])
       (idle_after ((gave_something (own_of sap old) (own_of sap mid) || has_byte (units_of (own_of sap mid))) || false) idle)
       (heard_with sap o (Some []))) h
       ∙ ap (λ b. settled (emptied mid sap) (one_on sap next) (idle_after b idle))
@@ -206,20 +206,20 @@ module _ (old mid new : EndState) (jobs : List OnSap) (idle : ℕ) where
   all_none : all_come mid (all_awaiting old jobs) ≡ None → new ≡ forgets (saps jobs) mid
       → took old mid jobs idle ≡ gives_up (all_heard old mid jobs) new
   all_none h e =
-      ap (told_by mid jobs (all_heard old mid jobs) (idle_after (gave_any old mid jobs) idle)) (sym (come_so old mid jobs) ∙ h)
+      ap (call_behind mid jobs (all_heard old mid jobs) (idle_after (gave_any old mid jobs) idle)) (sym (come_so old mid jobs) ∙ h)
       ∙ ap (gives_up (all_heard old mid jobs)) (sym (e ∙ forgets_so jobs mid))
 
   all_some : (now : List OnSap) (gave : Bool) → all_come mid (all_awaiting old jobs) ≡ Some now → gave ≡ gave_one mid (all_awaiting old jobs)
       → took old mid jobs idle ≡ settled (empties (all_awaiting old jobs) mid) now (idle_after gave idle)
   all_some now gave h g =
-      ap (told_by mid jobs (all_heard old mid jobs) (idle_after (gave_any old mid jobs) idle)) (sym (come_so old mid jobs) ∙ h)
+      ap (call_behind mid jobs (all_heard old mid jobs) (idle_after (gave_any old mid jobs) idle)) (sym (come_so old mid jobs) ∙ h)
       ∙ ap (λ b. settled (all_emptied jobs mid) now (idle_after b idle)) (sym (g ∙ gave_so old mid jobs))
       ∙ ap (λ z. settled z now (idle_after gave idle)) (sym (empties_so old mid jobs))
 
 module _ {C A : Type 0} (seen : C → CarrierView) (swaps : C → List ℕ → List FarStep → C → Type 0) (steps : A → List ℕ → List ℕ → A → Type 0)
     (stops : A → List ℕ → A → Type 0) (link : C) (far : A) (over : C) (after : A) (l mid heard_end : EndState) (jobs now : List OnSap) (idle : ℕ)
     (r : all_readied jobs l ≡ record { llc = mid; jobs = now }) (count : ℕ) (all : List Awaiting)
-    (x : Exchanged seen swaps steps stops count now mid link far all heard_end over after) where
+    (x : ExchangedOnce seen swaps steps stops count now mid link far all heard_end over after) where
   abbrev working : Working
   working = record { llc = l; jobs = jobs; idle = idle }
 

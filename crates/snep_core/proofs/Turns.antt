@@ -11,10 +11,10 @@ use Rattle.llcp_link.proofs.Clients.{is_self}
 use Rattle.llcp_link.proofs.Ranged.{either}
 use Rattle.llcp_link.specs.State.{Bound, OwnState, conn_from, own_from, with_own}
 use Rattle.snep_core.specs.Accord.{IsClientSap, IsPaired, PeerState, PeerSteps, is_some_of, most_clients}
-use Rattle.snep_core.specs.Jobs.{Begins, Job, has_byte, told_all, told_in}
+use Rattle.snep_core.specs.Jobs.{Begins, Job, has_byte, job_told, told_in}
 use Rattle.snep_core.specs.Server.{Received, ServerState, serving}
 use Rattle.snep_core.specs.Session.{Offer, fresh_session}
-use Rattle.snep_core.specs.Talk.{AllReady, EndState, Ends, GivesUp, Goes, OnSap, Ready, Step, Working, all_emptied, all_heard, all_over, all_readied, all_well, begins_on, client_sap, emptied, emptied_by, finished, gave_any, gave_something, given_up, as_they_came, heard, heard_so, heard_with, idle_after, is_over, is_there, miu_of, most_idle, needs, own_of, payload, readied, ready_so, replied, saps, server_sap, settled, silent, told_by, took, units_of, with_job}
+use Rattle.snep_core.specs.Talk.{AllReady, EndState, Ends, GivesUp, Goes, OnSap, Ready, Step, Working, all_emptied, all_heard, all_over, all_readied, all_well, begins_on, client_sap, emptied, emptied_by, finished, gave_any, gave_something, given_up, as_they_came, heard, heard_so, heard_with, idle_after, is_over, is_there, miu_of, most_idle, needs, own_of, payload, readied, ready_so, replied, saps, server_sap, settled, silent, call_behind, took, units_of, with_job}
 use Rattle.snep_core.proofs.AllJobs.{emptied_elsewhere}
 use Rattle.snep_core.proofs.Answered.{Came, Nothing, Replied, came_gives, or_true, pressed_answers, true_or}
 use Rattle.snep_core.proofs.Conversations.{Settled, Tells, told_apart}
@@ -83,7 +83,7 @@ any_gives old now s (x ∷ xs) i g = go (x.sap == s) refl i (λ k. any_gives old
     go false e k more = true_or (gave_at old now x.sap) (gave_any old now xs) (more k)
 
 -- a job that is over by what was heard, or was before
-was_settled : (units : List (List ℕ)) (job next : Job) → told_all job units ≡ Some next → is_over next ≡ true → (is_some_of units || is_over job) ≡ true
+was_settled : (units : List (List ℕ)) (job next : Job) → job_told job units ≡ Some next → is_over next ≡ true → (is_some_of units || is_over job) ≡ true
 was_settled [] job next e o = let same : job ≡ next = cc in ap is_over same ∙ o
 was_settled (u ∷ us) job next e o = refl
 
@@ -548,7 +548,7 @@ module _ (limit : ℕ) (table : List Offer) (names : List Bound) (old : List Rec
         let same = r_.saps_are ∙ e in
         let x = all_hear mid whole r_.jobs r_.now whole q back.meets r_.agrees (subst AreUnlike (sym same) unlike) (mine_in r_.jobs same) (λ t i. refl) (λ t k. back.waiting t ∙ k) in
         let idle = idle_after (gave_any mid whole r_.jobs) w.idle in
-        subst (λ o. StepSo (told_by whole r_.jobs (all_heard mid whole r_.jobs) idle o) q) (sym x.well)
+        subst (λ o. StepSo (call_behind whole r_.jobs (all_heard mid whole r_.jobs) idle o) q) (sym x.well)
         (settles (all_emptied r_.jobs whole) q x.jobs x.now idle (still mid whole (all_emptied r_.jobs whole) q x.left back.so_far (gave_any mid whole r_.jobs) refl)
         x.agrees (x.saps_are ∙ same) (record { meets = x.meets; empty = λ s i. x.empty s (ap (is_in s) same ∙ i) }))
 

@@ -12,7 +12,7 @@ use Rattle.snep_core.specs.declared.session.Word.TheVariants.{Offers, Resumes}
 use Rattle.snep_core.specs.Accord.{IsPaired, Numbers}
 use Rattle.snep_core.specs.Cuts.{NoneEmpty}
 use Rattle.snep_core.specs.First.{info_of}
-use Rattle.snep_core.specs.Jobs.{Asks, Collects, Ending, Job, Over, Sends, Value, head_of, sent_told, told, told_all, told_on, value_told}
+use Rattle.snep_core.specs.Jobs.{Asks, Collects, Ending, Job, Over, Sends, Value, head_of, sent_told, told, job_told, told_on, value_told}
 use Rattle.snep_core.specs.Message.{answer_code, message}
 use Rattle.snep_core.specs.Server.{Received, ServerState, serving}
 use Rattle.snep_core.specs.Session.{Did, Offer, Sent, Session, did, fresh_session, sent}
@@ -42,7 +42,7 @@ module _ (size : ℕ) where
   value_is_whole : (have : List ℕ) (more : Job) → length have ≡ size → value_told size have more ≡ Some (Over (Value have))
   value_is_whole have more h = rw (le-ltb size (length have) (omega arith), eq-eqb (length have) size h) refl
 
-  pub collects_on : (us : List (List ℕ)) (have : List ℕ) → length (have ++ concat us) < size → told_all (Collects size have) us ≡ Some (Collects size (have ++ concat us))
+  pub collects_on : (us : List (List ℕ)) (have : List ℕ) → length (have ++ concat us) < size → job_told (Collects size have) us ≡ Some (Collects size (have ++ concat us))
   collects_on [] have h = ap (λ z. Some (Collects size z)) (sym (append-nil have))
   collects_on (u ∷ us) have h =
       let same : have ++ (u ++ concat us) ≡ (have ++ u) ++ concat us = sym (append_assoc have u (concat us)) in
@@ -53,7 +53,7 @@ module _ (size : ℕ) where
       ∙ ap (λ z. Some (Collects size z)) (sym same)
 
   pub collects_all : (us : List (List ℕ)) (u have : List ℕ) → NoneEmpty us → length (have ++ (u ++ concat us)) ≡ size
-      → told_all (Collects size have) (u ∷ us) ≡ Some (Over (Value (have ++ (u ++ concat us))))
+      → job_told (Collects size have) (u ∷ us) ≡ Some (Over (Value (have ++ (u ++ concat us))))
   collects_all [] u have n h =
       let same : have ++ (u ++ []) ≡ have ++ u = ap (λ z. have ++ z) (append-nil u) in
       ap (λ o. told_on o []) (value_is_whole (have ++ u) (Collects size (have ++ u)) (sym (ap length same) ∙ h)) ∙ ap (λ z. Some (Over (Value z))) (sym same)

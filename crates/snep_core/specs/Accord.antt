@@ -270,16 +270,16 @@ pub record IsGot (sap most : ℕ) (key value : List ℕ) (old : PeerState) (clie
 
 -- why a table refuses a get that takes a value of at most so many bytes: it is empty; else it hasn't the key; else the
 -- value is longer
-abbrev pub Refuses : List Offer → ℕ → List ℕ → SnepFault → Type 0
-Refuses table most key NotImplemented = table ≡ []
-Refuses table most key NotFound = (0 < length table) × (value_of key table ≡ None)
-Refuses table most key Excess = (value : List ℕ) × (value_of key table ≡ Some value) × (most < length value)
-Refuses table most key _ = ⊥
+abbrev pub RefusesGet : List Offer → ℕ → List ℕ → SnepFault → Type 0
+RefusesGet table most key NotImplemented = table ≡ []
+RefusesGet table most key NotFound = (0 < length table) × (value_of key table ≡ None)
+RefusesGet table most key Excess = (value : List ℕ) × (value_of key table ≡ Some value) × (most < length value)
+RefusesGet table most key _ = ⊥
 
 -- A get that was refused so: its key is within the limit, and nothing was accepted.
 pub record IsRefusedBy (why : SnepFault) (sap most : ℕ) (key : List ℕ) (old : PeerState) (client : EndState) (new : PeerState) : Type 0 where
   pub within : length key ≤ old.service.limit
-  pub refuses : Refuses old.service.table most key why
+  pub refuses : RefusesGet old.service.table most key why
   pub accepted : new.service.accepted ≡ old.service.accepted
   pub answered : IsAnswered sap old client new
 

@@ -4,7 +4,7 @@ use Rattle.nfc_base.specs.Choosing.{first_number}
 use Rattle.nfc_base.specs.declared.carrier.EndCause.{EndCause}
 use Rattle.nfc_base.specs.declared.carrier.EndCause.TheVariants as cause
 use Rattle.nfc_base.specs.declared.carrier.LinkEnd.{LinkEnd}
-use Rattle.nfc_base.specs.Links.{CarrierView, FarStep, Stepped, FarMoved, SwapDone, SwapFailed, Swapped, AskedBy, BySwaps, payload_of}
+use Rattle.nfc_base.specs.Links.{CarrierView, FarStep, Stepped, FarMoved, SwapDone, SwapFailed, Swapped, AskedBy, BySwaps, step_payload}
 use Rattle.llcp_link.specs.Taking.{taken_from}
 use Rattle.llcp_link.specs.Giving.{given, after_giving}
 use Rattle.snep_core.specs.declared.fault.SnepFault.{SnepFault}
@@ -13,7 +13,7 @@ use Rattle.snep_core.specs.declared.fault.SnepFault.TheVariants as faults
 use Rattle.snep_core.specs.Jobs.{Over, Refused}
 use Rattle.snep_core.specs.Listening.{all_awaiting}
 use Rattle.snep_core.specs.Slots.{NoneStaged, Slot, all_puts, dropped, noted}
-use Rattle.snep_core.specs.Talk.{EndState, Step, Goes, Ends, GivesUp, Told, Working, CameTo, OnSap, begins_all, numbers_behind, one_on, ready, replied, silent}
+use Rattle.snep_core.specs.Talk.{EndState, Step, Goes, Ends, GivesUp, ComesTo, Working, CameTo, OnSap, begins_all, numbers_behind, one_on, ready, replied, silent}
 use Rattle.snep_core.specs.declared.job.Refusal.{Refusal}
 use Rattle.snep_core.specs.declared.job.Refusal.TheVariants as refusals
 use Rattle.snep_core.specs.declared.job.Awaiting.{Awaiting}
@@ -33,12 +33,12 @@ pub record ClientState : Type 0 where
 -- the payloads that were handed over
 abbrev pub payloads : List FarStep → List (List ℕ)
 payloads [] = []
-payloads (x ∷ xs) = payload_of x ∷ payloads xs
+payloads (x ∷ xs) = step_payload x ∷ payloads xs
 
 -- the last one, or the one before where there is none
 abbrev pub last_of : Option (List ℕ) → List FarStep → Option (List ℕ)
 last_of before [] = before
-last_of before (x ∷ xs) = last_of (Some (payload_of x)) xs
+last_of before (x ∷ xs) = last_of (Some (step_payload x)) xs
 
 -- why a call ends where a swap does
 abbrev pub fault_of : EndCause → SnepFault
@@ -79,7 +79,7 @@ module _ {C A : Type 0} (seen : C → CarrierView) (swaps : C → List ℕ → L
   -- next of these numbers says and in one swap, and what the far end did. The link is over where it was over before.
   pub record Talks (numbers : List ℕ) (from : Step) (link : C) (far : A) (to : Step) (now : C) (after : A) : Type 0 where
     pub did : List FarStep
-    pub told : Told numbers from did to
+    pub told : ComesTo numbers from did to
     pub handed : (seen now).handed ≡ (seen link).handed ++ payloads did
     pub last : (seen now).last ≡ last_of (seen link).last did
     pub over : (seen now).over ≡ (seen link).over
@@ -88,7 +88,7 @@ module _ {C A : Type 0} (seen : C → CarrierView) (swaps : C → List ℕ → L
 
   -- One exchange: the next payload, with so many PDUs, was answered, and the reply taken. Between the two these jobs
   -- stood so.
-  pub record Exchanged (count : ℕ) (jobs : List OnSap) (old : EndState) (link : C) (far : A) (all : List Awaiting) (new : EndState) (now : C) (after : A) : Type 0 where
+  pub record ExchangedOnce (count : ℕ) (jobs : List OnSap) (old : EndState) (link : C) (far : A) (all : List Awaiting) (new : EndState) (now : C) (after : A) : Type 0 where
     pub reply : List ℕ
     pub swap : SwapDone steps (seen link) (seen now) (given silent count old) reply far after
     pub swapped : Swapped swaps steps stops link (given silent count old) far now after

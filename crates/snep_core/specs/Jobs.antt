@@ -30,8 +30,8 @@ get_refusal (Some most) code =
     else if code == answer_code answers.NotImplemented then Some refusals.NotImplemented
     else None
 
-abbrev pub refusal : Option ℕ → ℕ → Option Refusal
-refusal most code = if code == answer_code answers.Reject then Some refusals.Reject else get_refusal most code
+abbrev pub refusal_by_code : Option ℕ → ℕ → Option Refusal
+refusal_by_code most code = if code == answer_code answers.Reject then Some refusals.Reject else get_refusal most code
 
 abbrev pub ended_by : Refusal → Job
 ended_by r = Over (Refused r)
@@ -41,7 +41,7 @@ abbrev pub waiting_told : Option ℕ → List ℕ → List ℕ → Option Head �
 waiting_told most rest unit None = None
 waiting_told most rest unit (Some h) =
     if is_bare h unit
-    then (if h.code == answer_code answers.Continue then Some (Sends most rest) else option_map ended_by (refusal most h.code))
+    then (if h.code == answer_code answers.Continue then Some (Sends most rest) else option_map ended_by (refusal_by_code most h.code))
     else None
 
 -- A value of so many bytes, of which these came: it is whole, or it goes on so. More bytes than were said are a fault.
@@ -60,7 +60,7 @@ abbrev pub sent_told : Option ℕ → List ℕ → Option Head → Option Job
 sent_told most unit None = None
 sent_told most unit (Some h) =
     if h.code == answer_code answers.Success then success_told most h unit
-    else (if is_bare h unit then option_map ended_by (refusal most h.code) else None)
+    else (if is_bare h unit then option_map ended_by (refusal_by_code most h.code) else None)
 
 -- What a job comes to by a unit. None where the far end is at fault: nothing was awaited, or something else.
 abbrev pub told : Job → List ℕ → Option Job
@@ -75,14 +75,14 @@ told_on None units = None
 told_on (Some job) [] = Some job
 told_on (Some job) (u ∷ us) = told_on (told job u) us
 
-abbrev pub told_all : Job → List (List ℕ) → Option Job
-told_all job units = told_on (Some job) units
+abbrev pub job_told : Job → List (List ℕ) → Option Job
+job_told job units = told_on (Some job) units
 
 -- What a job comes to by units, where one of this end's waited to be given as they came, or none did. While one waits, each that
 -- comes is a fault: it answers what its sender doesn't have.
 abbrev pub told_in : Bool → Job → List (List ℕ) → Option Job
 told_in waiting job [] = Some job
-told_in waiting job (u ∷ us) = if waiting then None else told_all job (u ∷ us)
+told_in waiting job (u ∷ us) = if waiting then None else job_told job (u ∷ us)
 
 -- one of them has a byte
 abbrev pub has_byte : List (List ℕ) → Bool

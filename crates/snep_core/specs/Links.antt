@@ -1,7 +1,7 @@
 -- What a client of a server put on a link and was told, and what the server accepted there from its SAP.
 use Rattle.std.specs.Prelude.{◌≡◌, ◌⊎◌, ℕ, nat_lt, List, [], ◌∷◌, ◌++◌, length, if◌then◌else◌}
-use Rattle.llcp_conn.specs.Window.{IsFront}
-use Rattle.snep_core.specs.Cuts.{Job, AreJobs, IsJob, units_of}
+use Rattle.nfc_base.specs.Prefix.{IsPrefix}
+use Rattle.snep_core.specs.Cuts.{PutInUnits, AreJobs, IsJob, units_of_puts}
 use Rattle.snep_core.specs.Puts.{Puts}
 
 -- how a put was answered: by success, by a reject, or not at all, since the link ended or memory was wanting
@@ -40,13 +40,13 @@ pub record OneMore (limit : ℕ) (puts : List Put) (accepted : List (List ℕ)) 
 -- What is accepted is the first of the messages that were put and are within the limit, and covers all that were told to be
 -- taken, by at most one more.
 pub record LinkAccepts (limit : ℕ) (puts : List Put) (accepted : List (List ℕ)) : Type 0 where
-  pub fits : IsFront accepted (fitting limit puts)
-  pub covers : IsFront (told_taken limit puts) accepted
+  pub fits : IsPrefix accepted (fitting limit puts)
+  pub covers : IsPrefix (told_taken limit puts) accepted
   pub exact : (accepted ≡ told_taken limit puts) ⊎ OneMore limit puts accepted
 
 -- a put with the units that the client submitted for it, and how it was told
 pub record Answered : Type 0 where
-  pub job : Job
+  pub job : PutInUnits
   pub told : Told
 
 abbrev pub put_of : Answered → Put
@@ -56,7 +56,7 @@ abbrev pub puts_of : List Answered → List Put
 puts_of [] = []
 puts_of (a ∷ more) = put_of a ∷ puts_of more
 
-abbrev pub jobs_of : List Answered → List Job
+abbrev pub jobs_of : List Answered → List PutInUnits
 jobs_of [] = []
 jobs_of (a ∷ more) = a.job ∷ jobs_of more
 
@@ -74,8 +74,8 @@ IsToldSo limit a more = ((more ≡ []) × IsToldRight limit a) ⊎ (a.told ≡ U
 
 -- A client puts one message after the other, the next once the one before was told as it is. Whichever first units of the last one
 -- came: what the units put that came is what a server may accept on such a link.
-abbrev pub LinkLaw : Type 0
-LinkLaw =
+abbrev pub ClientLinkLaw : Type 0
+ClientLinkLaw =
     (limit : ℕ) (done : List Answered) (last : Answered) (part more accepted : List (List ℕ)) → AreJobs limit (jobs_of done)
     → IsJob limit last.job → AreToldRight limit done → last.job.units ≡ part ++ more → IsToldSo limit last more
-    → Puts limit (units_of (jobs_of done) ++ part) accepted → LinkAccepts limit (puts_of done ++ put_of last ∷ []) accepted
+    → Puts limit (units_of_puts (jobs_of done) ++ part) accepted → LinkAccepts limit (puts_of done ++ put_of last ∷ []) accepted

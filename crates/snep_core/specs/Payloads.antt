@@ -1,10 +1,10 @@
 -- What a server accepts on a link, by the payloads alone.
 use Rattle.std.specs.Prelude.{◌≡◌, ◌<◌, ℕ, ◌==◌, List, [], ◌∷◌, ◌++◌, None, if◌then◌else◌}
-use Rattle.llcp_conn.specs.Window.{IsFront}
+use Rattle.nfc_base.specs.Prefix.{IsPrefix}
 use Rattle.llcp_link.specs.State.{LlcState, restarted}
 use Rattle.llcp_link.specs.Taking.{Item, brought, steps, taken_from}
 use Rattle.llcp_link.specs.Units.{Mark, marks, units}
-use Rattle.llcp_link.specs.Running.{Acted, AreBytes, IsRun, end_of, marks_of}
+use Rattle.llcp_link.specs.Running.{Acted, AreBytes, IsRun, end_after_acts, marks_of}
 use Rattle.llcp_link.specs.Answering.{Answers, Stops}
 use Rattle.snep_core.specs.Puts.{Puts}
 use Rattle.snep_core.specs.Server.{Received, ServerState, serving}
@@ -43,42 +43,42 @@ PayloadsAccepted =
     (old : LlcState ServerState) (general : List ℕ) (run : List (Acted ServerState))
     → IsServerRun (restarted serving old general) run → (c : ℕ) → c < sap_count
     → AcceptsPuts c old.service.limit old.miu (marks_of serving c (restarted serving old general) run) old.service.accepted
-    (end_of (restarted serving old general) run).service.accepted
+    (end_after_acts (restarted serving old general) run).service.accepted
 
 -- A place in what an end does: some acts, and some first of the PDUs of a payload behind them.
-pub record Place (begin : LlcState ServerState) : Type 0 where
+pub record PlaceInActs (begin : LlcState ServerState) : Type 0 where
   pub before : List (Acted ServerState)
   pub run : IsServerRun begin before
   pub payload : List ℕ
   pub bytes : AreBytes payload
   pub came : List Item
   pub behind : List Item
-  pub split : brought (end_of begin before) payload ≡ came ++ behind
+  pub split : brought (end_after_acts begin before) payload ≡ came ++ behind
 
 -- the end there, and the PDUs that came until there
-abbrev pub end_there : (begin : LlcState ServerState) → Place begin → LlcState ServerState
-end_there begin p = steps serving (end_of begin p.before) p.came
+abbrev pub end_there : (begin : LlcState ServerState) → PlaceInActs begin → LlcState ServerState
+end_there begin p = steps serving (end_after_acts begin p.before) p.came
 
-abbrev pub marks_there : ℕ → (begin : LlcState ServerState) → Place begin → List Mark
-marks_there c begin p = marks_of serving c begin p.before ++ marks serving c (end_of begin p.before) p.came
+abbrev pub marks_there : ℕ → (begin : LlcState ServerState) → PlaceInActs begin → List Mark
+marks_there c begin p = marks_of serving c begin p.before ++ marks serving c (end_after_acts begin p.before) p.came
 
 -- At each PDU of the payloads, what is accepted until there is what the PDUs until there put, and the first of what is
 -- accepted until the payload's end and whatever is done then. So messages are accepted in the order in which the units
 -- stand that complete them.
-pub record AcceptsThere (old : LlcState ServerState) (begin : LlcState ServerState) (p : Place begin) : Type 0 where
+pub record AcceptsThere (old : LlcState ServerState) (begin : LlcState ServerState) (p : PlaceInActs begin) : Type 0 where
   pub puts : (c : ℕ) → c < sap_count → AcceptsPuts c old.service.limit old.miu (marks_there c begin p) old.service.accepted (end_there begin p).service.accepted
   pub front : (more : List (Acted ServerState)) → IsServerRun (steps serving (end_there begin p) p.behind) more
-      → IsFront (end_there begin p).service.accepted (end_of (steps serving (end_there begin p) p.behind) more).service.accepted
+      → IsPrefix (end_there begin p).service.accepted (end_after_acts (steps serving (end_there begin p) p.behind) more).service.accepted
 
 abbrev pub AcceptedInOrder : Type 0
 AcceptedInOrder =
-    (old : LlcState ServerState) (general : List ℕ) (p : Place (restarted serving old general)) → AcceptsThere old (restarted serving old general) p
+    (old : LlcState ServerState) (general : List ℕ) (p : PlaceInActs (restarted serving old general)) → AcceptsThere old (restarted serving old general) p
 
 -- A step that want of memory left unfinished: what was accepted before it stays, and what it added is the first of what
 -- the payload adds. A whole step adds just that, whatever it replies and with however many PDUs.
 pub record AcceptsSome (old new : LlcState ServerState) (payload : List ℕ) : Type 0 where
-  pub before : IsFront old.service.accepted new.service.accepted
-  pub front : IsFront new.service.accepted (taken_from serving old payload).service.accepted
+  pub before : IsPrefix old.service.accepted new.service.accepted
+  pub front : IsPrefix new.service.accepted (taken_from serving old payload).service.accepted
   pub whole : (count : ℕ) (reply : List ℕ) (done : LlcState ServerState) → Answers serving count old payload reply done
       → done.service.accepted ≡ (taken_from serving old payload).service.accepted
 

@@ -8,7 +8,7 @@ use Rattle.llcp_link.specs.Asking.{acked_of}
 use Rattle.llcp_link.specs.State.{OwnState, own_from}
 use Rattle.llcp_link.specs.Waning.{pending}
 use Rattle.snep_core.specs.Jobs.{Job, Begins, Waits, Sends, Asks, Collects, Looks, Closes, Over}
-use Rattle.snep_core.specs.Talk.{AreApart, EndState, Goes, OnSap, Step, TaskOn, Told, Working, begins_all, most_idle, replied, saps}
+use Rattle.snep_core.specs.Talk.{AreApart, EndState, Goes, OnSap, Step, TaskOn, ComesTo, Working, begins_all, most_idle, replied, saps}
 
 -- an answer, or the first unit of a value, the continue that asks for the rest, and its bytes
 abbrev pub answer_left : Option ℕ → ℕ
@@ -41,13 +41,13 @@ abbrev pub replies_left : Working → ℕ
 replies_left w = 17 * all_to_come w.llc w.jobs + (most_idle - w.idle)
 
 -- the units acknowledged on a connection are counted modulo 2 ^ 32
-abbrev pub IsCounted : EndState → ℕ → Type 0
-IsCounted l sap = acked_of (own_from sap l.own) < count_end
+abbrev pub IsBelowCountEnd : EndState → ℕ → Type 0
+IsBelowCountEnd l sap = acked_of (own_from sap l.own) < count_end
 
 -- what holds of a call that goes on
 pub record IsUnderWay (w : Working) : Type 0 where
   pub apart : AreApart w.jobs
-  pub counted : AllByRecursion (IsCounted w.llc) (saps w.jobs)
+  pub counted : AllByRecursion (IsBelowCountEnd w.llc) (saps w.jobs)
   pub idle : w.idle < most_idle
 
 -- the SAPs of tasks
@@ -59,7 +59,7 @@ task_saps (x ∷ xs) = x.sap ∷ task_saps xs
 abbrev pub CallsBegin : Type 0
 CallsBegin =
     (l : EndState) (tasks : List TaskOn) (w : Working) → IsDistinct eqb (task_saps tasks)
-    → AllByRecursion (IsCounted l) (task_saps tasks) → begins_all l tasks ≡ Goes w → IsUnderWay w
+    → AllByRecursion (IsBelowCountEnd l) (task_saps tasks) → begins_all l tasks ≡ Goes w → IsUnderWay w
 
 -- Whatever is replied: where the call goes on, fewer replies are left.
 abbrev pub RepliesFall : Type 0
@@ -70,4 +70,4 @@ RepliesFall =
 -- So a call hears at most as many replies as were left where it began, however many PDUs its payloads have.
 abbrev pub CallsEnd : Type 0
 CallsEnd =
-    (w : Working) (ns : List ℕ) (did : List FarStep) (to : Step) → IsUnderWay w → Told ns (Goes w) did to → length did ≤ replies_left w
+    (w : Working) (ns : List ℕ) (did : List FarStep) (to : Step) → IsUnderWay w → ComesTo ns (Goes w) did to → length did ≤ replies_left w

@@ -79,10 +79,10 @@ job_from sap [] = None
 job_from sap (x ∷ xs) = if x.sap == sap then Some x.job else job_from sap xs
 
 -- what a job tells of the message that it puts
-abbrev pub told_by : Option Job → Outcome
-told_by (Some (Over Done)) = outcomes.Success
-told_by (Some (Over (Refused r))) = outcomes.Rejected
-told_by _ = outcomes.Staged
+abbrev pub outcome_told : Option Job → Outcome
+outcome_told (Some (Over Done)) = outcomes.Success
+outcome_told (Some (Over (Refused r))) = outcomes.Rejected
+outcome_told _ = outcomes.Staged
 
 -- A message that waits is answered where its job is over.
 abbrev pub answered_as : Outcome → List ℕ → Slot
@@ -95,10 +95,10 @@ marked_as told (Staged m) = answered_as told m
 marked_as told s = s
 
 abbrev pub answered_by : Option Job → List ℕ → Slot
-answered_by job m = answered_as (told_by job) m
+answered_by job m = answered_as (outcome_told job) m
 
 abbrev pub marked : Option Job → Slot → Slot
-marked job s = marked_as (told_by job) s
+marked job s = marked_as (outcome_told job) s
 
 abbrev pub noted_from : ℕ → List OnSap → List Slot → List Slot
 noted_from sap jobs [] = []

@@ -372,14 +372,14 @@ goes_on l jobs idle = if nat_lt idle most_idle then Goes (record { llc = l; jobs
 abbrev pub settled : EndState → List OnSap → ℕ → Step
 settled l jobs idle = if all_over jobs then Ends jobs l else goes_on l jobs idle
 
-abbrev pub told_by : EndState → List OnSap → List CameTo → ℕ → Option (List OnSap) → Step
-told_by l jobs came idle None = given_up l jobs came
-told_by l jobs came idle (Some now) = settled (all_emptied jobs l) now idle
+abbrev pub call_behind : EndState → List OnSap → List CameTo → ℕ → Option (List OnSap) → Step
+call_behind l jobs came idle None = given_up l jobs came
+call_behind l jobs came idle (Some now) = settled (all_emptied jobs l) now idle
 
 -- what a call is once its end gave a payload and took the reply
 abbrev pub took : EndState → EndState → List OnSap → ℕ → Step
 took old l jobs idle =
-    told_by l jobs (all_heard old l jobs) (idle_after (gave_any old l jobs) idle) (all_well (all_heard old l jobs))
+    call_behind l jobs (all_heard old l jobs) (idle_after (gave_any old l jobs) idle) (all_well (all_heard old l jobs))
 
 -- What a call is once its payload, with so many PDUs in it, was answered.
 abbrev pub replied_ready : ℕ → Working → List ℕ → Step
@@ -394,11 +394,11 @@ payload n w = given silent n (ready w).llc
 
 -- A call came from one step to another as its far end made these steps, where each payload is the next one, with as
 -- many PDUs in it as the next of these numbers says.
-abbrev pub Told : List ℕ → Step → List FarStep → Step → Type 0
-Told ns from [] to = to ≡ from
-Told ns (Goes w) (Stepped out reply ∷ did) to =
-    (out ≡ payload (first_number ns) w) × Told (later_numbers ns) (replied (first_number ns) w reply) did to
-Told ns _ _ to = ⊥
+abbrev pub ComesTo : List ℕ → Step → List FarStep → Step → Type 0
+ComesTo ns from [] to = to ≡ from
+ComesTo ns (Goes w) (Stepped out reply ∷ did) to =
+    (out ≡ payload (first_number ns) w) × ComesTo (later_numbers ns) (replied (first_number ns) w reply) did to
+ComesTo ns _ _ to = ⊥
 
 -- the numbers that are left behind these steps
 abbrev pub numbers_behind : List FarStep → List ℕ → List ℕ

@@ -3,7 +3,7 @@
 ghost use Rattle.std.specs.List.{AllByRecursion, IsDistinct};
 ghost use Rattle.std.specs.Prelude.{◌≡◌, eqb, true, IfErr, IfOk, OnOk};
 ghost use Rattle.llcp_link.specs.Asking.{disconnected_by, is_open_by};
-ghost use Rattle.snep_core.specs.RepliesLeft.{IsCounted};
+ghost use Rattle.snep_core.specs.RepliesLeft.{IsBelowCountEnd};
 ghost use Rattle.snep_core.specs.Talk.{Leaves, all_opening, leave_from, opening, own_of, ready_so, some_open};
 ghost use Rattle.snep_core.specs.declared.fault.SnepFault.{SnepFault};
 
@@ -41,7 +41,7 @@ impl ClientEnd {
     /// Ends the connection from a SAP, where it is open.
     fn leave(&mut self, sap: u8) -> Result<Job, SnepFault>
         ensures ok { IfOk result (λ job. opening self.old.llc sap Leaves ≡ ready_so self.new.llc job) }
-        ensures counted { OnOk result (IsCounted self.old.llc sap) }
+        ensures counted { OnOk result (IsBelowCountEnd self.old.llc sap) }
         ensures going { OnOk result (self.new.spent ≡ self.old.spent) }
         ensures err { IfErr result (λ e. e ≡ SnepFault.Memory) }
         ensures spent { IfErr result (λ e. self.new.spent ≡ true) }
@@ -63,7 +63,7 @@ impl ClientEnd {
         requires { IsDistinct eqb saps.now }
         ensures ok { IfOk result (λ jobs.
             all_opening (leave_from saps.now) self.old.llc ≡ record { llc = self.new.llc; jobs = jobs.items }) }
-        ensures counted { OnOk result (AllByRecursion (IsCounted self.old.llc) saps.now) }
+        ensures counted { OnOk result (AllByRecursion (IsBelowCountEnd self.old.llc) saps.now) }
         ensures going { OnOk result (self.new.spent ≡ self.old.spent) }
         ensures err { IfErr result (λ e. e ≡ SnepFault.Memory) }
         ensures spent { IfErr result (λ e. self.new.spent ≡ true) }

@@ -4,7 +4,7 @@
 ghost use Rattle.snep_core.specs.Accord.{CountedServe, OffersAccord, PeersServe};
 ghost use Rattle.snep_core.specs.Puts.{PutsOne};
 ghost use Rattle.snep_core.specs.Cuts.{FrontsPut, LastPut};
-ghost use Rattle.snep_core.specs.Links.{LinkLaw};
+ghost use Rattle.snep_core.specs.Links.{ClientLinkLaw};
 ghost use Rattle.snep_core.specs.Payloads.{AcceptedInOrder, CutOffAccepts, PayloadsAccepted};
 ghost use Rattle.snep_core.specs.RepliesLeft.{CallsBegin, CallsEnd, RepliesFall};
 
@@ -28,7 +28,7 @@ pub fn last_put()
 /// one came: what they put is a front of its messages that are within the limit, all that were told to be taken, and at
 /// most the last one more, which wasn't answered.
 pub fn link()
-    ensures { LinkLaw }
+    ensures { ClientLinkLaw }
 {}
 
 /// Whatever payloads come after a restart: what a server accepts from a client's SAP is what the units of its

@@ -4,7 +4,7 @@ ghost use Rattle.std.specs.List.{AllByRecursion};
 ghost use Rattle.std.specs.Prelude.{◌≡◌, ◌<◌, ◌≤◌, ◌⊎◌, ◌++◌, [], false, length, true, IfErr, IfOk, OnErr, OnOk};
 ghost use Rattle.snep_core.specs.Accord.{AtPeers, IsRun, RunFails};
 ghost use Rattle.snep_core.specs.Calling.{RunFailsAt, RunsTo, is_memory};
-ghost use Rattle.snep_core.specs.RepliesLeft.{IsCounted, task_saps};
+ghost use Rattle.snep_core.specs.RepliesLeft.{IsBelowCountEnd, task_saps};
 ghost use Rattle.snep_core.specs.Slots.{AllFit, FitsSlot, all_puts, put_with, is_staged_at, outcome_of, slot_at, slot_count, staged_on};
 ghost use Rattle.snep_core.specs.Talk.{Puts, all_opening, opening, ready_so};
 ghost use Rattle.snep_core.specs.declared.fault.SnepFault.{SnepFault};
@@ -23,7 +23,7 @@ impl ClientEnd {
         requires sap { (32 ≤ sap) × (sap ≤ 39) }
         requires message { length message.now ≤ 65536 }
         ensures ok { IfOk result (λ job. opening self.old.llc sap (Puts message.now) ≡ ready_so self.new.llc job) }
-        ensures counted { OnOk result (IsCounted self.old.llc sap) }
+        ensures counted { OnOk result (IsBelowCountEnd self.old.llc sap) }
         ensures going { OnOk result (self.new.spent ≡ self.old.spent) }
         ensures err { IfErr result (λ e. e ≡ SnepFault.Memory) }
         ensures spent { IfErr result (λ e. self.new.spent ≡ true) }
@@ -47,7 +47,7 @@ impl ClientEnd {
         requires fit { FitsSlot slot.now }
         ensures llc { OnOk result (self.new.llc ≡ (all_opening (put_with sap slot.now []) self.old.llc).llc) }
         ensures jobs { OnOk result (jobs.new.items ≡ jobs.old.items ++ (all_opening (put_with sap slot.now []) self.old.llc).jobs) }
-        ensures counted { OnOk result (AllByRecursion (IsCounted self.old.llc) (task_saps (put_with sap slot.now []))) }
+        ensures counted { OnOk result (AllByRecursion (IsBelowCountEnd self.old.llc) (task_saps (put_with sap slot.now []))) }
         ensures going { OnOk result (self.new.spent ≡ self.old.spent) }
         ensures err { IfErr result (λ e. e ≡ SnepFault.Memory) }
         ensures spent { IfErr result (λ e. self.new.spent ≡ true) }
@@ -73,7 +73,7 @@ impl ClientEnd {
         requires fit { AllFit slots.now }
         ensures ok { IfOk result (λ jobs.
             all_opening (all_puts slots.now) self.old.llc ≡ record { llc = self.new.llc; jobs = jobs.items }) }
-        ensures counted { OnOk result (AllByRecursion (IsCounted self.old.llc) (task_saps (all_puts slots.now))) }
+        ensures counted { OnOk result (AllByRecursion (IsBelowCountEnd self.old.llc) (task_saps (all_puts slots.now))) }
         ensures going { OnOk result (self.new.spent ≡ self.old.spent) }
         ensures err { IfErr result (λ e. e ≡ SnepFault.Memory) }
         ensures spent { IfErr result (λ e. self.new.spent ≡ true) }

@@ -1,7 +1,7 @@
 //! The slots of a client: what was staged on each, and how it ended.
 
 ghost use Rattle.std.specs.Prelude.{◌≡◌, ◌<◌, ◌≤◌, Some, length, set};
-ghost use Rattle.snep_core.specs.Slots.{AllFit, dropped, fresh_slots, has_staged, is_staged_at, job_from, marked_as, most_staged, noted, outcome_of, put_left, slot_at, slot_count, some_staged, staged_on, told_by};
+ghost use Rattle.snep_core.specs.Slots.{AllFit, dropped, fresh_slots, has_staged, is_staged_at, job_from, marked_as, most_staged, noted, outcome_of, put_left, slot_at, slot_count, some_staged, staged_on, outcome_told};
 ghost use Rattle.snep_core.specs.Calling.{slots_left};
 
 use crate::client::CLIENT_SAP;
@@ -106,7 +106,7 @@ impl Slot {
 
 /// What a job tells of the message that it puts.
 fn told(job: &Job) -> Outcome
-    ensures { result ≡ told_by (Some job.now) }
+    ensures { result ≡ outcome_told (Some job.now) }
 {
     match job {
         Job::Over(Ending::Done) => Outcome::Success,
@@ -117,7 +117,7 @@ fn told(job: &Job) -> Outcome
 
 /// What the job on the connection from a SAP tells.
 fn told_from(sap: u8, jobs: &[OnSap]) -> Outcome
-    ensures { result ≡ told_by (job_from sap jobs.now) }
+    ensures { result ≡ outcome_told (job_from sap jobs.now) }
 {
     'jobs: for one in jobs {
         if one.sap == sap {

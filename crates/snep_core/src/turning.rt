@@ -1,7 +1,7 @@
 //! What a client exchanges with a far end until its jobs are over.
 
 ghost use Rattle.std.specs.Prelude.{◌≡◌, ◌<◌, ℕ, List, false, true, [], IfOk, IfErr, OnOk};
-ghost use Rattle.snep_core.specs.Calling.{Exchanged, FailsAt, FailsBy, IsCut, IsStep, Talks, Turned, fault_of, is_memory};
+ghost use Rattle.snep_core.specs.Calling.{ExchangedOnce, FailsAt, FailsBy, IsCut, IsStep, Talks, Turned, fault_of, is_memory};
 ghost use Rattle.snep_core.specs.Jobs.{Over};
 ghost use Rattle.snep_core.specs.Listening.{all_awaiting, forgets};
 ghost use Rattle.snep_core.specs.RepliesLeft.{IsUnderWay};
@@ -114,7 +114,7 @@ impl ClientEnd {
         requires ready { C.ready carrier.old }
         requires going { self.old.spent ≡ false }
         ensures ok { IfOk result (λ all.
-            Exchanged C.seen C.swaps A.steps A.stops count jobs.items self.old.llc carrier.old far.old all.items
+            ExchangedOnce C.seen C.swaps A.steps A.stops count jobs.items self.old.llc carrier.old far.old all.items
             self.new.llc carrier.new far.new) }
         ensures going { OnOk result (self.new.spent ≡ false) }
         ensures err { IfErr result (λ e.

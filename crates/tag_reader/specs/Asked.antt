@@ -9,6 +9,7 @@ use Rattle.tag_reader.specs.declared.how.How.TheVariants.{T2, T4, T5}
 use Rattle.tag_reader.specs.Blocks.{IsBlockDue, IsBlockLeft}
 use Rattle.tag_reader.specs.Files.{IsFileDue}
 use Rattle.tag_reader.specs.Kinds.{area_of, first}
+use Rattle.nfc_base.specs.Prefix.{IsPrefix}
 
 -- With the answers to the first n READs of a Type 2 tag the walk over the area needs a byte past them.
 pub record NeedsMore (size : ℕ) (store : List ℕ) (n : ℕ) : Type 0 where
@@ -76,7 +77,3 @@ IsSurveyed how size store n = IsDueFor ToWrite how size store n
 
 abbrev pub AreSurveyed : How → ℕ → List ℕ → ℕ → Type 0
 AreSurveyed how size store n = AreDueFor ToWrite how size store n
-
--- these commands are the first of those
-abbrev pub IsFront : List Signal → List Signal → Type 0
-IsFront front commands = (rest : List Signal) × (commands ≡ front ++ rest)

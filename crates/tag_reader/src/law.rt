@@ -6,7 +6,8 @@ ghost use Rattle.nfc_base.specs.Signal.{Signal};
 ghost use Rattle.t2t_tag.specs.Store.{IsT2Store};
 ghost use Rattle.tag_reader.specs.declared.how.How.TheVariants as hows;
 ghost use Rattle.tag_reader.specs.Kinds.{IsStore, first};
-ghost use Rattle.tag_reader.specs.Asked.{IsAsked, AreDue, IsDue, IsFront};
+ghost use Rattle.tag_reader.specs.Asked.{IsAsked, AreDue, IsDue};
+ghost use Rattle.nfc_base.specs.Prefix.{IsPrefix};
 
 use crate::finding::space_of;
 use crate::how::How;
@@ -40,7 +41,7 @@ pub fn one_asked(how: How, size: usize, store: &[u8])
     ensures some { (commands : List Signal) × IsAsked how size store.now commands }
     ensures one { (xs ys : List Signal) → IsAsked how size store.now xs → IsAsked how size store.now ys → xs ≡ ys }
     ensures front { (n : ℕ) (xs : List Signal) → AreDue how size store.now n → IsAsked how size store.now xs →
-        IsFront (first how size store.now n) xs }
+        IsPrefix (first how size store.now n) xs }
 {
     match how {
         How::T2 => {

@@ -27,7 +27,7 @@ use Rattle.tag_writer.specs.WriteAsked.{all_puts, AreAreaPuts, ArePuts}
 use Rattle.tag_writer.specs.Law.{IsEmptied, IsWritten}
 use Rattle.tag_writer.specs.Puttings.{IsPutOf, IsBlockPut}
 use Rattle.tag_writer.specs.Counts.{IsHomePut, writes_at, EachIsOther, AreFew}
-use Rattle.tag_writer.specs.Phases.{Job, Serves, plan_parts}
+use Rattle.tag_writer.specs.Phases.{WriteJob, Serves, plan_parts}
 use Rattle.tag_writer.proofs.Counting.{first_of_span, blocks_twice, blocks_once, blocks_other}
 use Rattle.tag_writer.proofs.Jobs.{all_front, all_rest}
 use Rattle.tag_writer.proofs.Touching.{blocks_inside, all_both}
@@ -157,7 +157,7 @@ module _ (how : How) (size : ℕ) (m : AreaMap) (store message : List ℕ) (plan
   low least f = blocks_inside block m.space.end store message area_puts.new is.t is.after plan (λ k. least ≤ k) is.map'.lies is.map'.message area_puts.is_plan (λ a here. f a (keeps.inside a here).0)
 
   -- the job
-  abbrev pub job : Job
+  abbrev pub job : WriteJob
   job = record { how = how; size = size; store = store; message = message; place = place; parts = plan_parts how size plan }
 
   -- the home block is that of the span's first address

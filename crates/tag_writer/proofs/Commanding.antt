@@ -20,7 +20,7 @@ use Rattle.tag_writer.specs.declared.work.Work.{Work}
 use Rattle.tag_writer.specs.declared.work.Work.TheVariants.{Blocks, File}
 use Rattle.tag_writer.specs.Puts.{Put, commands_of, block_puts, block_command, most_brought, update_command, update_put, piece_of, file_puts}
 use Rattle.tag_writer.specs.Puttings.{signal_at}
-use Rattle.tag_writer.specs.Phases.{Job, IsWork, how_of, next_at}
+use Rattle.tag_writer.specs.Phases.{WriteJob, IsWork, how_of, next_at}
 use Rattle.tag_writer.specs.Works.{IsStepFor, steps_at, IsPieceAt}
 use Rattle.tag_writer.specs.Commands.{updates_in, commands_at, command_at, IsFit}
 use Rattle.tag_writer.proofs.Doing.{t2_may, t5_may}
@@ -124,7 +124,7 @@ file_commands Filled store message most close brings closes = by_length (length 
     by_length true = refl
     by_length false = refl
 
-pub commands_are : (phase : Phase) (j : Job) (work : Work) → IsWork j work → commands_of (next_at phase j) ≡ commands_at phase work
+pub commands_are : (phase : Phase) (j : WriteJob) (work : Work) → IsWork j work → commands_of (next_at phase j) ≡ commands_at phase work
 commands_are phase j (Blocks how plan) is = ap commands_of (next_steps phase j how plan is) ∙ commands_block how j.size (steps_at phase plan)
 commands_are phase j (File message most close) is =
     ap commands_of (next_updates phase j message most close is) ∙ file_commands phase j.store message most close is.parts.most' is.parts.close'
@@ -138,10 +138,10 @@ length_of : (ps : List Put) → length (commands_of ps) ≡ length ps
 length_of [] = refl
 length_of (p ∷ ps) = ap suc (length_of ps)
 
-pub counted_as : (phase : Phase) (j : Job) (work : Work) (n : ℕ) → IsWork j work → n ≡ length (commands_at phase work) → n ≡ length (next_at phase j)
+pub counted_as : (phase : Phase) (j : WriteJob) (work : Work) (n : ℕ) → IsWork j work → n ≡ length (commands_at phase work) → n ≡ length (next_at phase j)
 counted_as phase j work n is count = count ∙ ap length (sym (commands_are phase j work is)) ∙ length_of (next_at phase j)
 
-pub commanded_as : (phase : Phase) (j : Job) (work : Work) (k : ℕ) (c : Signal) → IsWork j work → c ≡ command_at (commands_at phase work) k → c ≡ signal_at (next_at phase j) k
+pub commanded_as : (phase : Phase) (j : WriteJob) (work : Work) (k : ℕ) (c : Signal) → IsWork j work → c ≡ command_at (commands_at phase work) k → c ≡ signal_at (next_at phase j) k
 commanded_as phase j work k c is asks = asks ∙ ap (λ cs. command_at cs k) (sym (commands_are phase j work is)) ∙ sym (signals_commands (next_at phase j) k)
 
 -- what a tag of the work's kind may be asked

@@ -25,7 +25,7 @@ use Rattle.tag_writer.specs.WriteAsked.{all_puts}
 use Rattle.tag_writer.specs.Law.{IsEmptied, IsWritten}
 use Rattle.tag_writer.specs.Puttings.{IsUpdatePut}
 use Rattle.tag_writer.specs.Counts.{IsHomePut}
-use Rattle.tag_writer.specs.Phases.{Job, Serves, file_parts}
+use Rattle.tag_writer.specs.Phases.{WriteJob, Serves, file_parts}
 use Rattle.tag_writer.proofs.Addresses.{LiesBetween, outside_puts, all_run}
 use Rattle.tag_writer.proofs.AreaJobs.{all_take}
 use Rattle.tag_writer.proofs.Counting.{home, file_few}
@@ -167,7 +167,7 @@ few : (v : Bool) (p : Put) → length (if v then [] else p ∷ []) ≤ 1
 few true p = omega arith
 few false p = omega arith
 
-abbrev pub file_job : ℕ → List ℕ → List ℕ → Job
+abbrev pub file_job : ℕ → List ℕ → List ℕ → WriteJob
 file_job size store message = record { how = T4; size = size; store = store; message = message; place = file_place store message; parts = file_parts store message }
 
 pub file_serves : (size : ℕ) (store message : List ℕ) → IsRoomFor store message → Serves (file_job size store message)

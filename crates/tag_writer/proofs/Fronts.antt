@@ -6,7 +6,7 @@ use Rattle.tag_writer.specs.declared.phase.Phase.TheVariants.{Prepared, Emptied,
 use Rattle.tag_writer.specs.Puts.{Put, after_puts}
 use Rattle.tag_writer.specs.Law.{IsEmptied, IsWritten}
 use Rattle.tag_writer.specs.Ends.{Stands}
-use Rattle.tag_writer.specs.Phases.{Job, Serves, made_at, next_at}
+use Rattle.tag_writer.specs.Phases.{WriteJob, Serves, made_at, next_at}
 use Rattle.tag_writer.proofs.Places.{after_append}
 use Rattle.tag_writer.proofs.Going.{Kinds, Empty, New}
 
@@ -32,17 +32,17 @@ take_some : (ps front rest : List Put) (n : ℕ) → ps ≡ front ++ rest → n 
 take_some ps front rest n e low = ap (λ xs. take n xs) e ∙ take-append-le n front rest low
 
 -- behind the close and a front of fill
-pub filled_empty : (j : Job) → Serves j → (n : ℕ) → IsEmptied j.how j.size j.place j.store (after_puts (after_puts j.store j.parts.close) (take n j.parts.fill))
+pub filled_empty : (j : WriteJob) → Serves j → (n : ℕ) → IsEmptied j.how j.size j.place j.store (after_puts (after_puts j.store j.parts.close) (take n j.parts.fill))
 filled_empty j s n = subst (IsEmptied j.how j.size j.place j.store) (after_append j.store j.parts.close (take n j.parts.fill)) (s.empty n)
 
-closed_empty : (j : Job) → Serves j → IsEmptied j.how j.size j.place j.store (after_puts j.store j.parts.close)
+closed_empty : (j : WriteJob) → Serves j → IsEmptied j.how j.size j.place j.store (after_puts j.store j.parts.close)
 closed_empty j s = subst (λ ps. IsEmptied j.how j.size j.place j.store (after_puts j.store ps)) (append-nil j.parts.close) (s.empty 0)
 
 whole_take : (ps : List Put) → take (length ps) ps ≡ ps
 whole_take ps = take_front ps ps [] (sym (append-nil ps))
 
 -- each front of what follows a phase leaves the empty message, where another write follows
-pub front_empty : (phase : Phase) (j : Job) → Serves j → (front rest : List Put) (p : Put) → next_at phase j ≡ front ++ p ∷ rest → (n : ℕ) → n < length front →
+pub front_empty : (phase : Phase) (j : WriteJob) → Serves j → (front rest : List Put) (p : Put) → next_at phase j ≡ front ++ p ∷ rest → (n : ℕ) → n < length front →
     IsEmptied j.how j.size j.place j.store (after_puts (after_puts j.store (made_at phase j)) (take (suc n) front))
 front_empty Prepared j s front rest p e n low = absurd (let none = (alone j.parts.close front rest p s.first e).0 in omega (arith, ap length none, low))
 front_empty Emptied j s front rest p e n low =
@@ -50,7 +50,7 @@ front_empty Emptied j s front rest p e n low =
 front_empty Filled j s front rest p e n low = absurd (let none = (alone j.parts.last front rest p s.last e).0 in omega (arith, ap length none, low))
 
 -- all of it, but behind the last phase
-pub next_empty : (phase : Phase) (j : Job) → Serves j → (phase ≡ Filled → ⊥) → (n : ℕ) → n < length (next_at phase j) →
+pub next_empty : (phase : Phase) (j : WriteJob) → Serves j → (phase ≡ Filled → ⊥) → (n : ℕ) → n < length (next_at phase j) →
     IsEmptied j.how j.size j.place j.store (after_puts (after_puts j.store (made_at phase j)) (take (suc n) (next_at phase j)))
 next_empty Prepared j s not n low =
     let one : suc n ≡ length j.parts.close = omega (arith, s.first, low) in
@@ -59,7 +59,7 @@ next_empty Emptied j s not n low = filled_empty j s (suc n)
 next_empty Filled j s not n low = absurd (not refl)
 
 -- one write more leaves the empty message, or at the end the new one
-pub kind_next : (phase : Phase) (j : Job) (x : List ℕ) → Serves j → (front rest : List Put) (p : Put) → next_at phase j ≡ front ++ p ∷ rest →
+pub kind_next : (phase : Phase) (j : WriteJob) (x : List ℕ) → Serves j → (front rest : List Put) (p : Put) → next_at phase j ≡ front ++ p ∷ rest →
     Kinds j x (after_puts (after_puts j.store (made_at phase j)) (front ++ p ∷ []))
 kind_next Prepared j x s front rest p e =
     let none = alone j.parts.close front rest p s.first e in
@@ -73,7 +73,7 @@ kind_next Filled j x s front rest p e =
     New (subst (λ t. IsWritten j.how j.size j.message j.place j.store t) (after_append j.store (j.parts.close ++ j.parts.fill) j.parts.last ∙ ap (after_puts (after_puts j.store (j.parts.close ++ j.parts.fill))) same) s.new)
 
 -- what stands behind a front
-pub front_stands : (phase : Phase) (j : Job) → Serves j → (front rest : List Put) (p : Put) → next_at phase j ≡ front ++ p ∷ rest → Stands phase j (after_puts j.store (made_at phase j ++ front))
+pub front_stands : (phase : Phase) (j : WriteJob) → Serves j → (front rest : List Put) (p : Put) → next_at phase j ≡ front ++ p ∷ rest → Stands phase j (after_puts j.store (made_at phase j ++ front))
 front_stands Prepared j s front rest p e = ap (after_puts j.store) (alone j.parts.close front rest p s.first e).0
 front_stands Emptied j s front rest p e =
     subst (λ ps. IsEmptied j.how j.size j.place j.store (after_puts j.store (j.parts.close ++ ps))) (take_front j.parts.fill front (p ∷ rest) e) (s.empty (length front))

@@ -9,7 +9,7 @@ use Rattle.tag_writer.specs.Puts.{Put, put_into, after_puts, commands_of}
 use Rattle.tag_writer.specs.WriteAsked.{refusal_in, refused_by, last_command}
 use Rattle.tag_writer.specs.Law.{IsEmptied, IsWritten, last_store}
 use Rattle.tag_writer.specs.Puttings.{Obeyed, Accepts, Makes, IsPutOf}
-use Rattle.tag_writer.specs.Phases.{Job, Since}
+use Rattle.tag_writer.specs.Phases.{WriteJob, Since}
 use Rattle.tag_writer.proofs.Asking.{last_snoc, refused_at, commands_append}
 use Rattle.tag_writer.proofs.Tags.{IsUnder, state_behind, under_on}
 
@@ -17,21 +17,21 @@ use Rattle.tag_writer.proofs.Tags.{IsUnder, state_behind, under_on}
 new_images : (P : List ℕ → Type 0) (b c : LinkView) (d : Signal) (o : Obeyed b c d) → P (b.step b.state d).after.store → AllByRecursion P (passed b.step b.state o.more)
 new_images P b c d o here = all_map (λ t. t ≡ (b.step b.state d).after.store) P (passed b.step b.state o.more) (λ t e. subst P (sym e) here) o.images'
 
-images_on : (j : Job) (a b c : LinkView) (puts : List Put) (d : Signal) (s : Since j a b puts) (o : Obeyed b c d) → images a (s.more ++ o.more) ≡ (s.before ++ s.during) ++ passed b.step b.state o.more
+images_on : (j : WriteJob) (a b c : LinkView) (puts : List Put) (d : Signal) (s : Since j a b puts) (o : Obeyed b c d) → images a (s.more ++ o.more) ≡ (s.before ++ s.during) ++ passed b.step b.state o.more
 images_on j a b c puts d s o =
     ap (λ ys. a.state.store ∷ ys) (passed_on a b c s.more o.more s.leads o.leads) ∙ ap (λ ys. ys ++ passed b.step b.state o.more) s.joined
 
 -- the view behind one command more, by the step at which the writing began
-state_on : (j : Job) (a b c : LinkView) (puts : List Put) (p : Put) → Since j a b puts → Accepts j.how b c p.command → c.state ≡ after_all a.step (surveyed j.how a.state) (commands_of (puts ++ p ∷ []))
+state_on : (j : WriteJob) (a b c : LinkView) (puts : List Put) (p : Put) → Since j a b puts → Accepts j.how b c p.command → c.state ≡ after_all a.step (surveyed j.how a.state) (commands_of (puts ++ p ∷ []))
 state_on j a b c puts p s x =
     x.0.state ∙ ap (λ st. (st b.state p.command).after) s.leads.step ∙ ap (λ t. (a.step t p.command).after) s.state
     ∙ sym (after_append a.step (surveyed j.how a.state) (commands_of puts) (p.command ∷ []))
     ∙ sym (ap (λ cs. after_all a.step (surveyed j.how a.state) cs) (commands_append puts (p ∷ [])))
 
-pub answer_at : (j : Job) (a b : LinkView) (puts : List Put) (d : Signal) → Since j a b puts → (b.step b.state d).answer ≡ (a.step (after_all a.step (surveyed j.how a.state) (commands_of puts)) d).answer
+pub answer_at : (j : WriteJob) (a b : LinkView) (puts : List Put) (d : Signal) → Since j a b puts → (b.step b.state d).answer ≡ (a.step (after_all a.step (surveyed j.how a.state) (commands_of puts)) d).answer
 answer_at j a b puts d s = ap (λ st. (st b.state d).answer) s.leads.step ∙ ap (λ t. (a.step t d).answer) s.state
 
-pub accepted_on : (j : Job) (a b c : LinkView) (puts : List Put) (p : Put) → Since j a b puts → Accepts j.how b c p.command → refused_by j.how a.step (surveyed j.how a.state) (commands_of (puts ++ p ∷ [])) ≡ None
+pub accepted_on : (j : WriteJob) (a b c : LinkView) (puts : List Put) (p : Put) → Since j a b puts → Accepts j.how b c p.command → refused_by j.how a.step (surveyed j.how a.state) (commands_of (puts ++ p ∷ [])) ≡ None
 accepted_on j a b c puts p s x =
     let here : refusal_in j.how (a.step (after_all a.step (surveyed j.how a.state) (commands_of puts)) p.command).answer ≡ None = ap (refusal_in j.how) (sym (answer_at j a b puts p.command s)) ∙ x.1 in
     ap (λ cs. refused_by j.how a.step (surveyed j.how a.state) cs) (commands_append puts (p ∷ []))
@@ -39,18 +39,18 @@ accepted_on j a b c puts p s x =
     ∙ rw here refl
 
 -- what was asked, with one command more
-pub answered_on : (j : Job) (a b c : LinkView) (puts : List Put) (p : Put) → (s : Since j a b puts) → Accepts j.how b c p.command → c.answered ≡ a.answered ++ (s.read ++ commands_of (puts ++ p ∷ []))
+pub answered_on : (j : WriteJob) (a b c : LinkView) (puts : List Put) (p : Put) → (s : Since j a b puts) → Accepts j.how b c p.command → c.answered ≡ a.answered ++ (s.read ++ commands_of (puts ++ p ∷ []))
 answered_on j a b c puts p s x =
     x.0.answered ∙ ap (λ ys. ys ++ p.command ∷ []) s.answered ∙ append_assoc a.answered (s.read ++ commands_of puts) (p.command ∷ [])
     ∙ ap (λ ys. a.answered ++ ys) (append_assoc s.read (commands_of puts) (p.command ∷ []) ∙ ap (λ ys. s.read ++ ys) (sym (commands_append puts (p ∷ []))))
 
-pub last_on : (j : Job) (a b c : LinkView) (puts : List Put) (p : Put) → (s : Since j a b puts) → Accepts j.how b c p.command → c.last ≡ last_command a.last (s.read ++ commands_of (puts ++ p ∷ []))
+pub last_on : (j : WriteJob) (a b c : LinkView) (puts : List Put) (p : Put) → (s : Since j a b puts) → Accepts j.how b c p.command → c.last ≡ last_command a.last (s.read ++ commands_of (puts ++ p ∷ []))
 last_on j a b c puts p s x =
     x.0.last ∙ sym (ap (λ cs. last_command a.last cs) (ap (λ ys. s.read ++ ys) (commands_append puts (p ∷ [])) ∙ sym (append_assoc s.read (commands_of puts) (p.command ∷ [])))
     ∙ last_snoc a.last (s.read ++ commands_of puts) p.command)
 
 -- One write more, that leaves the empty message.
-pub since_one : (j : Job) (a b c : LinkView) (p : Put) (puts : List Put) → Since j a b puts → IsUnder j.how j.size j.store b → IsPutOf j.how j.size j.store p → Accepts j.how b c p.command →
+pub since_one : (j : WriteJob) (a b c : LinkView) (p : Put) (puts : List Put) → Since j a b puts → IsUnder j.how j.size j.store b → IsPutOf j.how j.size j.store p → Accepts j.how b c p.command →
     IsEmptied j.how j.size j.place j.store (put_into b.state.store p) → Since j a c (puts ++ p ∷ [])
 since_one j a b c p puts s under is x empty =
     let behind : c.state ≡ record b.state { store = put_into b.state.store p } = state_behind j.how j.size j.store b c p under is x in
@@ -79,7 +79,7 @@ since_one j a b c p puts s under is x empty =
     }
 
 -- several, each of which leaves the empty message
-pub since_makes : (j : Job) (a b c : LinkView) (puts ps : List Put) → Since j a b puts → IsUnder j.how j.size j.store b → AllByRecursion (IsPutOf j.how j.size j.store) ps → Makes j.how b ps c →
+pub since_makes : (j : WriteJob) (a b c : LinkView) (puts ps : List Put) → Since j a b puts → IsUnder j.how j.size j.store b → AllByRecursion (IsPutOf j.how j.size j.store) ps → Makes j.how b ps c →
     ((n : ℕ) → n < length ps → IsEmptied j.how j.size j.place j.store (after_puts b.state.store (take (suc n) ps))) → Since j a c (puts ++ ps)
 since_makes j a b c puts [] s under all m empty =
     subst (λ v. Since j a v (puts ++ [])) (sym m) (subst (λ qs. Since j a b qs) (sym (append-nil puts)) s)
@@ -93,15 +93,15 @@ since_makes j a b c puts (p ∷ ps) s under all m empty =
     subst (λ qs. Since j a c qs) (append_assoc puts (p ∷ []) ps) rest
 
 -- The kinds of stores that one command more may leave: the one before, or one that holds the empty message, or the new one.
-pub data Kinds (j : Job) (before s : List ℕ) : Type 0 where
+pub data Kinds (j : WriteJob) (before s : List ℕ) : Type 0 where
   Same : s ≡ before → Kinds j before s
   Empty : IsEmptied j.how j.size j.place j.store s → Kinds j before s
   New : IsWritten j.how j.size j.message j.place j.store s → Kinds j before s
 
-abbrev pub Three : Job → List (List ℕ) → Type 0
+abbrev pub Three : WriteJob → List (List ℕ) → Type 0
 Three j xs = PassInThree (λ s. s ≡ j.store) (IsEmptied j.how j.size j.place j.store) (IsWritten j.how j.size j.message j.place j.store) xs
 
-pub three_on : (j : Job) (a b c : LinkView) (puts : List Put) (d : Signal) (s : Since j a b puts) (o : Obeyed b c d) → Kinds j b.state.store (b.step b.state d).after.store → Three j (images a (s.more ++ o.more))
+pub three_on : (j : WriteJob) (a b c : LinkView) (puts : List Put) (d : Signal) (s : Since j a b puts) (o : Obeyed b c d) → Kinds j b.state.store (b.step b.state d).after.store → Three j (images a (s.more ++ o.more))
 three_on j a b c puts d s o (Same e) = by_now s.now
   where
     new : List (List ℕ)

@@ -11,14 +11,14 @@ use Rattle.tag_writer.specs.declared.phase.Stopped.{Stopped}
 use Rattle.tag_writer.specs.declared.work.Work.{Work}
 use Rattle.tag_writer.specs.Commands.{commands_at}
 use Rattle.tag_writer.specs.Ends.{HasReached, HasStopped, EndsPhase, HasFailed, EndsWork}
-use Rattle.tag_writer.specs.Phases.{Job, Since, how_of}
+use Rattle.tag_writer.specs.Phases.{WriteJob, Since, how_of}
 use Rattle.tag_writer.specs.Puts.{Put}
 use Rattle.tag_writer.specs.WriteHeard.{AreAcknowledged}
 use Rattle.tag_writer.proofs.Acknowledging.{acknowledged_on, of_left, stops_before, stops_behind}
 use Rattle.tag_writer.proofs.Calming.{calm_on}
 
 -- in calm since the view at which the writing began
-still : (j : Job) (a b c : LinkView) (puts : List Put) → Since j a b puts → Rises b c → IsCalm a c → IsCalm b c
+still : (j : WriteJob) (a b c : LinkView) (puts : List Put) → Since j a b puts → Rises b c → IsCalm a c → IsCalm b c
 still j a b c puts s rises calm = calm_on a b c (record { rises = s.rises; link = inr s.goes_on }) rises calm
 
 -- behind a phase that is reached the link leads to a tag of the same kind

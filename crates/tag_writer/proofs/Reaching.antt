@@ -18,7 +18,7 @@ use Rattle.tag_writer.specs.Puts.{Put, after_puts, commands_of}
 use Rattle.tag_writer.specs.WriteAsked.{all_puts, refused_by, last_command}
 use Rattle.tag_writer.specs.Law.{IsEmptied, IsWritten}
 use Rattle.tag_writer.specs.Puttings.{IsPutOf, Accepts, Makes}
-use Rattle.tag_writer.specs.Phases.{Job, Serves, Since, IsAt, made_at, next_at, new_store}
+use Rattle.tag_writer.specs.Phases.{WriteJob, Serves, Since, IsAt, made_at, next_at, new_store}
 use Rattle.tag_writer.specs.Counts.{home_at, home_size, IsHomePut, SameElsewhere}
 use Rattle.tag_writer.specs.Ends.{IsOpened, Reaches, ReachesSince}
 use Rattle.tag_writer.proofs.Asking.{up_to_all}
@@ -30,12 +30,12 @@ use Rattle.tag_writer.proofs.Going.{since_makes, three_on, Three, New, last_imag
 use Rattle.tag_writer.proofs.Fronts.{next_empty}
 
 -- the store behind the writes that follow a phase
-pub store_next : (phase : Phase) (j : Job) (work : Work) (old new : LinkView) → IsAt phase j work old → Makes j.how old (next_at phase j) new → new.state.store ≡ after_puts j.store (made_at phase j ++ next_at phase j)
+pub store_next : (phase : Phase) (j : WriteJob) (work : Work) (old new : LinkView) → IsAt phase j work old → Makes j.how old (next_at phase j) new → new.state.store ≡ after_puts j.store (made_at phase j ++ next_at phase j)
 store_next phase j work old new at m =
     store_makes j.how j.size j.store old new (next_at phase j) (under_at phase j work old at) (next_all phase j at.serves) m
     ∙ ap (λ s. after_puts s (next_at phase j)) at.store ∙ sym (after_append j.store (made_at phase j) (next_at phase j))
 
-pub at_next : (phase next : Phase) (j : Job) (work : Work) (old new : LinkView) → made_at next j ≡ made_at phase j ++ next_at phase j → IsAt phase j work old → Makes j.how old (next_at phase j) new → IsAt next j work new
+pub at_next : (phase next : Phase) (j : WriteJob) (work : Work) (old new : LinkView) → made_at next j ≡ made_at phase j ++ next_at phase j → IsAt phase j work old → Makes j.how old (next_at phase j) new → IsAt next j work new
 at_next phase next j work old new same at m =
     let under = under_makes j.how j.size j.store old new (next_at phase j) (under_at phase j work old at) (next_all phase j at.serves) m in
     record {
@@ -46,7 +46,7 @@ at_next phase next j work old new same at m =
       store = store_next phase j work old new at m ∙ ap (after_puts j.store) (sym same);
     }
 
-pub since_next : (phase : Phase) (j : Job) (work : Work) (a old new : LinkView) → (phase ≡ Filled → ⊥) → IsAt phase j work old → Since j a old (made_at phase j) → Makes j.how old (next_at phase j) new → Since j a new (made_at phase j ++ next_at phase j)
+pub since_next : (phase : Phase) (j : WriteJob) (work : Work) (a old new : LinkView) → (phase ≡ Filled → ⊥) → IsAt phase j work old → Since j a old (made_at phase j) → Makes j.how old (next_at phase j) new → Since j a new (made_at phase j ++ next_at phase j)
 since_next phase j work a old new not at since m =
     since_makes j a old new (made_at phase j) (next_at phase j) since (under_at phase j work old at) (next_all phase j at.serves) m
     (λ n low. subst (λ t. IsEmptied j.how j.size j.place j.store (after_puts t (take (suc n) (next_at phase j)))) (sym at.store) (next_empty phase j at.serves not n low))
@@ -57,7 +57,7 @@ put_within T2 size base p is = (let at = ap (λ q. q.at) is.put in let long = ap
 put_within T4 size base p is = (let at = ap (λ q. q.at) is.put in omega (arith, at, is.within, length-drop (container_end base) base))
 put_within (T5 id) size base p is = (let at = ap (λ q. q.at) is.put in let long = ap (λ q. length q.bytes) is.put in omega (arith, at, long, is.within, is.content))
 
-pub same_elsewhere : (j : Job) → Serves j → SameElsewhere j.how j.size j.place (after_puts j.store (j.parts.close ++ j.parts.fill)) (new_store j)
+pub same_elsewhere : (j : WriteJob) → Serves j → SameElsewhere j.how j.size j.place (after_puts j.store (j.parts.close ++ j.parts.fill)) (new_store j)
 same_elsewhere j serves a aside =
     by_last j.parts.last serves.last serves.home (next_all Filled j serves) ∙ ap (λ s. slice_index s a) (sym (after_append j.store (j.parts.close ++ j.parts.fill) j.parts.last))
   where
@@ -76,14 +76,14 @@ same_elsewhere j serves a aside =
         sym (same_put front p a within (elim aside [ inl before ↦ inl (omega (arith, at, before)) | inr behind ↦ inr (omega (arith, at, count, behind)) ]))
     by_last (p ∷ q ∷ ps) few home ok = absurd (omega (arith, few))
 
-pub same_filled : (j : Job) (work : Work) (v : LinkView) → IsAt Filled j work v → SameElsewhere j.how j.size j.place v.state.store (new_store j)
+pub same_filled : (j : WriteJob) (work : Work) (v : LinkView) → IsAt Filled j work v → SameElsewhere j.how j.size j.place v.state.store (new_store j)
 same_filled j work v at a aside = ap (λ s. slice_index s a) at.store ∙ same_elsewhere j at.serves a aside
 
-pub written_at : (j : Job) (work : Work) (old new : LinkView) → IsAt Filled j work old → Makes j.how old (next_at Filled j) new → IsWritten j.how j.size j.message j.place j.store new.state.store
+pub written_at : (j : WriteJob) (work : Work) (old new : LinkView) → IsAt Filled j work old → Makes j.how old (next_at Filled j) new → IsWritten j.how j.size j.message j.place j.store new.state.store
 written_at j work old new at m = subst (IsWritten j.how j.size j.message j.place j.store) (sym (store_next Filled j work old new at m)) at.serves.new
 
 -- all that an opened tag shows, since the writing began
-opens : (j : Job) (a b : LinkView) (more read : List Signal) → Leads a b more → Three j (images a more) → Rises a b → a.over ≡ None → GoesOn a b → IsAskedFor ToWrite j.how j.size j.store read →
+opens : (j : WriteJob) (a b : LinkView) (more read : List Signal) → Leads a b more → Three j (images a more) → Rises a b → a.over ≡ None → GoesOn a b → IsAskedFor ToWrite j.how j.size j.store read →
     b.answered ≡ a.answered ++ (read ++ commands_of (all_puts j.parts)) → b.last ≡ last_command a.last (read ++ commands_of (all_puts j.parts)) →
     refused_by j.how a.step (surveyed j.how a.state) (commands_of (all_puts j.parts)) ≡ None → IsWritten j.how j.size j.message j.place j.store b.state.store → IsOpened j a b
 opens j a b more read leads three rises begun goes_on all answered last accepted written =
@@ -110,7 +110,7 @@ opens j a b more read leads three rises begun goes_on all answered last accepted
       accepted = accepted;
     }
 
-pub opened_at : (j : Job) (work : Work) (a old new : LinkView) → IsAt Filled j work old → Since j a old (j.parts.close ++ j.parts.fill) → Makes j.how old (next_at Filled j) new → IsOpened j a new
+pub opened_at : (j : WriteJob) (work : Work) (a old new : LinkView) → IsAt Filled j work old → Since j a old (j.parts.close ++ j.parts.fill) → Makes j.how old (next_at Filled j) new → IsOpened j a new
 opened_at j work a old new at since m = by_last j.parts.last refl m
   where
     front : List Put
@@ -147,12 +147,12 @@ opened_at j work a old new at since m = by_last j.parts.last refl m
     by_last (p ∷ q ∷ ps) e n = absurd (omega (arith, ap length e, at.serves.last))
 
 -- each phase
-pub reaches : (phase : Phase) (j : Job) (work : Work) (old new : LinkView) → IsAt phase j work old → Makes j.how old (next_at phase j) new → Reaches phase j work new
+pub reaches : (phase : Phase) (j : WriteJob) (work : Work) (old new : LinkView) → IsAt phase j work old → Makes j.how old (next_at phase j) new → Reaches phase j work new
 reaches Prepared j work old new at m = at_next Prepared Emptied j work old new refl at m
 reaches Emptied j work old new at m = (let next = at_next Emptied Filled j work old new refl at m in (next, same_filled j work new next))
 reaches Filled j work old new at m = written_at j work old new at m
 
-pub reaches_since : (phase : Phase) (j : Job) (work : Work) (a old new : LinkView) → IsAt phase j work old → Since j a old (made_at phase j) → Makes j.how old (next_at phase j) new → ReachesSince phase j a new
+pub reaches_since : (phase : Phase) (j : WriteJob) (work : Work) (a old new : LinkView) → IsAt phase j work old → Since j a old (made_at phase j) → Makes j.how old (next_at phase j) new → ReachesSince phase j a new
 reaches_since Prepared j work a old new at since m = since_next Prepared j work a old new (λ e. cc) at since m
 reaches_since Emptied j work a old new at since m = since_next Emptied j work a old new (λ e. cc) at since m
 reaches_since Filled j work a old new at since m = opened_at j work a old new at since m

@@ -13,7 +13,7 @@ use Rattle.tag_reader.specs.Calls.{Stays, HasSurveyed, HasSurveyedAll, GoesOn, l
 use Rattle.tag_reader.specs.Survey.{surveyed}
 use Rattle.tag_writer.specs.declared.work.Work.{Work}
 use Rattle.tag_writer.specs.WriteAsked.{last_command}
-use Rattle.tag_writer.specs.Phases.{Job, Since, IsNear}
+use Rattle.tag_writer.specs.Phases.{WriteJob, Since, IsNear}
 use Rattle.tag_writer.specs.Planning.{IsPlannedFor}
 use Rattle.tag_writer.specs.Writing.{IsPrepared}
 use Rattle.tag_writer.proofs.Asking.{last_snoc}
@@ -51,7 +51,7 @@ last_told how size store a b asked whole =
       | inr next ↦ absurd (whole.all.no_more (subst (λ n. IsDueFor ToWrite how size store n) counts next.1))
     ]
 
-pub since_told : (j : Job) (a b : LinkView) → IsTold j.how j.size j.store a b → Since j a b []
+pub since_told : (j : WriteJob) (a b : LinkView) → IsTold j.how j.size j.store a b → Since j a b []
 since_told j a b t = record {
   store = t.store';
   more = t.stays.more;

@@ -8,7 +8,7 @@ use Rattle.tag_writer.specs.declared.phase.Phase.TheVariants.{Prepared, Emptied,
 use Rattle.tag_writer.specs.declared.work.Work.TheVariants.{Blocks}
 use Rattle.tag_writer.specs.Puts.{block_puts, block_command}
 use Rattle.tag_writer.specs.Puttings.{signal_at}
-use Rattle.tag_writer.specs.Phases.{Job, IsWork, next_at}
+use Rattle.tag_writer.specs.Phases.{WriteJob, IsWork, next_at}
 use Rattle.tag_writer.specs.Works.{steps_at}
 
 -- the command of the k-th step
@@ -17,7 +17,7 @@ signal_of how size [] k s low is = absurd (omega (arith, low))
 signal_of how size (t ∷ steps) zero s low is = ap (block_command how) (sym is)
 signal_of how size (t ∷ steps) (suc k) s low is = signal_of how size steps k s (omega (arith, low)) is
 
-pub next_steps : (phase : Phase) (j : Job) (how : How) (plan : Plan) → IsWork j (Blocks how plan) → next_at phase j ≡ block_puts how j.size (steps_at phase plan)
+pub next_steps : (phase : Phase) (j : WriteJob) (how : How) (plan : Plan) → IsWork j (Blocks how plan) → next_at phase j ≡ block_puts how j.size (steps_at phase plan)
 next_steps Prepared j how plan is = ap (λ p. p.close) is.parts
 next_steps Emptied j how plan is = ap (λ p. p.fill) is.parts
 next_steps Filled j how plan is = ap (λ p. p.last) is.parts

@@ -15,10 +15,10 @@ use Rattle.tag_writer.specs.declared.work.Work.{Work}
 use Rattle.tag_writer.specs.Puts.{Put, put_into, after_puts, commands_of}
 use Rattle.tag_writer.specs.Place.{Takes}
 use Rattle.tag_writer.specs.WriteAsked.{ArePuts, all_puts, refusal_in, refused_by, up_to_refused}
-use Rattle.tag_writer.specs.Law.{IsEmptied, last_store, Leaves}
+use Rattle.tag_writer.specs.Law.{IsEmptied, last_store, LeavesStore}
 use Rattle.tag_writer.specs.Faults.{IsWriteFault, IsRefusal, is_told, ending_by}
 use Rattle.tag_writer.specs.Puttings.{of_link, IsPutOf, Rejects, Loses, FailsBy, BreaksOff}
-use Rattle.tag_writer.specs.Phases.{Job, Since, IsAt, made_at, next_at}
+use Rattle.tag_writer.specs.Phases.{WriteJob, Since, IsAt, made_at, next_at}
 use Rattle.tag_writer.specs.Ends.{asked_for, StopsSince, StopsAt, Stands}
 use Rattle.tag_writer.proofs.Calming.{went_makes, link_on, Left, left_makes}
 use Rattle.tag_writer.proofs.Asking.{last_snoc, up_to_at, refused_at, commands_append, asked_behind}
@@ -30,12 +30,12 @@ use Rattle.tag_writer.proofs.Going.{since_makes, three_on, Kinds, Same, last_ima
 use Rattle.tag_writer.proofs.Fronts.{front_empty, kind_next, front_stands}
 
 -- A part of the writes was made, and the next failed.
-pub record Stop (phase : Phase) (j : Job) (old new : LinkView) (e : WriteFault) (off : BreaksOff j.how old (next_at phase j) new e) : Type 0 where
+pub record Stop (phase : Phase) (j : WriteJob) (old new : LinkView) (e : WriteFault) (off : BreaksOff j.how old (next_at phase j) new e) : Type 0 where
   pub under : IsUnder j.how j.size j.store off.at
   pub does : Does j.how off.at.state off.next (off.at.step off.at.state off.next.command)
   pub store : off.at.state.store ≡ after_puts j.store (made_at phase j ++ off.front)
 
-pub stop_at : (phase : Phase) (j : Job) (work : Work) (old new : LinkView) (e : WriteFault) → IsAt phase j work old → (off : BreaksOff j.how old (next_at phase j) new e) → Stop phase j old new e off
+pub stop_at : (phase : Phase) (j : WriteJob) (work : Work) (old new : LinkView) (e : WriteFault) → IsAt phase j work old → (off : BreaksOff j.how old (next_at phase j) new e) → Stop phase j old new e off
 stop_at phase j work old new e at off =
     let P : Put → Type 0 = IsPutOf j.how j.size j.store in
     let all : AllByRecursion P (off.front ++ off.next ∷ off.rest) = subst (AllByRecursion P) off.split (next_all phase j at.serves) in
@@ -50,12 +50,12 @@ stop_at phase j work old new e at off =
     }
 
 -- the store that the next write leaves, done or not
-put_store : (phase : Phase) (j : Job) (old new : LinkView) (e : WriteFault) (off : BreaksOff j.how old (next_at phase j) new e) → Stop phase j old new e off → put_into off.at.state.store off.next ≡ after_puts j.store (made_at phase j ++ off.front ++ off.next ∷ [])
+put_store : (phase : Phase) (j : WriteJob) (old new : LinkView) (e : WriteFault) (off : BreaksOff j.how old (next_at phase j) new e) → Stop phase j old new e off → put_into off.at.state.store off.next ≡ after_puts j.store (made_at phase j ++ off.front ++ off.next ∷ [])
 put_store phase j old new e off s =
     ap (λ t. put_into t off.next) s.store
     ∙ sym (after_append j.store (made_at phase j ++ off.front) (off.next ∷ []))
 
-lost_store : (phase : Phase) (j : Job) (old new : LinkView) (e : WriteFault) (off : BreaksOff j.how old (next_at phase j) new e) → Stop phase j old new e off →
+lost_store : (phase : Phase) (j : WriteJob) (old new : LinkView) (e : WriteFault) (off : BreaksOff j.how old (next_at phase j) new e) → Stop phase j old new e off →
     ((off.at.step off.at.state off.next.command).after.store ≡ off.at.state.store)
     ⊎ ((off.at.step off.at.state off.next.command).after.store ≡ put_into off.at.state.store off.next)
 lost_store phase j old new e off s = by_refusal (refusal_in j.how (off.at.step off.at.state off.next.command).answer) refl
@@ -73,7 +73,7 @@ no_refusal ask.Memory r = r
 no_refusal ask.Protocol r = r
 
 -- what is left
-pub stops_at : (phase : Phase) (j : Job) (work : Work) (old new : LinkView) (e : WriteFault) → IsAt phase j work old → BreaksOff j.how old (next_at phase j) new e → StopsAt phase j old new e
+pub stops_at : (phase : Phase) (j : WriteJob) (work : Work) (old new : LinkView) (e : WriteFault) → IsAt phase j work old → BreaksOff j.how old (next_at phase j) new e → StopsAt phase j old new e
 stops_at phase j work old new e at off = by_fault off.fails
   where
     s : Stop phase j old new e off
@@ -115,7 +115,7 @@ stops_at phase j work old new e at off = by_fault off.fails
     }
 
 -- Since the writing began.
-module _ (phase : Phase) (j : Job) (work : Work) (a old new : LinkView) (e : WriteFault) (at : IsAt phase j work old) (since : Since j a old (made_at phase j)) (off : BreaksOff j.how old (next_at phase j) new e) where
+module _ (phase : Phase) (j : WriteJob) (work : Work) (a old new : LinkView) (e : WriteFault) (at : IsAt phase j work old) (since : Since j a old (made_at phase j)) (off : BreaksOff j.how old (next_at phase j) new e) where
   s : Stop phase j old new e off
   s = stop_at phase j work old new e at off
 
@@ -227,7 +227,7 @@ module _ (phase : Phase) (j : Job) (work : Work) (a old new : LinkView) (e : Wri
   never_told ask.Memory t = absurd cc
   never_told ask.Protocol t = absurd cc
 
-  stopped_by : (f : AskFault) → (xs : List (List ℕ)) → Leaves j.how j.size j.message j.place j.store (ending_by (of_link f)) (last_store j.store xs)
+  stopped_by : (f : AskFault) → (xs : List (List ℕ)) → LeavesStore j.how j.size j.message j.place j.store (ending_by (of_link f)) (last_store j.store xs)
   stopped_by ask.FieldLost xs = tt
   stopped_by ask.SixBad xs = tt
   stopped_by ask.Memory xs = tt

@@ -10,9 +10,9 @@ use Rattle.tag_writer.specs.declared.fault.WriteFault.{WriteFault}
 use Rattle.tag_writer.specs.declared.fault.WriteFault.TheVariants as fault
 use Rattle.tag_writer.specs.Place.{Place, Takes, TakesNot}
 use Rattle.tag_writer.specs.WriteAsked.{Parts, ArePuts, AreWrites, IsWriteAsked}
-use Rattle.tag_writer.specs.Law.{Ending, Written, Leaves, last_store, Passes, WriteLaw, IsWritten}
+use Rattle.tag_writer.specs.Law.{Ending, Written, LeavesStore, last_store, Passes, WriteLaw, IsWritten}
 use Rattle.tag_writer.specs.Faults.{IsWriteFault, ending_by, is_told}
-use Rattle.tag_writer.specs.Phases.{Job, Serves}
+use Rattle.tag_writer.specs.Phases.{WriteJob, Serves}
 use Rattle.tag_writer.specs.Ends.{StopsSince, IsOpened, AsksJob, AsksAllOf, asked_for}
 use Rattle.tag_writer.specs.Writing.{Keeps, HasWritten, TakesFew, HasFew, HasWrittenAll, HasSucceeded}
 use Rattle.tag_writer.proofs.Going.{last_image}
@@ -36,7 +36,7 @@ pub record Succeeds (how : How) (size : ℕ) (message : List ℕ) (a b : LinkVie
   pub goes_on : GoesOn a b
   pub succeeded : HasSucceeded how size message a b
 
-module _ (j : Job) (a b : LinkView) (serves : Serves j) (store : a.state.store ≡ j.store) where
+module _ (j : WriteJob) (a b : LinkView) (serves : Serves j) (store : a.state.store ≡ j.store) where
   law_of : (ending : Ending) (xs : List (List ℕ)) → Passes j.how j.size j.store j.message j.place ending xs → WriteLaw j.how j.size a.state.store j.message ending xs
   law_of ending xs passes = subst (λ s. WriteLaw j.how j.size s j.message ending xs) (sym store) (record {
     takes = λ p t. subst (λ q. Passes j.how j.size j.store j.message q ending xs) (one_place j.how j.size j.store j.message j.place p serves.takes.holds t.holds) passes;
@@ -91,17 +91,17 @@ module _ (j : Job) (a b : LinkView) (serves : Serves j) (store : a.state.store �
   }
 
 -- The job is that of a message.
-pub stops_for : (j : Job) (how : How) (size : ℕ) (message : List ℕ) (a b : LinkView) (e : WriteFault) → j.how ≡ how → j.size ≡ size → j.message ≡ message → Serves j → a.state.store ≡ j.store → StopsSince j a b e → Stops how size message a b e
+pub stops_for : (j : WriteJob) (how : How) (size : ℕ) (message : List ℕ) (a b : LinkView) (e : WriteFault) → j.how ≡ how → j.size ≡ size → j.message ≡ message → Serves j → a.state.store ≡ j.store → StopsSince j a b e → Stops how size message a b e
 stops_for j how size message a b e kind sized new serves store s =
     subst (λ h. Stops h size message a b e) kind (subst (λ n. Stops j.how n message a b e) sized (subst (λ m. Stops j.how j.size m a b e) new (stops j a b serves store e s)))
 
-pub succeeds_for : (j : Job) (how : How) (size : ℕ) (message : List ℕ) (a b : LinkView) → j.how ≡ how → j.size ≡ size → j.message ≡ message → Serves j → a.state.store ≡ j.store → IsOpened j a b →
+pub succeeds_for : (j : WriteJob) (how : How) (size : ℕ) (message : List ℕ) (a b : LinkView) → j.how ≡ how → j.size ≡ size → j.message ≡ message → Serves j → a.state.store ≡ j.store → IsOpened j a b →
     IsWritten j.how j.size j.message j.place j.store b.state.store → Succeeds how size message a b
 succeeds_for j how size message a b kind sized new serves store s holds =
     subst (λ h. Succeeds h size message a b) kind (subst (λ n. Succeeds j.how n message a b) sized (subst (λ m. Succeeds j.how j.size m a b) new (succeeds j a b serves store s holds)))
 
 -- Nothing was written.
-old_left : (how : How) (size : ℕ) (message : List ℕ) (place : Place) (store s : List ℕ) (e : WriteFault) → s ≡ store → Leaves how size message place store (ending_by e) s
+old_left : (how : How) (size : ℕ) (message : List ℕ) (place : Place) (store s : List ℕ) (e : WriteFault) → s ≡ store → LeavesStore how size message place store (ending_by e) s
 old_left how size message place store s fault.NotNdef is = tt
 old_left how size message place store s fault.Version is = tt
 old_left how size message place store s fault.NoRead is = tt

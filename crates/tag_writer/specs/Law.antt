@@ -30,15 +30,15 @@ pub record IsWritten (how : How) (size : ℕ) (message : List ℕ) (place : Plac
   pub holds : IsStoreForm how size s (Message message)
 
 -- what is left then
-abbrev pub Leaves : How → ℕ → List ℕ → Place → List ℕ → Ending → List ℕ → Type 0
-Leaves how size message place old Written s = IsWritten how size message place old s
-Leaves how size message place old Refused s = (s ≡ old) ⊎ IsEmptied how size place old s
-Leaves how size message place old Stopped s = Unit {0}
+abbrev pub LeavesStore : How → ℕ → List ℕ → Place → List ℕ → Ending → List ℕ → Type 0
+LeavesStore how size message place old Written s = IsWritten how size message place old s
+LeavesStore how size message place old Refused s = (s ≡ old) ⊎ IsEmptied how size place old s
+LeavesStore how size message place old Stopped s = Unit {0}
 
 -- The stores are first the old one itself, then such that hold the empty message, then the new one.
 pub record Passes (how : How) (size : ℕ) (store message : List ℕ) (place : Place) (ending : Ending) (images : List (List ℕ)) : Type 0 where
   pub three : PassInThree (λ s. s ≡ store) (IsEmptied how size place store) (IsWritten how size message place store) images
-  pub leaves : Leaves how size message place store ending (last_store store images)
+  pub leaves : LeavesStore how size message place store ending (last_store store images)
 
 -- The law of a write over the tag's stores, from the one before it on. A store that doesn't take the message stays.
 pub record WriteLaw (how : How) (size : ℕ) (store message : List ℕ) (ending : Ending) (images : List (List ℕ)) : Type 0 where

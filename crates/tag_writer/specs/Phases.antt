@@ -24,7 +24,7 @@ use Rattle.tag_writer.specs.WriteAsked.{Parts, all_puts, ArePuts, refused_by, la
 use Rattle.tag_writer.specs.Law.{IsEmptied, IsWritten}
 
 -- What is to be done: the writes of a message for a store that takes it at this place.
-pub record Job : Type 0 where
+pub record WriteJob : Type 0 where
   pub how : How
   pub size : ℕ
   pub store : List ℕ
@@ -33,23 +33,23 @@ pub record Job : Type 0 where
   pub parts : Parts
 
 -- the writes that stand behind a phase, and those that the next one makes
-abbrev pub made_at : Phase → Job → List Put
+abbrev pub made_at : Phase → WriteJob → List Put
 made_at Prepared j = []
 made_at Emptied j = j.parts.close
 made_at Filled j = j.parts.close ++ j.parts.fill
 
-abbrev pub next_at : Phase → Job → List Put
+abbrev pub next_at : Phase → WriteJob → List Put
 next_at Prepared j = j.parts.close
 next_at Emptied j = j.parts.fill
 next_at Filled j = j.parts.last
 
 -- the store that holds the message
-abbrev pub new_store : Job → List ℕ
+abbrev pub new_store : WriteJob → List ℕ
 new_store j = after_puts j.store (all_puts j.parts)
 
 -- The writes serve the message: behind the first part and each front of the second the store holds the empty message, behind
 -- the third it is the new one. The first and the third part are one write at most, the third one of the length; all of them are few.
-pub record Serves (j : Job) : Type 0 where
+pub record Serves (j : WriteJob) : Type 0 where
   pub store' : IsStore j.how j.size j.store
   pub takes : Takes j.how j.size j.store j.message j.place
   pub are : ArePuts j.how j.size j.store j.message j.parts
@@ -77,7 +77,7 @@ file_parts store message = record {
   last = file_puts Filled store message;
 }
 
-pub record IsFileWork (j : Job) (message : List ℕ) (most : ℕ) (close : Bool) : Type 0 where
+pub record IsFileWork (j : WriteJob) (message : List ℕ) (most : ℕ) (close : Bool) : Type 0 where
   pub message' : j.message ≡ message
   pub parts : j.parts ≡ file_parts j.store message
   pub most' : most ≡ most_brought j.store
@@ -88,11 +88,11 @@ abbrev pub how_of : Work → How
 how_of (Blocks how plan) = how
 how_of (File message most close) = T4
 
-abbrev pub DoesParts : Job → Work → Type 0
+abbrev pub DoesParts : WriteJob → Work → Type 0
 DoesParts j (Blocks how plan) = j.parts ≡ plan_parts how j.size plan
 DoesParts j (File message most close) = IsFileWork j message most close
 
-pub record IsWork (j : Job) (work : Work) : Type 0 where
+pub record IsWork (j : WriteJob) (work : Work) : Type 0 where
   pub how' : j.how ≡ how_of work
   pub parts : DoesParts j work
 
@@ -103,7 +103,7 @@ IsNear T4 s = (s.selected ≡ true) × (s.file ≡ NdefFile)
 IsNear (T5 id) s = Unit {0}
 
 -- A tag is as a phase left it, the work being that of the job.
-pub record IsAt (phase : Phase) (j : Job) (work : Work) (v : LinkView) : Type 0 where
+pub record IsAt (phase : Phase) (j : WriteJob) (work : Work) (v : LinkView) : Type 0 where
   pub serves : Serves j
   pub work' : IsWork j work
   pub tag : IsTag j.how j.size v
@@ -112,7 +112,7 @@ pub record IsAt (phase : Phase) (j : Job) (work : Work) (v : LinkView) : Type 0 
 
 -- Since the writing began at a view a link went on so: all that is read first was answered, and then these writes, of which none
 -- was refused; and the stores were first the old one, and then such that hold the empty message.
-pub record Since (j : Job) (a b : LinkView) (puts : List Put) : Type 0 where
+pub record Since (j : WriteJob) (a b : LinkView) (puts : List Put) : Type 0 where
   pub store : a.state.store ≡ j.store
   pub more : List Signal
   pub leads : Leads a b more

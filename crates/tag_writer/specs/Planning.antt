@@ -8,11 +8,11 @@ use Rattle.tag_writer.specs.declared.fault.WriteFault.{WriteFault}
 use Rattle.tag_writer.specs.declared.fault.WriteFault.TheVariants as fault
 use Rattle.tag_writer.specs.declared.work.Work.{Work}
 use Rattle.tag_writer.specs.Outcome.{IsReadOnly, IsTooLong, IsShort}
-use Rattle.tag_writer.specs.Phases.{Job, Serves, IsWork}
+use Rattle.tag_writer.specs.Phases.{WriteJob, Serves, IsWork}
 
 -- The work serves a message for a store.
 pub record IsPlannedFor (how : How) (size : ℕ) (store message : List ℕ) (work : Work) : Type 0 where
-  pub job : Job
+  pub job : WriteJob
   pub serves : Serves job
   pub work' : IsWork job work
   pub kind : job.how ≡ how

@@ -14,11 +14,11 @@ use Rattle.tag_writer.specs.Law.{Ending, IsWritten, WriteLaw}
 use Rattle.tag_writer.specs.Faults.{IsWriteFault, IsToldOrMemory, OnTold, is_told, ending_of}
 use Rattle.tag_writer.specs.WriteAsked.{Parts, all_puts, ArePuts, IsWriteAsked, Writes, HasAskedOf}
 use Rattle.tag_writer.specs.Counts.{AreFew}
-use Rattle.tag_writer.specs.Phases.{Job, Since, IsAt}
+use Rattle.tag_writer.specs.Phases.{WriteJob, Since, IsAt}
 
 -- All is planned for a message and the store as it stands, and nothing is written.
 pub record IsPrepared (how : How) (size : ℕ) (message : List ℕ) (work : Work) (a b : LinkView) : Type 0 where
-  pub job : Job
+  pub job : WriteJob
   pub at : IsAt Prepared job work b
   pub since : Since job a b []
   pub kind : job.how ≡ how

@@ -6,7 +6,7 @@ ghost use Rattle.tag_reader.specs.declared.how.How.TheVariants as hows;
 ghost use Rattle.tag_reader.specs.Heard.{IsOf};
 ghost use Rattle.tag_writer.specs.Commands.{commands_at, IsFit};
 ghost use Rattle.tag_writer.specs.Puttings.{Puts, AnswersAs, Makes, BreaksOff, AnswerTells, PutTells, PutsTell};
-ghost use Rattle.tag_writer.specs.Phases.{Job, IsAt, how_of, next_at};
+ghost use Rattle.tag_writer.specs.Phases.{WriteJob, IsAt, how_of, next_at};
 
 use crate::fault::WriteFault;
 use crate::phase::Phase;
@@ -103,9 +103,9 @@ pub fn put_all<T: TagLink>(
     requires ready { T.ready link.old }
     requires of { IsOf (how_of work.now) (T.seen link.old) }
     requires fit { IsFit work.now }
-    ensures ok { (j : Job) → IsAt phase j work.now (T.seen link.old) →
+    ensures ok { (j : WriteJob) → IsAt phase j work.now (T.seen link.old) →
         OnOk result (Makes j.how (T.seen link.old) (next_at phase j) (T.seen link.new)) }
-    ensures err { (j : Job) → IsAt phase j work.now (T.seen link.old) →
+    ensures err { (j : WriteJob) → IsAt phase j work.now (T.seen link.old) →
         IfErr result (BreaksOff j.how (T.seen link.old) (next_at phase j) (T.seen link.new)) }
     // whatever the tag does
     ensures told { PutsTell (how_of work.now) (T.seen link.old) (T.seen link.new) (commands_at phase work.now) result }

@@ -8,7 +8,7 @@ use Rattle.bench_script.proofs.Spelling.{spells_one}
 use Rattle.bench_world.specs.declared.entry.Entry.{Entry}
 use Rattle.bench_world.specs.Journal.{AreEntriesOf, NumberedLine, asking_lines}
 use Rattle.bench_world.specs.Legal.{EachLegal, Given, LegalStep, State}
-use Rattle.bench_world.specs.Showing.{IsBetween, MayShow}
+use Rattle.bench_world.specs.Showing.{IsBetweenCommands, MayShow}
 
 -- each entry is legal, and so are some more
 pub each_more : (s m t : State) (gs hs : List Given) (es ds : List Entry) → EachLegal s gs es m → EachLegal m hs ds t → EachLegal s (gs ++ hs) (es ++ ds) t
@@ -24,11 +24,11 @@ each_legal_more s m t gs es g e p step = each_more s m t gs (g ∷ []) es (e ∷
 -- Each entry is legal, in a state that a bench has between two commands, and its numbers show.
 abbrev pub EachShown : State → List Given → List Entry → State → Type 0
 EachShown s [] [] t = t ≡ s
-EachShown s (g ∷ gs) (e ∷ es) t = (mid : State) × IsBetween s × MayShow s e.command × LegalStep s g e mid × EachShown mid gs es t
+EachShown s (g ∷ gs) (e ∷ es) t = (mid : State) × IsBetweenCommands s × MayShow s e.command × LegalStep s g e mid × EachShown mid gs es t
 EachShown s [] (e ∷ es) t = ⊥
 EachShown s (g ∷ gs) [] t = ⊥
 
-pub shown_more : (s m t : State) (gs : List Given) (es : List Entry) (g : Given) (e : Entry) → EachShown s gs es m → IsBetween m → MayShow m e.command → LegalStep m g e t
+pub shown_more : (s m t : State) (gs : List Given) (es : List Entry) (g : Given) (e : Entry) → EachShown s gs es m → IsBetweenCommands m → MayShow m e.command → LegalStep m g e t
     → EachShown s (gs ++ g ∷ []) (es ++ e ∷ []) t
 shown_more s m t [] [] g e p between shows step = subst (λ x. EachShown x (g ∷ []) (e ∷ []) t) p (t, between, shows, step, refl)
 shown_more s m t [] (d ∷ es) g e p between shows step = absurd p

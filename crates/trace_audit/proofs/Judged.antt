@@ -10,7 +10,7 @@ use Rattle.trace_audit.specs.declared.judging.Verdict.{Verdict}
 use Rattle.trace_audit.specs.declared.judging.Verdict.TheVariants.{Faulty, Legal}
 use Rattle.trace_audit.specs.declared.stepping.Walk.{Walk}
 use Rattle.trace_audit.specs.Auditing.{IsUnauditedAt}
-use Rattle.trace_audit.specs.Judging.{JudgedAt, Judges, RefusedAt, Refuses}
+use Rattle.trace_audit.specs.Judging.{JudgedAt, Judges, RefusedAt, RefusesScript}
 use Rattle.trace_audit.specs.Stepping.{AuditsLine, Shrinks}
 use Rattle.trace_audit.proofs.LineSteps.{Stands, ends_audited, ends_faulty, ends_legal, line_on, stands_first, stands_refused}
 
@@ -81,7 +81,7 @@ module _ (script report left rest text : List ℕ) (line : ℕ) (old : Benched) 
   }
 
   -- ... or is refused
-  pub walk_refused : (fault : AuditFault) → RefusedAt old.state (line + 1) text fault → Refuses (lines_of script) fault
+  pub walk_refused : (fault : AuditFault) → RefusedAt old.state (line + 1) text fault → RefusesScript (lines_of script) fault
   walk_refused Memory why = tt
   walk_refused (Script n) why =
       let at_done : IsUnauditedAt (at.done ++ text ∷ lines_of rest) (length at.done + 1) = stands_refused (at.done ++ text ∷ lines_of rest) at.done text (lines_of rest) old report w stands_here why.1 in

@@ -15,7 +15,7 @@ use Rattle.bench_world.specs.Following.{FollowsAll, NoneBegins, NoneHas}
 use Rattle.bench_world.specs.Journal.{AreEntriesOf}
 use Rattle.bench_world.specs.Obeying.{Benched}
 use Rattle.bench_world.specs.Report.{answer_text, event_text, events_text, line_text, report_text}
-use Rattle.bench_world.specs.Showing.{IsBetween, MayShow}
+use Rattle.bench_world.specs.Showing.{IsBetweenCommands, MayShow}
 use Rattle.trace_audit.specs.Auditing.{IsGoodText}
 use Rattle.trace_audit.specs.ReadEvents.{AreRead}
 use Rattle.trace_audit.specs.Reading.{AreOnAir, HaveTech}
@@ -108,7 +108,7 @@ module _ (done : List (List ℕ)) (line : List ℕ) (after : List (List ℕ)) (b
       none_more more t agrees (λ same text. none t.mid t.after t.given t.entry t.alike t.step t.asked same)
 
   -- An entry of all these events, whose answer's line isn't the next.
-  pub none_answers : (new : Benched) (follows : FollowsAll bench new n c events) → IsBetween bench.state → ((rest : List ℕ) → behind ≡ line_text n (answer_text follows.entry.answer) ++ rest → ⊥)
+  pub none_answers : (new : Benched) (follows : FollowsAll bench new n c events) → IsBetweenCommands bench.state → ((rest : List ℕ) → behind ≡ line_text n (answer_text follows.entry.answer) ++ rest → ⊥)
       → NoneGoesOn all_lines (so_far bench.journal n events) behind
   none_answers new follows between differs text more is_good is agrees =
       let e : Entry = follows.entry in

@@ -7,11 +7,12 @@ use Rattle.bench_script.specs.declared.command.Command.{Command}
 use Rattle.bench_script.proofs.Spelling.{spells_one}
 use Rattle.bench_world.specs.Legal.{State, changed, first_state}
 use Rattle.bench_world.specs.Taking.{AreAccepted, AreSpelled, standing_from}
-use Rattle.trace_audit.specs.Auditing.{AllShow, BeginsGood, IsAudited, IsFaultyAt, IsFrontOf, IsUnauditedAt, NoneUnaudited, OneFault, OneUnaudited, first_lines}
+use Rattle.trace_audit.specs.Auditing.{AllShow, BeginsGood, IsAudited, IsFaultyAt, IsUnauditedAt, NoneUnaudited, OneFault, OneUnaudited, first_lines}
+use Rattle.nfc_base.specs.Prefix.{IsPrefix}
 use Rattle.trace_audit.proofs.ReportLines.{joined_append}
 
 -- fewer first lines are a front of more
-fewer_first : (k m : ℕ) (text : List ℕ) → k ≤ m → IsFrontOf (first_lines k text) (first_lines m text)
+fewer_first : (k m : ℕ) (text : List ℕ) → k ≤ m → IsPrefix (first_lines k text) (first_lines m text)
 fewer_first k m text less =
     let ws : List (List ℕ) = whole_lines text in
     let first : take k (take m ws) ≡ take k ws = take-take k m ws less in (

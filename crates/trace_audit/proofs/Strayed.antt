@@ -17,8 +17,9 @@ use Rattle.bench_world.specs.Journal.{AreEntriesOf, asking_lines}
 use Rattle.bench_world.specs.Legal.{Accepts, EachLegal, Given, LegalStep, first_state}
 use Rattle.bench_world.specs.Obeying.{Adds, Benched}
 use Rattle.bench_world.specs.Report.{answer_text, entry_text, event_text, events_text, line_text, report_text}
-use Rattle.bench_world.specs.Showing.{IsBetween, MayShow}
-use Rattle.trace_audit.specs.Auditing.{AreAudited, IsAudited, IsFaultyAt, IsFrontOf, IsOnAir, IsUnauditedAt, first_lines}
+use Rattle.bench_world.specs.Showing.{IsBetweenCommands, MayShow}
+use Rattle.trace_audit.specs.Auditing.{AreAudited, IsAudited, IsFaultyAt, IsOnAir, IsUnauditedAt, first_lines}
+use Rattle.nfc_base.specs.Prefix.{IsPrefix}
 use Rattle.trace_audit.specs.ReadEvents.{AreRead}
 use Rattle.trace_audit.specs.Reading.{AreOnAir}
 use Rattle.trace_audit.proofs.Audited.{audited_more, unaudited}
@@ -40,7 +41,7 @@ pub record Strayed (lines done : List (List ℕ)) (bench : Benched) (report : Li
   pub audited : AreAudited done commands
   pub good : ℕ
   pub next : fault ≡ good + 1
-  pub begins : IsFrontOf (first_lines good report) (report_text false journal)
+  pub begins : IsPrefix (first_lines good report) (report_text false journal)
   pub stops : Stops lines report good
 
 -- An entry of this line more, by which the journal goes on behind the good lines.
@@ -121,7 +122,7 @@ module _ (done : List (List ℕ)) (line : List ℕ) (after : List (List ℕ)) (b
               subst (λ ds. P (take good events) ds) (sym nothing) (subst (λ es. P es []) (sym whole) late)
 
   -- A line whose entry is followed whole, but whose answer's line isn't the next of the report.
-  pub answer_strays : (follows : FollowsAll bench new n c events) → IsBetween bench.state → ((rest : List ℕ) → behind ≡ line_text n (answer_text follows.entry.answer) ++ rest → ⊥)
+  pub answer_strays : (follows : FollowsAll bench new n c events) → IsBetweenCommands bench.state → ((rest : List ℕ) → behind ≡ line_text n (answer_text follows.entry.answer) ++ rest → ⊥)
       → Strayed all_lines (done ++ line ∷ []) new report (at + length events + 1)
   answer_strays follows between differs =
       let ls : List (List ℕ) = so_far bench.journal n events in

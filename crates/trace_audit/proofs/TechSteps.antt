@@ -16,7 +16,7 @@ use Rattle.bench_devices.specs.Placed.{device_with}
 use Rattle.bench_devices.proofs.CrowdSteps.{of_nfc_v}
 use Rattle.bench_devices.proofs.SelectingKept.{due_asked}
 use Rattle.bench_world.specs.Asked.{slot_messages}
-use Rattle.bench_world.specs.Legal.{State, Given, Accepts, IsAskedBy, begun, due}
+use Rattle.bench_world.specs.Legal.{State, Given, Accepts, IsAskedBy, world_at_start, due}
 use Rattle.bench_world.specs.Linking.{own_general}
 use Rattle.trace_audit.specs.Technologies.{LegalTech, NamesWell}
 use Rattle.trace_audit.proofs.TechCommands.{read_told, write_told}
@@ -65,4 +65,4 @@ module _ (s : State) (g : Given) where
 pub legal_tech : LegalTech
 legal_tech s t g e names step =
     let each = due_asked (IsSentBy e.command) (due s g e.command) (sent s g e.command step.front.accepted step.front.asks names) [] e.events step.front.each in
-    turns_have e.command (begun s g.joins e.command) e.events A step.front.turns each
+    turns_have e.command (world_at_start s g.joins e.command) e.events A step.front.turns each

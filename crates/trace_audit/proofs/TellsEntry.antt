@@ -10,7 +10,7 @@ use Rattle.bench_world.specs.declared.entry.Entry.{Entry}
 use Rattle.bench_world.specs.Alike.{Alike, IsToldSame}
 use Rattle.bench_world.specs.Legal.{Given, LegalStep, State}
 use Rattle.bench_world.specs.Report.{answer_text, entry_text, events_text, line_text}
-use Rattle.bench_world.specs.Showing.{IsBetween, MayShow}
+use Rattle.bench_world.specs.Showing.{IsBetweenCommands, MayShow}
 use Rattle.trace_audit.specs.Reading.{AreOnAir, HaveTech}
 use Rattle.trace_audit.proofs.Laws.{alike_answers, alike_back, alike_on, alike_steps, entries_leave_alike, events_tell}
 use Rattle.trace_audit.proofs.TellsEvents.{GoesOn, apart, event_first, line_first, tells_events}
@@ -54,7 +54,7 @@ pub record SameEntry (t u : State) (e f : Entry) : Type 0 where
   pub same : f ≡ e
   pub alike : Alike t u
 
-module _ (s t r u : State) (g h : Given) (e f : Entry) (alike : Alike s r) (between : IsBetween s) (shows : MayShow s e.command) (step : LegalStep s g e t) (other : LegalStep r h f u)
+module _ (s t r u : State) (g h : Given) (e f : Entry) (alike : Alike s r) (between : IsBetweenCommands s) (shows : MayShow s e.command) (step : LegalStep s g e t) (other : LegalStep r h f u)
     (command : f.command ≡ e.command) (events : f.events ≡ e.events) where
   -- the other's step from this state
   here : (v : State) × LegalStep s h f v × Alike u v
@@ -78,7 +78,7 @@ pub record TellsEntry (t u : State) (e f : Entry) (zs more : List ℕ) : Type 0 
   pub alike : Alike t u
   pub rest : more ≡ zs
 
-pub tells_entry : (n : ℕ) (s t r u : State) (g h : Given) (e f : Entry) (zs more : List ℕ) → n < 2 ^ 32 → Alike s r → IsBetween s → MayShow s e.command → LegalStep s g e t → LegalStep r h f u
+pub tells_entry : (n : ℕ) (s t r u : State) (g h : Given) (e f : Entry) (zs more : List ℕ) → n < 2 ^ 32 → Alike s r → IsBetweenCommands s → MayShow s e.command → LegalStep s g e t → LegalStep r h f u
     → e.line ≡ n → f.line ≡ n → f.command ≡ e.command → HaveTech e.command A e.events → HaveTech f.command A f.events → AreOnAir e.events → AreOnAir f.events
     → entry_text false f ++ more ≡ entry_text false e ++ zs → TellsEntry t u e f zs more
 tells_entry n s t r u g h e f zs more small alike between shows step other first second command p q air air_by text =

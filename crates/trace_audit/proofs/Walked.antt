@@ -16,7 +16,7 @@ use Rattle.bench_world.specs.Journal.{AreEntriesOf, LeadsTo, NumberedLine, askin
 use Rattle.bench_world.specs.Legal.{Accepts, EachLegal, Given, Joins, LegalStep, State, first_state}
 use Rattle.bench_world.specs.Obeying.{Benched, new_bench}
 use Rattle.bench_world.specs.Report.{answer_text, entry_text, events_text, line_text, report_text}
-use Rattle.bench_world.specs.Showing.{IsBetween, MayShow}
+use Rattle.bench_world.specs.Showing.{IsBetweenCommands, MayShow}
 use Rattle.trace_audit.specs.Auditing.{AreAudited, IsAudited, IsGoodText, IsOnAir, IsReportOf, IsUnauditedAt}
 use Rattle.trace_audit.specs.ReadEvents.{AreRead}
 use Rattle.trace_audit.specs.Reading.{AreOnAir, HaveTech}
@@ -149,7 +149,7 @@ lines_more js e =
 
 -- A line whose entry is followed whole, and whose answer's line comes next in the report.
 module _ (done : List (List ℕ)) (line : List ℕ) (bench new : Benched) (report : List ℕ) (at : ℕ) (left : List ℕ) (n : ℕ) (c : Command) (events : List Event) (behind : List ℕ)
-    (number : n ≡ length done + 1) (w : Walked done bench report at left) (between : IsBetween bench.state) (spelled : Spells line c) (other : c ≡ Skip → ⊥)
+    (number : n ≡ length done + 1) (w : Walked done bench report at left) (between : IsBetweenCommands bench.state) (spelled : Spells line c) (other : c ≡ Skip → ⊥)
     (reads : AreRead n c left events behind) (follows : FollowsAll bench new n c events) where
   with_entry : Benched
   with_entry = record { finished = bench.finished; journal = bench.journal ++ follows.entry ∷ []; state = follows.state; cut = bench.cut; spoiled = bench.spoiled }

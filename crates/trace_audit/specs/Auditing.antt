@@ -14,6 +14,7 @@ use Rattle.bench_world.specs.Report.{report_text}
 use Rattle.bench_world.specs.Showing.{MayShow}
 use Rattle.bench_world.specs.Taking.{AreTaken, standing_of}
 use Rattle.trace_audit.specs.Reading.{AreOnAir}
+use Rattle.nfc_base.specs.Prefix.{IsPrefix}
 
 -- each frame in a journal is one that may be on the air
 abbrev pub IsOnAir : List Entry → Type 0
@@ -30,15 +31,11 @@ pub record IsGoodText (lines : List (List ℕ)) (text : List ℕ) : Type 0 where
 abbrev pub first_lines : ℕ → List ℕ → List ℕ
 first_lines n text = joined (take n (whole_lines text))
 
--- the second text begins with the first
-abbrev pub IsFrontOf : List ℕ → List ℕ → Type 0
-IsFrontOf front text = (rest : List ℕ) × (text ≡ front ++ rest)
-
 -- some good text begins so
 pub record BeginsGood (lines : List (List ℕ)) (front : List ℕ) : Type 0 where
   pub text : List ℕ
   pub good : IsGoodText lines text
-  pub begins : IsFrontOf front text
+  pub begins : IsPrefix front text
 
 -- Line n, counted from 1, is the first of the report that no run can have: a good text begins with those before it, and none with
 -- these and line n. A last line without LF is none that a good text has; and where the report ends too early, or is empty, line n

@@ -22,9 +22,9 @@ pub record Judges (lines : List (List ℕ)) (report : List ℕ) (bench : Benched
   pub says : Says lines report bench verdict
 
 -- A script is refused at the first line that isn't audited, whatever the report is. Where memory is wanting nothing is said.
-abbrev pub Refuses : List (List ℕ) → AuditFault → Type 0
-Refuses lines (Script n) = IsUnauditedAt lines n
-Refuses lines Memory = Unit {0}
+abbrev pub RefusesScript : List (List ℕ) → AuditFault → Type 0
+RefusesScript lines (Script n) = IsUnauditedAt lines n
+RefusesScript lines Memory = Unit {0}
 
 -- A line of the script is refused where it isn't audited, by its number.
 abbrev pub RefusedAt : State → ℕ → List ℕ → AuditFault → Type 0

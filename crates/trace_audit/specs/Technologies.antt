@@ -15,7 +15,7 @@ use Rattle.bench_devices.specs.Placed.{device_with, IfPlaced}
 use Rattle.bench_world.specs.declared.entry.Entry.{Entry}
 use Rattle.bench_world.specs.Journal.{LeadsTo}
 use Rattle.bench_world.specs.Legal.{State, Given, Joins, LegalStep}
-use Rattle.bench_world.specs.Showing.{IsBetween}
+use Rattle.bench_world.specs.Showing.{IsBetweenCommands}
 use Rattle.trace_audit.specs.Reading.{HaveTech}
 
 -- a tag that is read by an identifier is of the technology that this tells; of what isn't read nothing is said
@@ -35,7 +35,7 @@ LegalTech = (s t : State) (g : Given) (e : Entry) → NamesWell s e.command → 
 
 -- A command that a line spells names well: where a bench stands between two commands, ...
 abbrev pub NamesBetween : Type 0
-NamesBetween = (s : State) (line : List ℕ) (c : Command) → IsBetween s → Spells line c → NamesWell s c
+NamesBetween = (s : State) (line : List ℕ) (c : Command) → IsBetweenCommands s → Spells line c → NamesWell s c
 
 -- ... and wherever the lines of a script lead.
 abbrev pub NamesBehind : Type 0

@@ -3,7 +3,7 @@
 ghost use Rattle.std.specs.Prelude.{◌≡◌, ◌+◌, ◌-◌, ◌≤◌, ◌<◌, ◌^◌, List, ℕ, IfOk, IfErr, length};
 ghost use Rattle.bench_world.specs.Obeying.{new_bench};
 ghost use Rattle.nfc_io.specs.Lines.{lines_of};
-ghost use Rattle.trace_audit.specs.Judging.{JudgedAt, Judges, RefusedAt, Refuses, audit_fault_number};
+ghost use Rattle.trace_audit.specs.Judging.{JudgedAt, Judges, RefusedAt, RefusesScript, audit_fault_number};
 ghost use Rattle.trace_audit.specs.Stepping.{AuditsLine, Shrinks};
 
 use crate::cutting::next_line;
@@ -53,7 +53,7 @@ pub fn audit(
     requires script { length script.now < 2 ^ 32 }
     requires report { length report.now < 2 ^ 32 - 1 }
     ensures ok { IfOk result (Judges (lines_of script.now) report.now bench.new) }
-    ensures err { IfErr result (Refuses (lines_of script.now)) }
+    ensures err { IfErr result (RefusesScript (lines_of script.now)) }
 {
     let mut walk = Walk {
         left: report,

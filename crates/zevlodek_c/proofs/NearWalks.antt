@@ -8,7 +8,7 @@ use Rattle.nfc_base.specs.declared.carrier.EndCause.TheVariants as cause
 use Rattle.snep_core.specs.declared.fault.SnepFault.{SnepFault}
 use Rattle.snep_core.specs.declared.fault.SnepFault.TheVariants as faults
 use Rattle.snep_core.specs.Calling.{IsCut, Talks, fault_of}
-use Rattle.snep_core.specs.Talk.{EndState, Step, Goes, Ends, GivesUp, Told, Working, numbers_behind, payload, ready, replied}
+use Rattle.snep_core.specs.Talk.{EndState, Step, Goes, Ends, GivesUp, ComesTo, Working, numbers_behind, payload, ready, replied}
 use Rattle.zevlodek_c.specs.declared.far.LogFar.{LogFar}
 use Rattle.zevlodek_c.specs.Entries.{Entry, SpellsEntries, SpellsEntry, a_reply, takes_all}
 use Rattle.zevlodek_c.specs.Log.{counted}
@@ -54,7 +54,7 @@ pub record Walks (from to : Step) (f g : LogFar) : Type 0 where
   pub odd : g.odd ≡ f.odd
   pub reaches : Reaches (settles from) f.left.now (settles to) g.left.now
 
-pub walk : (did : List FarStep) (from to : Step) (f g : LogFar) → Told [] from did to → FarMoved Replies Stops did f g → Walks from to f g
+pub walk : (did : List FarStep) (from to : Step) (f g : LogFar) → ComesTo [] from did to → FarMoved Replies Stops did f g → Walks from to f g
 walk [] from to f g told moved =
     subst (λ (t : Step). Walks from t f g) (sym told)
     (subst (λ (h : LogFar). Walks from from f h) (sym moved) (record { asked = refl; odd = refl; reaches = stays (settles from) f.left.now }))

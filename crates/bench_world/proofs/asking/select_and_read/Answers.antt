@@ -4,7 +4,7 @@ use Rattle.air_core.specs.Turn.{moment}
 use Rattle.bench_script.specs.declared.command.Command.TheVariants.{Read}
 use Rattle.bench_devices.specs.declared.polling.Selection.{Selection}
 use Rattle.bench_devices.specs.Phases.{Selects, SelectsAt, SelectsTo}
-use Rattle.bench_world.specs.Answering.{poll_answer, told_by}
+use Rattle.bench_world.specs.Answering.{poll_answer, read_answer}
 use Rattle.bench_world.specs.Obeying.{ObeyedUnlinked, CutOffUnlinked}
 use Rattle.bench_devices.specs.Device.{may_be_read}
 use Rattle.tag_reader.specs.declared.fault.ReadFault.TheVariants as reading
@@ -34,7 +34,7 @@ returns-in-Place-clause-ok c =
     let s : SelectsAt c.args.id.now c.in-Place.place (moment c.args.field.now) (moment c.select.new.field) = subst S c.in-Place.is c.in_ok-place.ensures.ok in
     let found = looked_at c.select.new.field c.in-Place.place s.device s.stands c.listeners.result.now c.index-listeners-place.result c.listeners.ensures c.index-listeners-place.is in
     let tag : may_be_read s.device ≡ true = sym (ap may_be_read found) ∙ sym c.may_be_read.ensures ∙ c.if-may_be_read.true in
-    if_ok c.told.result (λ answer. told_by c.read.result ≡ Some answer)
+    if_ok c.told.result (λ answer. read_answer c.read.result ≡ Some answer)
     (λ answer. ObeyedUnlinked c.args.field.now c.read.new.field (Read c.args.id.now) answer)
     (λ answer told. read_obeyed c.args.field.now c.select.new.field c.read.new.field c.args.id.now c.in-Place.place c.read.result answer told c.requires s tag
     (c.read.ensures.tells (fed_by c.read.result answer told) s.device s.stands)) c.told.ensures.ok

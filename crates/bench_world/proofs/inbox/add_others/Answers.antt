@@ -1,7 +1,7 @@
 use Rattle.std.proofs.Common.{◌+◌, ◌++◌, ℕ, List, not, Bool, Vec, Global, sym, ◌∙◌, ap, drop}
 use Rattle.snep_core.specs.Server.{Received as Accepted}
 use Rattle.bench_world.specs.declared.entry.Received.{Received}
-use Rattle.bench_world.specs.Inbox.{came_on_link, chosen, told_of}
+use Rattle.bench_world.specs.Inbox.{came_on_link, chosen, received_on}
 use Rattle.bench_world.proofs.Ranges.{told_chosen, told_later}
 use Rattle.bench_world.proofs.inbox.add_others.Goals.{then-not-came_on_link+in_ok-received+in_ok-push, else-not-came_on_link}
 use Rattle.bench_world.proofs.inbox.add_others.Goals as goal
@@ -11,8 +11,8 @@ places-preserved c =
     let choose : ℕ → Bool = λ n. not (came_on_link c.args.links.now c.args.peer n) in
     let i : ℕ = c.places.place in
     let ms : List Accepted = c.args.server.now.accepted in
-    let all : List Received = c.args.told.now.items ++ told_of 0 (chosen choose 0 ms) in
-    let rest : List Received = told_of 0 (chosen choose (i + 1) (drop (i + 1) ms)) in
+    let all : List Received = c.args.told.now.items ++ received_on 0 (chosen choose 0 ms) in
+    let rest : List Received = received_on 0 (chosen choose (i + 1) (drop (i + 1) ms)) in
     elim c.if-not-came_on_link.branch [
       | then-not-came_on_link+in_ok-received+in_ok-push w ↦
           ap (λ (t : Vec Received Global). t.items ++ rest) w.told-is ∙ ap (λ xs. xs ++ rest) w.in_ok-push.ensures.items

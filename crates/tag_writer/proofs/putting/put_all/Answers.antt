@@ -5,7 +5,7 @@ use Rattle.nfc_base.specs.TagLinks.{LinkView, MayAsk}
 use Rattle.nfc_base.proofs.Leading.{rises_on}
 use Rattle.tag_writer.specs.declared.fault.WriteFault.{WriteFault}
 use Rattle.tag_writer.specs.Puttings.{Makes, BreaksOff, PutsTell, signal_at}
-use Rattle.tag_writer.specs.Phases.{Job, how_of, next_at}
+use Rattle.tag_writer.specs.Phases.{WriteJob, how_of, next_at}
 use Rattle.tag_writer.specs.Commands.{commands_at, command_at}
 use Rattle.tag_writer.specs.WriteHeard.{AreAcknowledged, IsWhy}
 use Rattle.tag_writer.proofs.Jobs.{answers_at, makes_at, breaks_at}
@@ -24,7 +24,7 @@ put-requires-clause-fits g c =
     subst (λ f. MayAsk v.kind v.identifier f) (sym c.command-command.ensures)
     (work_may c.args.phase c.args.work.now v c.loop-index.index (of_left (how_of c.args.work.now) a v _ c.requires.of c.loop-index.invariant.told.left) c.requires.fit low)
 
-fails : (j : Job) (P : WriteFault → Type 0) (r : Result Unit WriteFault) (e : WriteFault) → r ≡ Err e → P e → IfErr r P
+fails : (j : WriteJob) (P : WriteFault → Type 0) (r : Result Unit WriteFault) (e : WriteFault) → r ≡ Err e → P e → IfErr r P
 fails j P r e is p = subst (λ x. IfErr x P) (sym is) p
 
 pub returns-in_err-put-clause-err : goal.returns-in_err-put-clause-err

@@ -1,7 +1,7 @@
 use Rattle.std.proofs.Common.{refl, arith, rules}
 use Rattle.trace_audit.specs.declared.judging.AuditFault.{AuditFault}
 use Rattle.nfc_io.specs.Lines.{lines_of}
-use Rattle.trace_audit.specs.Judging.{Refuses}
+use Rattle.trace_audit.specs.Judging.{RefusesScript}
 use Rattle.trace_audit.proofs.Judged.{line_small, walk_judged, walk_refused, walks_first, walks_on}
 use Rattle.trace_audit.proofs.judging.audit.Goals as goal
 
@@ -15,7 +15,7 @@ overflow_add-line c =
 pub returns-in_err-walk-clause-err : goal.returns-in_err-walk-clause-err
 returns-in_err-walk-clause-err c =
     let fault : AuditFault = c.in_err-walk.field-0.0 in
-    let refused : Refuses (lines_of c.args.script.now) fault =
+    let refused : RefusesScript (lines_of c.args.script.now) fault =
     walk_refused c.args.script.now c.args.report.now c.lines.left.now c.in-Some.rest.now c.in-Some.text.now c.lines.line c.lines.bench c.lines.walk c.requires.script c.lines.invariant
     c.in-Some.ensures.lines fault c.in_err-walk.ensures.err in
     search (rules, refused)

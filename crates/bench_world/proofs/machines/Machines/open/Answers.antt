@@ -10,7 +10,7 @@ use Rattle.bench_devices.specs.Opening.{OpensAny}
 use Rattle.bench_devices.specs.Phases.{Stands}
 use Rattle.far_air.specs.FarEnds.{rests}
 use Rattle.peer_air.specs.PeerFars.{peer_ends}
-use Rattle.bench_world.specs.LinkedAt.{restarts, begun, moved_at, OpensAt}
+use Rattle.bench_world.specs.LinkedAt.{restarts, machines_at_start, moved_at, OpensAt}
 use Rattle.bench_world.specs.Linking.{own_general, new_client}
 use Rattle.bench_world.specs.Obeying.{Machines}
 use Rattle.bench_world.specs.World.{FarEnd}
@@ -65,10 +65,10 @@ returns-in-Ok c = λ peer far numbered there.
     ap (λ (x : ClientState). x.llc) c.new_client-client.ensures.new ∙ ap (new_client c.args.miu c.args.rw) c.deref-in-Ok.ensures.0 in
     subst P is (subst Q n (subst R e
     (opens_ok m place c.args.miu c.args.rw c.in-Some.peer c.in-Some-index_mut.end c.open_link.new.field c.open_link.new.far c.open_link.result asks c.in-Ok.initiator c.in-Ok.told c.in-Ok.is c.begin.result c.begin.new.self
-    (on_ok c.begin.result (c.begin.new.self ≡ begun mid c.in-Some.peer (length c.accepted-start.result.now) c.in-Ok.initiator c.new_client-client.result.llc)
-    (c.begin.new.self ≡ begun mid c.in-Some.peer (length c.in-Some-index_mut.end.service.accepted) c.in-Ok.initiator (new_client c.args.miu c.args.rw c.in-Ok.told.items))
-    (λ b. b ∙ ap (λ k. begun mid c.in-Some.peer k c.in-Ok.initiator c.new_client-client.result.llc) start
-    ∙ ap (begun mid c.in-Some.peer (length c.in-Some-index_mut.end.service.accepted) c.in-Ok.initiator) client) c.begin.ensures.opened)
+    (on_ok c.begin.result (c.begin.new.self ≡ machines_at_start mid c.in-Some.peer (length c.accepted-start.result.now) c.in-Ok.initiator c.new_client-client.result.llc)
+    (c.begin.new.self ≡ machines_at_start mid c.in-Some.peer (length c.in-Some-index_mut.end.service.accepted) c.in-Ok.initiator (new_client c.args.miu c.args.rw c.in-Ok.told.items))
+    (λ b. b ∙ ap (λ k. machines_at_start mid c.in-Some.peer k c.in-Ok.initiator c.new_client-client.result.llc) start
+    ∙ ap (machines_at_start mid c.in-Some.peer (length c.in-Some-index_mut.end.service.accepted) c.in-Ok.initiator) client) c.begin.ensures.opened)
     c.begin.ensures.ok c.begin.ensures.err c.begin.ensures.same)))
 
 pub returns-in-Err : goal.returns-in-Err

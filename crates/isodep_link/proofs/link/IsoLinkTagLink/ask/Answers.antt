@@ -5,7 +5,7 @@ use Rattle.air_core.proofs.ListenerLaws.{laws_of}
 use Rattle.air_core.proofs.PlainAside.{Laws}
 use Rattle.isodep_link.specs.declared.link.IsoLink.{IsoLink}
 use Rattle.isodep_link.specs.Asking.{Exchanges}
-use Rattle.isodep_link.specs.IsoLinks.{seen_link, IsIsoReady, Exchanged}
+use Rattle.isodep_link.specs.IsoLinks.{seen_link, IsIsoReady, CommandExchanged}
 use Rattle.isodep_link.proofs.IsoAnswers.{Answers, all_answers}
 use Rattle.isodep_link.proofs.link.IsoLinkTagLink.ask.Given as given
 use Rattle.isodep_link.proofs.link.IsoLinkTagLink.ask.Goals as goal
@@ -16,7 +16,7 @@ laws g = laws_of g.met.L.Listener
 -- what an exchange answers, as the link shows it
 answers : (g : given.Over) (a b : IsoLink g.row.L.Denot) (command : Signal) (r : Result Signal AskFault)
     → (a.over ≡ None → IsIsoReady g.L.Listener g.L.CardListener.card g.L.CardListener.tag (seen_link a)) → command ≡ whole_a command.bytes
-    → (a.over ≡ None → Exchanged g.L.Listener.machine (seen_link a) (seen_link b) command r)
+    → (a.over ≡ None → CommandExchanged g.L.Listener.machine (seen_link a) (seen_link b) command r)
     → (a.over ≡ None → Exchanges g.L.Listener g.L.CardListener.card g.L.CardListener.tag a.field.now b.field.now a.place a.reader b.reader command.bytes r)
     → ((e : AskFault) → a.over ≡ Some e → (r ≡ Err e) × (seen_link b ≡ seen_link a))
     → Answers g.L.Listener g.L.CardListener.card g.L.CardListener.tag (seen_link a) (seen_link b) command r

@@ -1,7 +1,7 @@
 use Rattle.std.proofs.Common.{rules, ◌≡◌, true, false, sym, subst}
 use Rattle.std.specs.List.{AllByRecursion}
 use Rattle.snep_core.specs.Calling.{ClientState, Talks}
-use Rattle.snep_core.specs.RepliesLeft.{IsCounted}
+use Rattle.snep_core.specs.RepliesLeft.{IsBelowCountEnd}
 use Rattle.snep_core.specs.Talk.{Ends, Step, all_closed, all_opening, client_saps, leave_from, some_open}
 use Rattle.snep_core.proofs.AllClosed.{close_fails, close_rests, close_so, close_way, saps_distinct}
 use Rattle.snep_core.proofs.Leaving.{closes_none}
@@ -33,8 +33,8 @@ converse_all-requires-clause-under_way g c =
     let some : some_open l client_saps ≡ true = search rules in
     let o : all_opening (leave_from client_saps) l ≡ record { llc = c.leave_all.new.self.llc; jobs = c.in-Ok.jobs.items } =
     subst (λ (z : ClientState). all_opening (leave_from client_saps) z.llc ≡ record { llc = c.leave_all.new.self.llc; jobs = c.in-Ok.jobs.items }) c.self.view_is c.in-Ok.ensures.ok in
-    let counted : AllByRecursion (IsCounted l) client_saps =
-    subst (λ (z : ClientState). AllByRecursion (IsCounted z.llc) client_saps) c.self.view_is c.in-Ok.ensures.counted in
+    let counted : AllByRecursion (IsBelowCountEnd l) client_saps =
+    subst (λ (z : ClientState). AllByRecursion (IsBelowCountEnd z.llc) client_saps) c.self.view_is c.in-Ok.ensures.counted in
     close_way client_saps l c.leave_all.new.self.llc c.in-Ok.jobs.items some o saps_distinct counted
 
 pub returns-clause-ok : goal.returns-clause-ok

@@ -2,7 +2,7 @@ use Rattle.std.proofs.Common.{rules, ◌≡◌, true, false, length, List, sym, 
 use Rattle.std.specs.List.{AllByRecursion}
 use Rattle.snep_core.specs.Accord.{RunAdds, RunFails}
 use Rattle.snep_core.specs.Calling.{ClientState, RunFailsAt, slots_left}
-use Rattle.snep_core.specs.RepliesLeft.{IsCounted, task_saps}
+use Rattle.snep_core.specs.RepliesLeft.{IsBelowCountEnd, task_saps}
 use Rattle.snep_core.specs.Slots.{AllFit, Slot, all_puts, noted, slot_count, some_staged}
 use Rattle.snep_core.specs.Talk.{all_opening}
 use Rattle.snep_core.proofs.RunEnds.{run_done, run_ended, run_failed, run_idle, run_nothing, run_rests, run_still, run_stopped, run_way}
@@ -36,9 +36,9 @@ converse_all-requires-clause-under_way g c =
     subst (λ (z : ClientState). all_opening (all_puts z.slots) z.llc ≡ record { llc = c.begin_all.new.self.llc; jobs = c.in-Ok.jobs.items }) c.self.view_is
     (subst (λ (ss : List Slot). all_opening (all_puts ss) c.self.inside.end.llc ≡ record { llc = c.begin_all.new.self.llc; jobs = c.in-Ok.jobs.items }) c.as_slice.ensures.same
     c.in-Ok.ensures.ok) in
-    let counted : AllByRecursion (IsCounted l) (task_saps (all_puts slots)) =
-    subst (λ (z : ClientState). AllByRecursion (IsCounted z.llc) (task_saps (all_puts z.slots))) c.self.view_is
-    (subst (λ (ss : List Slot). AllByRecursion (IsCounted c.self.inside.end.llc) (task_saps (all_puts ss))) c.as_slice.ensures.same c.in-Ok.ensures.counted) in
+    let counted : AllByRecursion (IsBelowCountEnd l) (task_saps (all_puts slots)) =
+    subst (λ (z : ClientState). AllByRecursion (IsBelowCountEnd z.llc) (task_saps (all_puts z.slots))) c.self.view_is
+    (subst (λ (ss : List Slot). AllByRecursion (IsBelowCountEnd c.self.inside.end.llc) (task_saps (all_puts ss))) c.as_slice.ensures.same c.in-Ok.ensures.counted) in
     run_way slots fit eight l c.begin_all.new.self.llc c.in-Ok.jobs.items w o counted
 
 pub returns-in-Ok-converse_all-clause-ok : goal.returns-in-Ok-converse_all-clause-ok

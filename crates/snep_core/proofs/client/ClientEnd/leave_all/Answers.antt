@@ -1,7 +1,7 @@
 use Rattle.std.proofs.Common.{rules, ◌≡◌, ◌<◌, ◌+◌, ℕ, eqb, suc, [], ◌∷◌, ◌++◌, get_or, length, drop, sym, ap, subst, ◌∙◌, arith}
 use Rattle.std.proofs.Math.Seq.{drop-cons}
 use Rattle.std.specs.List.{AllByRecursion, IsDistinct}
-use Rattle.snep_core.specs.RepliesLeft.{IsCounted}
+use Rattle.snep_core.specs.RepliesLeft.{IsBelowCountEnd}
 use Rattle.snep_core.specs.Talk.{OnSap, all_opening, leave_from}
 use Rattle.snep_core.proofs.AllJobs.{behind}
 use Rattle.snep_core.proofs.Leaving.{AreSame, counted_then, distinct_next, leaves_next, same_first, same_next}
@@ -38,5 +38,5 @@ saps-preserved c =
           ∙ ap (λ js. behind js (all_opening (leave_from more) c.leave.new.self.llc)) (sym jobs_are);
       others = same_next c.args.self.now.llc l c.leave.new.self.llc s c.in-Ok.job more c.in-Ok.ensures.ok apart.0 same.1;
       counted = λ k. c.saps.invariant.counted
-          (subst (AllByRecursion (IsCounted c.args.self.now.llc)) (sym next) (counted_then c.args.self.now.llc l s same.0 c.in-Ok.ensures.counted, k));
+          (subst (AllByRecursion (IsBelowCountEnd c.args.self.now.llc)) (sym next) (counted_then c.args.self.now.llc l s same.0 c.in-Ok.ensures.counted, k));
     }
