@@ -3,9 +3,7 @@
 use Rattle.std.specs.Prelude.{◌≡◌, ◌≢◌, ℕ, suc, ◌<◌, ◌≤◌, List, [], ◌∷◌, ◌++◌, length, take, drop, true, false}
 use Rattle.nfc_base.specs.declared.event.Event.{Event}
 use Rattle.bench_script.specs.declared.command.Command.{Command}
-use Rattle.bench_script.specs.declared.command.Command.TheVariants.{Skip, Raw}
-use Rattle.bench_devices.specs.AnyFrame.{peers_in}
-use Rattle.bench_devices.specs.declared.device.Device.{Device}
+use Rattle.bench_script.specs.declared.command.Command.TheVariants.{Skip}
 use Rattle.bench_world.specs.declared.entry.Entry.{Entry}
 use Rattle.bench_world.specs.declared.following.Followed.{Followed}
 use Rattle.bench_world.specs.declared.following.Followed.TheVariants.{Whole, Front}
@@ -39,11 +37,6 @@ Compares made told (Front good) = BeginAlike made told good × (told ≢ made)
 abbrev pub Records : Followed → List Entry → List Entry → Entry → Type 0
 Records Whole old new entry = new ≡ old ++ entry ∷ []
 Records (Front good) old new entry = new ≡ old
-
--- a command's numbers show among these devices
-abbrev pub MayShowAmong : List Device → Command → Type 0
-MayShowAmong ds (Raw id frames) = peers_in ds ≡ 0
-MayShowAmong ds c = Unit {0}
 
 -- A command may be followed where it is accepted, but for frames that are written by hand while a peer is placed.
 abbrev pub MayFollow : State → Command → Type 0

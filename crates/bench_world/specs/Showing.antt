@@ -9,6 +9,7 @@ use Rattle.link_numbers.specs.Shown.{far_shown, own_shown}
 use Rattle.bench_script.specs.declared.command.Command.{Command}
 use Rattle.bench_script.specs.declared.command.Command.TheVariants.{Forge, Raw}
 use Rattle.bench_devices.specs.AnyFrame.{peers_in}
+use Rattle.bench_devices.specs.declared.device.Device.{Device}
 use Rattle.bench_world.specs.declared.entry.Entry.{Entry}
 use Rattle.bench_world.specs.Asked.{asked_on_link}
 use Rattle.bench_world.specs.Legal.{Given, Joins, LegalStep, State, joins_for}
@@ -56,9 +57,12 @@ pub record BeginsSame (es rest fs : List Event) : Type 0 where
 
 -- Numbers show in each command, but of frames that are written by hand only where no peer is placed: else one may cut off
 -- a reply while its link goes on.
+abbrev pub MayShowAmong : List Device → Command → Type 0
+MayShowAmong ds (Raw id frames) = peers_in ds ≡ 0
+MayShowAmong ds c = Unit {0}
+
 abbrev pub MayShow : State → Command → Type 0
-MayShow s (Raw id frames) = peers_in s.world.field.listeners ≡ 0
-MayShow s c = Unit {0}
+MayShow s c = MayShowAmong s.world.field.listeners c
 
 -- Where a step of a command begins with these events, one by the numbers that they show, whatever stands behind them,
 -- begins with them too.

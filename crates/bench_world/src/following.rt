@@ -1,10 +1,10 @@
 //! What following a command needs: the numbers of PDUs that its events show, and how far two courses are the same.
 
 ghost use Rattle.std.specs.Prelude.{◌≡◌, ◌↔◌, IfOk, IsTrue};
-ghost use Rattle.bench_world.specs.Following.{BeginAlike, Compares, MayShowAmong};
+ghost use Rattle.bench_world.specs.Following.{BeginAlike, Compares};
 ghost use Rattle.bench_world.specs.Legal.{joins_for};
 ghost use Rattle.bench_world.specs.Obeying.{state_at};
-ghost use Rattle.bench_world.specs.Showing.{first_pni, joins_shown, shown_of};
+ghost use Rattle.bench_world.specs.Showing.{MayShowAmong, first_pni, joins_shown, shown_of};
 ghost use Rattle.bench_world.specs.ShownForged.{behind_opening, behind_res};
 
 use crate::joins::Joins;
@@ -28,8 +28,8 @@ pub enum Followed {
 }
 
 /// Whether the events of a command show its numbers of PDUs: not those of a `raw` beside a peer, since there a frame may
-/// cut off a reply while its link goes on.
-pub(crate) fn may_show(devices: &[Device], command: &Command) -> bool
+/// cut off a reply while its link goes on. So such a command is neither followed nor audited. `devices` are those of the field.
+pub fn may_show(devices: &[Device], command: &Command) -> bool
     ensures { IsTrue result ↔ MayShowAmong devices.now command.now }
 {
     match command {

@@ -41,7 +41,7 @@ pub use bench::{Bench, ObeyFault, Run};
 pub use bench_devices::{Device, SeenKind};
 pub use entry::{Answer, Entry, Loss, RawHeard, Received, Seen, SlotDone};
 pub use event_lines::{event_line, push_event_line};
-pub use following::Followed;
+pub use following::{Followed, may_show};
 pub use inbox::{LinkRange, inbox_of};
 pub use law::{
     alike_states, finds_complete, lines_decide, lines_tell_events, links_accept, links_complete,

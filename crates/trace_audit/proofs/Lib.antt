@@ -19,7 +19,6 @@ pub mod LastEntry
 pub mod Finding
 pub mod FrontLines
 pub mod ScriptLines
-pub mod AllTags
 pub mod Counts
 pub mod TechTurns
 pub mod TechPolling

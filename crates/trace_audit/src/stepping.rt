@@ -1,9 +1,7 @@
 //! One step of the walk over a script and its report: what a line of the script does with the report's next lines.
 
-ghost use Rattle.std.specs.Prelude.{◌≡◌, ◌≢◌, ◌+◌, ◌≤◌, ◌<◌, ◌^◌, ◌++◌, ◌↔◌, List, ℕ, IsTrue, IfOk, OnOk, IsErrOf, MatchOption, length};
-ghost use Rattle.std.specs.List.{list_all};
-ghost use Rattle.bench_devices.specs.Device.{is_tag};
-ghost use Rattle.bench_world.specs.Following.{MayFollow, MayShowAmong};
+ghost use Rattle.std.specs.Prelude.{◌≡◌, ◌≢◌, ◌+◌, ◌≤◌, ◌<◌, ◌^◌, ◌++◌, List, ℕ, IfOk, OnOk, IsErrOf, MatchOption, length};
+ghost use Rattle.bench_world.specs.Following.{MayFollow};
 ghost use Rattle.bench_world.specs.Obeying.{Obeys};
 ghost use Rattle.bench_world.specs.Report.{answer_text, line_text};
 ghost use Rattle.bench_world.specs.Showing.{MayShow};
@@ -12,9 +10,8 @@ ghost use Rattle.trace_audit.specs.Stepping.{ComesBehind, Shrinks, StepsOn, Take
 
 use crate::on_air::see_last;
 use crate::reading::read_events;
-use bench_devices::Device;
 use bench_script::Command;
-use bench_world::{Bench, Entry, Followed, ObeyFault, answer_pieces};
+use bench_world::{Bench, Entry, Followed, ObeyFault, answer_pieces, may_show};
 use std::alloc::Global;
 
 /// How far the walk has come in the report.
@@ -65,22 +62,6 @@ fn obey_line(bench: &mut Bench, line: u32, command: &Command) -> Result<(), Obey
     bench.obey(line, command)?;
     see_last(bench.journal());
     Ok(())
-}
-
-/// Whether a command among these devices may be audited: not a `raw` beside a peer.
-fn may_show(devices: &[Device], command: &Command) -> bool
-    ensures { IsTrue result ↔ MayShowAmong devices.now command.now }
-{
-    match command {
-        Command::Raw { .. } => are_tags(devices),
-        _ => true,
-    }
-}
-
-fn are_tags(devices: &[Device]) -> bool
-    ensures { result ≡ list_all is_tag devices.now }
-{
-    devices.iter().all(|device| device.is_tag())
 }
 
 /// Follows a command by the events that are read off the report, and compares its answer.
