@@ -18,7 +18,7 @@ use Rattle.air_core.specs.Waits.{Standing, Asking, Broken, Astray, stand, due_at
 use Rattle.air_core.proofs.LostField.{HasLost}
 
 -- no wait asks for a reset
-never_light : (s : Standing) → due_at s ≡ LightUp → ⊥
+pub never_light : (s : Standing) → due_at s ≡ LightUp → ⊥
 never_light (Asking bad []) e = cc
 never_light (Asking bad (c ∷ cs)) e = cc
 never_light (Broken x cs) e = cc

@@ -105,12 +105,6 @@ mask (suc (suc (suc (suc (suc (suc zero)))))) h = refl
 mask (suc (suc (suc (suc (suc (suc (suc zero))))))) h = refl
 mask (suc (suc (suc (suc (suc (suc (suc (suc t)))))))) h = absurd (omega (arith, h))
 
-pub take_below : (u : List Bool) (n m : ℕ) → n ≤ m → take n (take m u) ≡ take n u
-take_below u zero m h = refl
-take_below u (suc n) zero h = absurd (omega (arith, h))
-take_below [] (suc n) (suc m) h = refl
-take_below (a ∷ u) (suc n) (suc m) h = ap (λ t. a ∷ t) (take_below u n m (omega (arith, h)))
-
 -- a last byte that is cut to its first t bits has no others
 last_of : (front : List ℕ) (b : ℕ) → last_byte (front ++ b ∷ []) ≡ b
 last_of front b = grind (arith, common_steps)

@@ -39,7 +39,7 @@ breaks-append (Answer f x ∷ a) b = ap (λ n. of_break x + n) (breaks-append a 
 breaks-append (Clash f x ∷ a) b = ap (λ n. of_break x + n) (breaks-append a b) ∙ (let q : of_break x + (breaks a + breaks b) ≡ (of_break x + breaks a) + breaks b = omega arith in q)
 
 -- a transmission that lost the field didn't pass
-break_noise : (x : Fate) → of_break x ≤ other_than_pass x
+pub break_noise : (x : Fate) → of_break x ≤ other_than_pass x
 break_noise Pass = omega arith
 break_noise Damage = omega arith
 break_noise Lose = omega arith

@@ -24,7 +24,7 @@ over_behind : (next : List Note → Next) (before a b : List Event) → next (re
 over_behind next before a b over = ap (λ t. next (receptions t)) (append_assoc before a b) ∙ over
 
 -- what comes back has the first fate of the queue
-joint_fated : (q : List Fate) (j : Joint) (y : Fate) (t : List Event) → FatesFrom q (joint_events j y ++ t)
+pub joint_fated : (q : List Fate) (j : Joint) (y : Fate) (t : List Event) → FatesFrom q (joint_events j y ++ t)
     → (joint_events j y ≡ joint_events j (first_fate q)) × FatesFrom (queue_after q (joint_events j y)) t
 joint_fated q Nothing y t p = (refl, p)
 joint_fated q (Single g) y t p = (ap (λ z. Answer g z ∷ []) p.0, p.1)

@@ -24,14 +24,14 @@ pub none_here : (o : Option AskFault) → ((x : AskFault) → o ≡ Some x → �
 none_here None other = refl
 none_here (Some x) other = absurd (other x refl)
 
-counts_rise : (o o' : Option AskFault) → o ≡ None → CountsOn (counts_of o) (counts_of o')
+pub counts_rise : (o o' : Option AskFault) → o ≡ None → CountsOn (counts_of o) (counts_of o')
 counts_rise None o' e = record { breaks = omega arith; six_bad = omega arith; odd = omega arith }
 counts_rise (Some x) o' e = absurd cc
 
 counts_stay : (o : Option AskFault) → CountsOn (counts_of o) (counts_of o)
 counts_stay o = record { breaks = omega arith; six_bad = omega arith; odd = omega arith }
 
-none_left : (o : Option AskFault) (last : Option Signal) → o ≡ None → unanswered o last ≡ []
+pub none_left : (o : Option AskFault) (last : Option Signal) → o ≡ None → unanswered o last ≡ []
 none_left None last e = refl
 none_left (Some x) last e = absurd cc
 

@@ -1,5 +1,5 @@
 -- A turn from its parts.
-use Rattle.std.proofs.Common.{◌≡◌, ℕ, List, [], ◌∷◌, ◌++◌, Bool, true, Option, Some, None, Result, Ok, Err, refl, sym, ◌∙◌, ap, subst, inr, append_assoc, append-nil}
+use Rattle.std.proofs.Common.{◌≡◌, ℕ, List, [], ◌∷◌, ◌++◌, Bool, true, Option, Some, None, Result, Ok, Err, refl, sym, ◌∙◌, ap, subst, inr, append-nil}
 use Rattle.nfc_base.specs.Signal.{Signal}
 use Rattle.nfc_base.specs.Trace.{heard_by, heard_at}
 use Rattle.nfc_base.specs.declared.event.Event.{Event}
@@ -105,14 +105,3 @@ module _ {L A : Type 0} (m : Machine L) (restarts : A → List ℕ → A → Typ
   transmits_stop begin new far' ls lit pass from some left =
       let P : List L → Type 0 = λ t. HearSome m restarts steps stops is_stuck f t far ls far' in
       (lit, inr (record { fate = pass; listeners = ls; some = subst P from some; left = left }))
-
-module _ {L A : Type 0} (m : Machine L) (restarts : A → List ℕ → A → Type 0) (steps : A → List ℕ → List ℕ → A → Type 0) (stops : A → List ℕ → A → Type 0) (is_stuck : A → Bool) (old : Air L) (f : Signal) (far : A) where
-  turn_appends : (x : Fate) (heard : Option Heard) (new : Air L) (far' : A) → TurnBy m restarts steps x old f far heard new far' → (more : List Event) × (new.trace ≡ old.trace ++ more)
-  turn_appends Pass heard new far' p =
-      let y : Fate = first_fate (later_fates old.fates) in (
-        Request f Pass ∷ joint_events (joint p.answers) y,
-        ap (λ a. a.trace) p.left ∙ brought_appends m (passed old f p.listeners) (joint p.answers) y ∙ append_assoc old.trace (Request f Pass ∷ []) (joint_events (joint p.answers) y),
-      )
-  turn_appends Damage heard new far' p = (Request f Damage ∷ [], ap (λ a. a.trace) p.left)
-  turn_appends Lose heard new far' p = (Request f Lose ∷ [], ap (λ a. a.trace) p.left)
-  turn_appends Break heard new far' p = (Request f Break ∷ [], ap (λ a. a.trace) p.left)

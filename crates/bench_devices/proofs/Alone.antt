@@ -5,13 +5,13 @@ use Rattle.nfc_base.specs.TagLinks.{IsNamedIn}
 use Rattle.air_core.specs.Turn.{Air, world, moment}
 use Rattle.air_core.specs.PlainTags.{IsAside}
 use Rattle.bench_devices.specs.declared.device.Device.{Device}
-use Rattle.bench_devices.specs.declared.device.Device.TheVariants.{T2, T4, Peer, T5, T3}
 use Rattle.bench_devices.specs.Device.{device_tech, device_id, device_store}
 use Rattle.bench_devices.specs.Placed.{device_with, IfPlaced}
 use Rattle.bench_devices.specs.Keeping.{kept, ghosts, IsSound, IsAsideOf, held_by}
 use Rattle.bench_devices.specs.Phases.{Stands}
 use Rattle.bench_devices.proofs.EveryFrame.{IsSoundOne}
 use Rattle.bench_devices.proofs.ImagesJoin.{IsFirstAt, first_alone, with_alone}
+use Rattle.bench_devices.proofs.ReadingTags.{eight_bytes}
 
 all_aside : (own : List ℕ) (ds : List Device) → AllByRecursion (IsAside ghosts own) ds → AllByRecursion (IsAsideOf own) ds
 all_aside own [] h = tt
@@ -21,14 +21,6 @@ pub beside_all : (before : List Device) (d : Device) (behind : List Device) → 
     → AllByRecursion (IsAsideOf (device_id d)) (before ++ d ∷ behind)
 beside_all [] d behind first later = ((λ other. absurd (other refl)), all_aside (device_id d) behind later)
 beside_all (b ∷ before) d behind first later = ((λ other. first.0), beside_all before d behind first.1 later)
-
--- a Type 3 and a Type 5 tag have eight bytes of identifier
-eight_bytes : (d : Device) → IsSound (kept d) → IsNamedIn (device_tech d) (device_id d)
-eight_bytes (T2 d) is = tt
-eight_bytes (T4 d) is = tt
-eight_bytes (Peer d) is = tt
-eight_bytes (T5 p) is = is.1
-eight_bytes (T3 p) is = is.0
 
 -- Devices of which one stands alone, and may be placed.
 pub sound_alone : (before : List Device) (d : Device) (behind : List Device) → IsSound (kept d) → AllByRecursion (IsAside ghosts (device_id d)) before → IsSoundOne (device_id d) (before ++ d ∷ behind)

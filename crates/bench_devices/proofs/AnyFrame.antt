@@ -1,5 +1,5 @@
 -- Any frames: tags hand nothing over, and each device stays what it is.
-use Rattle.std.proofs.Common.{◌≡◌, ℕ, zero, suc, ◌≤◌, List, [], ◌∷◌, Bool, true, false, if◌then◌else◌, Option, Some, None, refl, sym, ◌∙◌, ap, subst, arith}
+use Rattle.std.proofs.Common.{◌≡◌, ℕ, suc, ◌≤◌, List, [], ◌∷◌, Bool, true, false, if◌then◌else◌, Option, Some, None, refl, sym, ◌∙◌, ap, subst, arith}
 use Rattle.std.specs.Prelude.{option_map}
 use Rattle.nfc_base.specs.Far.{FarUse, Untouched}
 use Rattle.nfc_base.specs.Signal.{Signal}
@@ -17,8 +17,8 @@ use Rattle.bench_devices.specs.declared.device.Device.{Device}
 use Rattle.bench_devices.specs.declared.device.Device.TheVariants.{T2, T4, Peer, T5, T3}
 use Rattle.bench_devices.specs.Device.{BenchWorld, air, devices, is_tag, kind_of}
 use Rattle.bench_devices.specs.Keeping.{AllStayDevices, Fixed, StaysDevice, fixed}
-use Rattle.bench_devices.specs.Kinds.{DeviceKind, T2Kind, T3Kind, T4Kind, PeerKind, T5Kind}
 use Rattle.bench_devices.proofs.EveryFrame.{devices_stay, event_stays}
+use Rattle.bench_devices.proofs.TagOrPeer.{tag_kind}
 
 -- a tag hands nothing over
 untouched_by : (v : Bool) → ◌≡◌ {A = FarUse} (if v then Untouched else Untouched) Untouched
@@ -31,10 +31,6 @@ tag_quiet (T4 d) f t = untouched_by (hears devices (T4 d) f)
 tag_quiet (Peer d) f t = absurd cc
 tag_quiet (T5 p) f t = untouched_by (hears devices (T5 p) f)
 tag_quiet (T3 p) f t = untouched_by (hears devices (T3 p) f)
-
--- where a peer stands, by whether the first device is a tag
-place_first : Bool → Option ℕ → Option ℕ
-place_first v o = if v then option_map suc o else Some 0
 
 none_behind : (o : Option ℕ) → option_map suc o ≡ None → o ≡ None
 none_behind None e = refl
@@ -55,16 +51,8 @@ pub all_quiet : (f : Signal) (ds : List Device) → peer_place ds ≡ None → E
 all_quiet f [] e = tt
 all_quiet f (d ∷ ds) e = let n = none_placed d ds e in (tag_quiet d f n.tag, all_quiet f ds n.others)
 
--- each device stays a tag or a peer
-tag_by : DeviceKind → Bool
-tag_by T2Kind = true
-tag_by T3Kind = true
-tag_by T4Kind = true
-tag_by PeerKind = false
-tag_by T5Kind = true
-
-tag_is : (d : Device) → is_tag d ≡ tag_by (kind_of d)
-unfolding tag_by
+tag_is : (d : Device) → is_tag d ≡ tag_kind (kind_of d)
+unfolding tag_kind
 tag_is (T2 d) = refl
 tag_is (T4 d) = refl
 tag_is (Peer d) = refl
@@ -72,7 +60,7 @@ tag_is (T5 p) = refl
 tag_is (T3 p) = refl
 
 pub tag_stays : (d e : Device) → StaysDevice d e → is_tag e ≡ is_tag d
-tag_stays d e s = tag_is e ∙ ap (λ (k : Fixed). tag_by k.kind) s.fixed ∙ sym (tag_is d)
+tag_stays d e s = tag_is e ∙ ap (λ (k : Fixed). tag_kind k.kind) s.fixed ∙ sym (tag_is d)
 
 pub place_stays : (ds es : List Device) → AllStayDevices ds es → peer_place es ≡ peer_place ds
 place_stays [] [] p = refl

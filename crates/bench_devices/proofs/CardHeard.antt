@@ -30,20 +30,15 @@ use Rattle.isodep_link.proofs.ActivateLaw.{After, first_rats, rats_turn, rats_do
 use Rattle.isodep_link.proofs.AskingLaw.{OnTag, begins_on, turn_on, noisy, answered_asked}
 use Rattle.isodep_link.proofs.Heeding.{AreBytes}
 use Rattle.isodep_link.proofs.Obeyed.{keeps}
-use Rattle.tag_reader.specs.declared.how.How.TheVariants as hows
 use Rattle.bench_devices.specs.declared.device.Device.{Device}
-use Rattle.bench_devices.specs.declared.device.Device.TheVariants.{T2, T4, Peer, T5, T3}
-use Rattle.bench_devices.specs.Device.{BenchWorld, air, devices, device_card, device_tag, how_of}
+use Rattle.bench_devices.specs.Device.{BenchWorld, air, devices, device_card, device_tag}
 use Rattle.bench_devices.specs.CardAsking.{CardStanding, Activates, Exchanges, told_code, card_stand, card_due}
 use Rattle.bench_devices.specs.Keeping.{ghosts}
-use Rattle.bench_devices.specs.Phases.{Stands}
 use Rattle.bench_devices.specs.Standing.{tag_holds}
 use Rattle.bench_devices.proofs.CardBytes.{sent_bytes}
 use Rattle.bench_devices.proofs.CardReadingNotes.{exchanges_stand}
 use Rattle.bench_devices.proofs.QuietRats.{laws, one_answer}
 use Rattle.bench_devices.proofs.QuietWalk.{Passing, fated_passes, told_passes}
-use Rattle.bench_devices.proofs.ReadingTags.{stands_alone}
-use Rattle.bench_devices.proofs.TagFour.{takes_rats}
 
 -- the field at a moment
 abbrev pub field_of : Moment BenchWorld → Air Device
@@ -274,10 +269,3 @@ module _ (commands : List (List ℕ)) (sent : AllByRecursion IsSent commands) (p
 
   pub rats_heard : CardHeard commands place c [] h
   rats_heard = record { answer = ats; heard = rats_told; goes = by_code (ats_code ats) refl }
-
-pub has_fresh : (a : Air Device) (place : ℕ) (d : Device) → Stands (moment a) place d → how_of d ≡ hows.T4 → HasFreshTag ghosts device_card device_tag a place
-has_fresh a place (T2 d) s four = absurd cc
-has_fresh a place (T4 d) s four = record { listener = T4 d; alone = stands_alone a place (T4 d) s; takes = takes_rats d s.sound s.selected s.unasked }
-has_fresh a place (Peer d) s four = absurd cc
-has_fresh a place (T5 p) s four = absurd cc
-has_fresh a place (T3 p) s four = absurd cc

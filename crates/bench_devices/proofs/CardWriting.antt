@@ -26,7 +26,7 @@ use Rattle.tag_writer.specs.declared.fault.WriteFault.TheVariants as faults
 use Rattle.tag_writer.specs.Faults.{ending_of}
 use Rattle.tag_writer.specs.Law.{Ending, Stopped, WriteLaw}
 use Rattle.tag_writer.specs.Puttings.{of_link}
-use Rattle.tag_writer.specs.Writing.{Keeps, HasWritten}
+use Rattle.tag_writer.specs.Writing.{Keeps}
 use Rattle.bench_devices.specs.declared.device.Device.{Device}
 use Rattle.bench_devices.specs.Device.{BenchWorld, air, devices, device_id, device_store, device_card, device_tag, how_of, size_of}
 use Rattle.bench_devices.specs.Placed.{device_with}
@@ -38,12 +38,12 @@ use Rattle.bench_devices.proofs.SelectingAir.{events_are}
 use Rattle.bench_devices.proofs.SelectingKept.{IsHarmless, due_asked}
 use Rattle.bench_devices.proofs.CardKept.{rats_harmless}
 use Rattle.bench_devices.proofs.EveryFrame.{IsSoundOne, going_leaves}
-use Rattle.bench_devices.proofs.ImagesJoin.{IsFirstAt, held_at, images_at, first_alone, law_behind, law_start, held_kept, same_going}
+use Rattle.bench_devices.proofs.ImagesJoin.{IsFirstAt, images_at, first_alone, law_behind, law_start, held_kept, same_going}
 use Rattle.bench_devices.proofs.Alone.{sound_alone, beside_all, sound_there, held_there}
 use Rattle.bench_devices.proofs.ReadingTags.{stands_one}
 use Rattle.bench_devices.proofs.LinkEnds.{LinkEnds}
 use Rattle.bench_devices.proofs.CardLinks as link
-use Rattle.bench_devices.proofs.CardLinks.{due_whole, stand_whole, asks_whole, from_step, from_plain, from_store, store_here, none_before, asked_told, four_tag}
+use Rattle.bench_devices.proofs.CardLinks.{due_whole, stand_whole, asks_whole, from_step, from_plain, store_here, none_before, asked_told, four_tag}
 use Rattle.bench_devices.proofs.CardEnds.{card_ends}
 use Rattle.bench_devices.proofs.CardParts.{as_told, as_cut, linked_asks, linked_cut, unanswered_asks, rats_cut, rats_keep, made, link_is, refused}
 use Rattle.bench_devices.proofs.WriteTold.{IsWritten, write_does, write_does_some, write_law}
@@ -59,9 +59,6 @@ module _ (message : List ℕ) (p : IsoSeen Device) (is : IsNewLink p) (d : Devic
 
   abbrev tag_at : Device
   tag_at = l.activated.has.listener
-
-  abbrev HasWrittenOf : Type 0
-  HasWrittenOf = HasWritten (how_of d) (size_of d) message from to
 
   same_id : device_id tag_at ≡ device_id d
   same_id = ap (λ (k : Kept). k.fixed.id) l.same
@@ -97,9 +94,6 @@ module _ (message : List ℕ) (p : IsoSeen Device) (is : IsNewLink p) (d : Devic
 
   store_at : at_place device_store [] (world p.air).listeners p.place ≡ device_store d
   store_at = link.held_there (world p.air).listeners p.place ∙ store_here p is d l
-
-  pub held_here : held_by (device_with (device_id d) (world p.air).listeners) ≡ device_store d
-  held_here = held_at (device_id d) (world p.air).listeners p.place first_here ∙ store_at
 
   law_here : (r : WriteEnd) → Keeps (how_of d) (size_of d) message (ending_of r) from to → KeepsWriteLaw message d (ending_of r) (world p.air) m.asks.going.events
   law_here r k =

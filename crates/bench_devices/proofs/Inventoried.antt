@@ -75,7 +75,7 @@ pub none_told : (ds : List Device) → AllByRecursion IsAwake ds → Each (λ d.
 none_told ds awake n = no_ids (filter_map v_if ds) (sym (all_answer ds awake) ∙ said_none says ds n)
 
 -- identifiers of eight bytes, no two the same
-abbrev AreOwn : List (List ℕ) → Type 0
+abbrev pub AreOwn : List (List ℕ) → Type 0
 AreOwn [] = Unit {0}
 AreOwn (i ∷ is) = (length i ≡ 8) × AllByRecursion (λ j. j ≡ i → ⊥) is × AreOwn is
 

@@ -8,11 +8,11 @@ use Rattle.air_core.specs.PlainLinks.{PlainSeen, IsPlainReady, PlainMoves, plain
 use Rattle.tag_reader.specs.declared.how.How.{How}
 use Rattle.tag_reader.specs.Kinds.{IsTag}
 use Rattle.bench_devices.specs.declared.device.Device.{Device}
-use Rattle.bench_devices.specs.Device.{device_store, how_of, size_of, may_be_read}
+use Rattle.bench_devices.specs.Device.{how_of, size_of, may_be_read}
 use Rattle.bench_devices.specs.Linking.{IsPlain, IsPlainHow, IsNew}
 use Rattle.bench_devices.specs.Keeping.{ghosts}
 use Rattle.bench_devices.specs.Phases.{Stands}
-use Rattle.bench_devices.proofs.ReadingTags.{has_tag, begun, shows_tag, shows_store}
+use Rattle.bench_devices.proofs.ReadingTags.{has_tag, begun, shows_tag}
 
 abbrev as_seen : Air Device → ℕ → ℕ → Option Signal → Option AskFault → PlainSeen Device
 as_seen air' place start last over = record { air = air'; place = place; start = start; last = last; over = over }
@@ -34,9 +34,6 @@ module _ (p : PlainSeen Device) (is : IsNew p) (how : How) (one : (e : Device) �
 
   abbrev pub new_is_tag : (size : ℕ) × IsTag how size (plain_view ghosts p)
   new_is_tag = (size_of one.0, subst (λ h. IsTag h (size_of one.0) (plain_view ghosts p)) (sym one.2) new_tag)
-
-  pub new_store : (plain_view ghosts p).state.store ≡ device_store one.0
-  new_store = sym (ap (λ x. (plain_view ghosts x).state.store) (new_is p is)) ∙ shows_store p.air p.place one.0 one.1
 
 pub from_new : (p : PlainSeen Device) → IsNew p → (q : PlainSeen Device) → PlainMoves ghosts p q → PlainMoves ghosts (begun p.air p.place) q
 from_new p is q moves = subst (λ x. PlainMoves ghosts x q) (sym (new_is p is)) moves

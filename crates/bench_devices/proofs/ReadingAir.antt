@@ -33,6 +33,7 @@ use Rattle.bench_devices.proofs.CardKept.{four_keeps, spells_none}
 use Rattle.air_core.proofs.DueWaits.{due_all}
 use Rattle.bench_devices.proofs.SelectingKept.{IsHarmless}
 use Rattle.t3t_tag.specs.Store.{T3State}
+use Rattle.bench_devices.proofs.ThreeLists.{all_more}
 
 -- what is read leaves a Type 5 tag as it is, but for a round that it was in
 read_leaves_it : (t : T5State) (block : ℕ) → (read_turn t block).after ≡ t
@@ -144,10 +145,6 @@ read_keeps (T5 e) is size store k (T5 p) = read_five p e.tag.id (ask_at size sto
 -- a frame that asks a device for bytes
 abbrev pub IsRead : Device → Signal → Type 0
 IsRead e f = (size : ℕ) × (store : List ℕ) × (k : ℕ) × (f ≡ command (how_of e) size store k)
-
-all_more : (P : Signal → Type 0) (xs : List Signal) (y : Signal) → AllByRecursion P xs → P y → AllByRecursion P (xs ++ y ∷ [])
-all_more P [] y all here = (here, tt)
-all_more P (x ∷ xs) y all here = (all.0, all_more P xs y all.1 here)
 
 pub all_reads : (e : Device) (size : ℕ) (store : List ℕ) (n : ℕ) → AllByRecursion (IsRead e) (first (how_of e) size store n)
 all_reads e size store zero = tt

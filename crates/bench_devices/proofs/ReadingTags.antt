@@ -33,7 +33,7 @@ plain_device (Peer d) s is = absurd (no_tag is.1)
 plain_device (T5 p) s is = plain_five p
 plain_device (T3 p) s is = absurd (no_tag is.1)
 
-eight_bytes : (d : Device) → IsSound (kept d) → IsNamedIn (device_tech d) (device_id d)
+pub eight_bytes : (d : Device) → IsSound (kept d) → IsNamedIn (device_tech d) (device_id d)
 eight_bytes (T2 d) is = tt
 eight_bytes (T4 d) is = tt
 eight_bytes (Peer d) is = tt

@@ -1,5 +1,5 @@
 -- Selecting a Type 3 tag from a reset on: what it asks of the bench's devices, and what it comes to.
-use Rattle.std.proofs.Common.{◌≡◌, ◌↔◌, ◌⊎◌, inl, inr, ℕ, ◌+◌, ◌<◌, ◌≤◌, nat_lt, List, [], ◌∷◌, ◌++◌, map, length, drop, filter_map, Bool, true, false, if◌then◌else◌, Option, Some, None, Result, Ok, Err, refl, sym, ◌∙◌, ap, subst}
+use Rattle.std.proofs.Common.{◌≡◌, ◌↔◌, ◌⊎◌, inl, inr, ℕ, ◌+◌, ◌<◌, ◌≤◌, nat_lt, List, [], ◌∷◌, ◌++◌, map, length, drop, filter_map, Bool, true, false, if◌then◌else◌, Result, Ok, Err, refl, sym, ◌∙◌, ap, subst}
 use Rattle.std.specs.List.{AllByRecursion}
 use Rattle.nfc_base.specs.declared.frame.Tech.TheVariants as techs
 use Rattle.nfc_base.specs.declared.event.Event.{Event}
@@ -33,23 +33,10 @@ use Rattle.bench_devices.proofs.FromReset.{asked, cut, heard, lost_by, noisy, to
 use Rattle.bench_devices.proofs.Inventoried.{all_of, fewer, whole_silent}
 use Rattle.bench_devices.proofs.QuietPolling.{PollsQuietly}
 use Rattle.bench_devices.proofs.SelectingPlaces.{sound_amid, others_before, others_behind}
-use Rattle.bench_devices.proofs.SelectingV.{relit, IsRelit, are_relit, relit_front, relit_back, relit_aside}
+use Rattle.bench_devices.proofs.SelectingV.{relit, IsRelit, are_relit, relit_front, relit_back, relit_aside, MayCome, ended_if}
 use Rattle.bench_devices.proofs.Sensed.{IsSensed, all_answer, answers_in, own_ids, sensed_well, steady_sensed, tells_of, none_of, no_three, none_three, three_amid, three_relit}
 use Rattle.bench_devices.proofs.SensingAll.{asks_of, lights_none}
 use Rattle.bench_devices.proofs.Unmoved.{AllHeard}
-
--- how a selection may end on the bench
-abbrev MayCome : Result (Unit {0}) PollFault → Type 0
-MayCome (Ok x) = Unit {0}
-MayCome (Err faults.Nobody) = ⊥
-MayCome (Err faults.Disturbed) = ⊥
-MayCome (Err faults.FieldLost) = Unit {0}
-MayCome (Err faults.Memory) = Unit {0}
-MayCome (Err faults.NotFound) = Unit {0}
-MayCome (Err faults.BadAnswer) = ⊥
-
-abbrev ended_if : Bool → Option (Result (Unit {0}) PollFault)
-ended_if v = if v then None else Some (Err faults.NotFound)
 
 may_tries : (v : Bool) → MayCome (or_memory (ended_if v))
 may_tries true = tt

@@ -8,7 +8,7 @@ use Rattle.nfc_base.specs.declared.event.Heard.{Heard}
 use Rattle.nfc_base.specs.declared.event.Heard.TheVariants.{Whole}
 use Rattle.nfc_base.specs.Signal.{Signal}
 use Rattle.air_core.specs.Conversation.{Note, Lit, Got, Lost, note, Next, Over, LightUp, Asks, Moment, Going, TurnsTo, AreTurns, EachDue, FatesFrom, receptions, with_events}
-use Rattle.air_core.specs.Waits.{Standing, Asking, Broken, Astray, stand, due_at}
+use Rattle.air_core.specs.Waits.{Broken, Astray, stand}
 use Rattle.isodep_link.specs.Asking as exchange
 use Rattle.nfca_poll.specs.declared.kind.Kind.{Kind}
 use Rattle.nfca_poll.specs.declared.fault.PollFault.{PollFault}
@@ -33,7 +33,7 @@ use Rattle.bench_devices.specs.Keeping.{Kept, kept, AreTame}
 use Rattle.bench_devices.specs.Phases.{AreTidy, Stands, SelectsAt}
 use Rattle.bench_devices.specs.Placed.{device_with}
 use Rattle.bench_devices.specs.Polling as polls
-use Rattle.bench_devices.specs.Polling.{Followed, Told, followed, follows, kind_by, seen_kind, selecting, asks}
+use Rattle.bench_devices.specs.Polling.{Followed, Told, follows, kind_by, seen_kind, selecting, asks}
 use Rattle.bench_devices.specs.TagAsking.{then_asks, tag_due}
 use Rattle.bench_devices.proofs.CardHeard.{field_of}
 use Rattle.bench_devices.proofs.Following.{follows_on}
@@ -48,6 +48,7 @@ use Rattle.bench_devices.proofs.SelectingV.{v_closes}
 use Rattle.bench_devices.proofs.SelectingPlaces.{Amid, none_or_amid}
 use Rattle.bench_devices.proofs.TagHeard.{TagGoes, TagHeard, tag_heard, begins_heard}
 use Rattle.bench_devices.proofs.Walk.{walk}
+use Rattle.air_core.proofs.BrokenWaits.{never_light}
 
 -- two accounts of the same turns know the same
 same_notes : (next last : List Note → Next) (a b : Moment BenchWorld) (hs ks : List Note) → Going air next a b hs → Going air last a b ks → ks ≡ hs
@@ -135,12 +136,6 @@ selected_v id a mid b hs x eight tame reset p told =
       same = s.selects.asked.same;
     }
 
-wait_dark : (s : Standing) → due_at s ≡ LightUp → ⊥
-wait_dark (Asking bad []) e = cc
-wait_dark (Asking bad (c ∷ cs)) e = cc
-wait_dark (Broken x cs) e = cc
-wait_dark Astray e = cc
-
 card_dark : (s : CardStanding) → card_due s ≡ LightUp → ⊥
 card_dark (Activates bad) e = cc
 card_dark (Exchanges (exchange.Waits i f cs)) e = cc
@@ -150,9 +145,9 @@ card_dark (Exchanges exchange.Astray) e = cc
 
 -- Nothing of a tag lights the field up.
 never_lit : (kind : SeenKind) (asked : List Signal) (ns : List Note) → tag_next kind asked ns ≡ LightUp → ⊥
-never_lit seen.T2 asked ns e = wait_dark (stand 0 asked ns) e
+never_lit seen.T2 asked ns e = never_light (stand 0 asked ns) e
 never_lit seen.T4 asked ns e = card_dark (card_stands asked ns) e
-never_lit seen.T5 asked ns e = wait_dark (stand 0 asked ns) e
+never_lit seen.T5 asked ns e = never_light (stand 0 asked ns) e
 never_lit seen.Peer asked ns e = cc
 
 module _ (asked : List Signal) (a : Moment BenchWorld) (tame : AreTame (map kept a.world.listeners)) (tidy : AreTidy a.world.listeners) where

@@ -50,28 +50,6 @@ none_or_amid id (d ∷ ds) = by_first (pointwise nat_eq (device_id d) id) refl (
     by_first false h (inl none) = inl none
     by_first false h (inr r) = inr (record { before = d ∷ r.before; device = r.device; behind = r.behind; split = ap (λ xs. d ∷ xs) r.split; named = r.named })
 
-no_some : {X : Type 0} (x : X) → Some x ≡ None → ⊥
-no_some x e = cc
-
--- where none has the identifier, each has another one
-pub each_other : (id : List ℕ) (ds : List Device) → device_with id ds ≡ None → AllByRecursion (λ l. id ≡ device_id l → ⊥) ds
-each_other id [] none = tt
-each_other id (d ∷ ds) none = by_first (pointwise nat_eq (device_id d) id) refl none (λ n. each_other id ds n)
-  where
-    by_first : (v : Bool) → pointwise nat_eq (device_id d) id ≡ v → (if v then Some d else device_with id ds) ≡ None → (device_with id ds ≡ None → AllByRecursion (λ l. id ≡ device_id l → ⊥) ds)
-        → AllByRecursion (λ l. id ≡ device_id l → ⊥) (d ∷ ds)
-    by_first true h n more = absurd (no_some d n)
-    by_first false h n more = ((λ e. (let same : pointwise nat_eq (device_id d) id ≡ true = ap (λ x. pointwise nat_eq x id) (sym e) ∙ pointwise_self id in let other : pointwise nat_eq (device_id d) id ≡ false = h in cc)), more n)
-
--- and the other way round
-pub none_with : (id : List ℕ) (ds : List Device) → AllByRecursion (λ l. id ≡ device_id l → ⊥) ds → device_with id ds ≡ None
-none_with id [] h = refl
-none_with id (d ∷ ds) h = by_first (pointwise nat_eq (device_id d) id) refl (none_with id ds h.1)
-  where
-    by_first : (v : Bool) → pointwise nat_eq (device_id d) id ≡ v → device_with id ds ≡ None → (if v then Some d else device_with id ds) ≡ None
-    by_first true e rest = absurd (h.0 (sym (equal_bytes (device_id d) id e)))
-    by_first false e rest = rest
-
 -- what holds of all that is kept holds of each device
 pub amid : (P : Kept → Type 0) (before : List Device) (d : Device) (behind : List Device) → AllByRecursion P (map kept (before ++ d ∷ behind)) → P (kept d)
 amid P [] d behind h = h.0

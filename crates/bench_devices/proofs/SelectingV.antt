@@ -45,7 +45,7 @@ use Rattle.bench_devices.specs.Choosing.{StandsAt}
 use Rattle.bench_devices.specs.Keeping.{kept, IsSound, AreSound, AreTame, ghosts, NoStore}
 use Rattle.bench_devices.specs.Phases.{IsUnasked, Asked, Selects, SelectsAt, SelectionCut}
 use Rattle.bench_devices.specs.Polling as followed
-use Rattle.bench_devices.specs.Polling.{Followed, follows, kind_by, pick_v, selecting, asks}
+use Rattle.bench_devices.specs.Polling.{follows, kind_by, selecting, asks}
 use Rattle.bench_devices.proofs.Ours.{steady_at, stays_at_own, kept_unrounded, answers_own}
 use Rattle.bench_devices.proofs.Inventoried.{fewer, whole_silent, collided_silent, damaged_silent, is_whole, tries_ask, tries_light, all_of}
 use Rattle.bench_devices.proofs.Following.{HasEnded, Closes, seen_by, kind_told, kind_asks, seen_lost, asks_same, told_same}
@@ -70,7 +70,7 @@ is_five x = seen.T5
 abbrev pub five : Result (Unit {0}) PollFault → Result SeenKind PollFault
 five r = seen_by is_five r
 
-abbrev ended_if : Bool → Option (Result (Unit {0}) PollFault)
+abbrev pub ended_if : Bool → Option (Result (Unit {0}) PollFault)
 ended_if v = if v then None else Some (Err faults.NotFound)
 
 more_tries : (n : ℕ) (v w : Bool) → nat_lt n tries ≡ v → nat_lt (n + 1) tries ≡ w → HasEnded (ended_if v) → HasEnded (ended_if w)
@@ -89,7 +89,7 @@ IsPresented (Single g) = is_present g ≡ true
 IsPresented (Clashing g) = ⊥
 
 -- how selecting by an inventory may end on the bench, and how it doesn't where nobody answers
-abbrev MayCome : Result (Unit {0}) PollFault → Type 0
+abbrev pub MayCome : Result (Unit {0}) PollFault → Type 0
 MayCome (Ok x) = Unit {0}
 MayCome (Err faults.Nobody) = ⊥
 MayCome (Err faults.Disturbed) = ⊥
@@ -109,9 +109,6 @@ may_tries false = tt
 vain_tries : (v : Bool) → IsVain (or_memory (ended_if v))
 vain_tries true = tt
 vain_tries false = tt
-
-no_heard : (h : Heard) (A : Type 0) → (h ≡ Silent → ⊥) → h ≡ Silent → A
-no_heard h A n e = absurd (n e)
 
 module _ (id : List ℕ) where
   abbrev inventory : Signal
@@ -363,13 +360,6 @@ relit_aside id (Peer d ∷ ls) h o = (record { rests = λ t. (ap is_ready h.0, a
 relit_aside id (T5 p ∷ ls) h o = (record { rests = λ t. absurd cc; other = o.0 }, relit_aside id ls h.1 o.1)
 relit_aside id (T3 p ∷ ls) h o = (record { rests = λ t. absurd cc; other = o.0 }, relit_aside id ls h.1 o.1)
 
-relit_id : (l : Device) → device_id (relit l) ≡ device_id l
-relit_id (T2 d) = refl
-relit_id (T4 d) = refl
-relit_id (Peer d) = refl
-relit_id (T5 p) = refl
-relit_id (T3 p) = refl
-
 pub relit_among : (before : List Device) (d : Device) (behind : List Device) → map relit (before ++ d ∷ behind) ≡ map relit before ++ relit d ∷ map relit behind
 relit_among [] d behind = refl
 relit_among (l ∷ ls) d behind = ap (λ xs. relit l ∷ xs) (relit_among ls d behind)
@@ -391,8 +381,6 @@ quiet id old new r turns = quietly (picking_v id) (asks_quietly id) old new r tu
 
 module _ (id : List ℕ) (eight : length id ≡ 8) (old mid new : Air Device) (r : Result (Unit {0}) PollFault) (tame : AreTame (map kept old.listeners))
     (reset : moment mid ≡ with_events air (moment old) (Reset ∷ [])) (turns : PollsQuietly (picking_v id) mid r new) where
-  part : Going air (enquiring (picking_v id)) (moment mid) (moment new) turns.notes
-  part = turns.going
 
   abbrev notes : List Note
   notes = turns.notes

@@ -27,6 +27,7 @@ use Rattle.bench_devices.specs.Sensing.{f_if, sensed, is_three, has_three, IsThr
 use Rattle.bench_devices.proofs.QuietPolling.{HandsNone}
 use Rattle.bench_devices.proofs.SelectingKept.{IsHarmless}
 use Rattle.bench_devices.proofs.SelectingV.{relit}
+use Rattle.bench_devices.proofs.Inventoried.{AreOwn}
 
 still_three : (p : Powered T3State) (v : Bool) → p.lit ≡ v → (if v then record { tag = p.tag; lit = true } else p) ≡ p
 still_three p true e = ap (λ v. record { tag = p.tag; lit = v }) (sym e)
@@ -101,11 +102,6 @@ is_res id eight =
 
 pub is_own : (id : List ℕ) → length id ≡ 8 → is_of id (res_of id) ≡ true
 is_own id eight = ap (λ i. pointwise nat_eq i id) (tells_id id eight) ∙ bytes_self id
-
--- identifiers of eight bytes, no two the same
-abbrev pub AreOwn : List (List ℕ) → Type 0
-AreOwn [] = Unit {0}
-AreOwn (i ∷ is) = (length i ≡ 8) × AllByRecursion (λ j. j ≡ i → ⊥) is × AreOwn is
 
 others_apart : (k : Kept) (ds : List Device) → AllByRecursion (IsApart k) (map kept ds) → AllByRecursion (λ j. j ≡ k.fixed.id → ⊥) (filter_map f_if ds)
 others_apart k [] a = tt

@@ -204,11 +204,6 @@ module _ (t : T5State) (own : List ℕ) (code : ℕ) (rest : List ℕ) where
       by_store (inl e) = ap (λ s. (t5_after s frame).store) (as_old u is e) ∙ (alike u.quiet u.round t).store
       by_store (inr e) = ap (λ s. (t5_after s frame).store) (as_new u is e) ∙ (alike u.quiet u.round (t5_after t frame)).store ∙ heard_again t frame
 
-  pub heard_stays : (u : T5State) → HasHeard t frame u → HasHeard t frame (t5_after u frame)
-  heard_stays u is =
-      let same : IsSameTag u (t5_after u frame) = same_tag u frame in
-      record { id = same.id ∙ is.id; size = same.size ∙ is.size; locked = same.locked ∙ is.locked; store = inr (heard_holds u is) }
-
 -- the tag as its step sees it
 abbrev unhushed : T5State → T5State
 unhushed t = in_state false None t

@@ -21,10 +21,11 @@ use Rattle.bench_devices.specs.CardAsking.{tag_next}
 use Rattle.bench_devices.specs.Device.{BenchWorld, air, device_card, device_tag, how_of, seen_of, may_be_found}
 use Rattle.bench_devices.specs.Keeping.{ghosts}
 use Rattle.bench_devices.specs.Phases.{Stands}
-use Rattle.bench_devices.proofs.CardHeard.{CardGoes, CardHeard, IsSent, card_heard, rats_heard, has_fresh, field_of, same_frame}
+use Rattle.bench_devices.proofs.CardHeard.{CardGoes, CardHeard, IsSent, card_heard, rats_heard, field_of, same_frame}
 use Rattle.bench_devices.proofs.PlainHeard.{IsHeeded, IsOwn, StandsOn, Answered, answers}
 use Rattle.bench_devices.proofs.QuietWalk.{Passing, fated_passes, told_passes}
 use Rattle.bench_devices.proofs.ReadingTags.{stands_alone}
+use Rattle.bench_devices.proofs.CardParts.{has_fresh}
 
 -- Of a tag that takes commands as they are sent, these are left.
 pub record PlainGoes (asked : List Signal) (kind : SeenKind) (b : Moment BenchWorld) (ns : List Note) : Type 0 where

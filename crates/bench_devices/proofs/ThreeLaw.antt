@@ -21,7 +21,7 @@ use Rattle.bench_devices.proofs.ImagesJoin.{images_before, images_join, still_be
 use Rattle.bench_devices.proofs.SeekingOne.{seeking_closes, seeks_one, seeks_no_light}
 use Rattle.bench_devices.proofs.SelectingKept.{IsHarmless, due_asked}
 
-abbrev End : Type 0
+abbrev pub End : Type 0
 End = Result (Unit {0}) T3Fault
 
 -- whatever is due while a Type 3 tag is selected changes no device but in its state

@@ -14,6 +14,7 @@ use Rattle.t3t_access.specs.Answers.{check_of, update_of}
 use Rattle.t3t_access.specs.OwnWriting.{IsPutDue}
 use Rattle.t3t_access.specs.Writing.{Takes, put_at, all_puts, command_at, first_asked}
 use Rattle.bench_devices.specs.Threes.{WriteAsksThree}
+use Rattle.bench_devices.proofs.ThreeLists.{all_more}
 
 sized_or : (store : List ℕ) → IsSized (attributes store) ⊎ (IsSized (attributes store) → ⊥)
 sized_or store = by_form (has_one_form store).form (has_one_form store).is
@@ -116,10 +117,6 @@ may_check id = record { size = _; code = check_code; rest = _; frame = refl }
 
 may_update : (id : List ℕ) (number : ℕ) (content : List ℕ) → MayAsk Type3 id (update_of id number content)
 may_update id number content = record { size = _; code = update_code; rest = _; frame = refl }
-
-all_more : (P : Signal → Type 0) (xs : List Signal) (y : Signal) → AllByRecursion P xs → P y → AllByRecursion P (xs ++ y ∷ [])
-all_more P [] y all here = (here, tt)
-all_more P (x ∷ xs) y all here = (all.0, all_more P xs y all.1 here)
 
 may_first : (id own message : List ℕ) (n : ℕ) → AllByRecursion (MayAsk Type3 id) (first_asked id own message n)
 may_first id own message zero = (may_check id, tt)

@@ -43,9 +43,6 @@ module _ (a : Air Device) (place : ℕ) (id : List ℕ) (d : Device) (s : Stands
   abbrev store : List ℕ
   store = device_store d
 
-  tag : IsTag3 id (device_locks d) from
-  tag = shows_three a place id d s.stands s.three s.store
-
   same_store : from.state.store ≡ store
   same_store = shows_store a place d s.stands
 

@@ -1,9 +1,8 @@
 -- What a write of the selected Type 3 tag comes to, by what its link did, and that its stores keep the law meanwhile.
 use Rattle.std.proofs.Common.{◌≡◌, ◌⊎◌, inl, inr, ℕ, suc, List, [], ◌∷◌, ◌++◌, length, drop, Bool, Some, None, Ok, Err, refl, sym, ◌∙◌, ap, subst, arith, append-nil}
-use Rattle.std.specs.Prelude.{Result}
 use Rattle.std.specs.List.{AllByRecursion}
 use Rattle.nfc_base.specs.Signal.{Signal}
-use Rattle.nfc_base.specs.TagLinks.{LinkView, TagState, TagStep, Type3, MayAsk, Leads, after_all, passed}
+use Rattle.nfc_base.specs.TagLinks.{LinkView, Type3, MayAsk, Leads, passed}
 use Rattle.air_core.specs.World.{World}
 use Rattle.air_core.specs.Turn.{Air, world, moment}
 use Rattle.air_core.specs.PlainTags.{plain_kind}
@@ -41,9 +40,9 @@ use Rattle.bench_devices.proofs.ThreePuts.{ArePutsDue, PutsRest, puts_may, puts_
 use Rattle.bench_devices.proofs.ThreeReading.{calm_same}
 use Rattle.bench_devices.proofs.ThreeTags.{shows_three}
 use Rattle.bench_devices.proofs.WriteLists.{front_all}
-
-abbrev End : Type 0
-End = Result (Unit {0}) T3Fault
+use Rattle.bench_devices.proofs.ThreeLaw.{End}
+use Rattle.tag_writer.proofs.Going.{last_passed}
+use Rattle.bench_devices.proofs.WriteTold.{same_behind}
 
 -- the tag told why it takes no message, by its form, or refused an Update
 abbrev IsTold : T3Fault → Type 0
@@ -52,15 +51,6 @@ IsTold fault.Version = Unit {0}
 IsTold fault.BadSize = Unit {0}
 IsTold (fault.Refused status) = Unit {0}
 IsTold e = ⊥
-
--- the last of the stores that a tag passes is the one that it has then
-last_passed : (step : TagState → Signal → TagStep) (s : TagState) (cs : List Signal) → last_store s.store (passed step s cs) ≡ (after_all step s cs).store
-last_passed step s [] = refl
-last_passed step s (c ∷ cs) = last_passed step (step s c).after cs
-
-same_behind : {A : Type 0} (xs ys zs : List A) → xs ++ ys ≡ xs ++ zs → ys ≡ zs
-same_behind [] ys zs e = e
-same_behind (x ∷ xs) ys zs e = same_behind xs ys zs (let k : xs ++ ys ≡ xs ++ zs = cc in k)
 
 -- The law over stores that follow those that the tag passed.
 module _ (message : List ℕ) (locked : List Bool) (a b : LinkView) (stores : List (List ℕ)) (more : List Signal) (leads : Leads a b more) (follow : Follows a.state.store stores (passed a.step a.state more)) where

@@ -14,7 +14,7 @@ use Rattle.air_core.specs.Joint.{Joint, Nothing, Single, Clashing, joint, same_t
 use Rattle.air_core.specs.World.{hears, answered_by, stepped_by}
 use Rattle.air_core.specs.Conversation.{Note, Lit, Got, note, Next, Over, LightUp, Asks, Moment, TurnsTo, AreTurns, EachDue, FatesFrom, receptions, joint_events, joint_back, replay, turn_events, turn_heard, with_events}
 use Rattle.air_core.specs.PlainTags.{IsAside, IsAlone}
-use Rattle.air_core.specs.Waits.{Standing, Asking, Broken, Astray, due_at, stand, waits_next}
+use Rattle.air_core.specs.Waits.{stand, waits_next}
 use Rattle.air_core.proofs.OneAir.{same_itself}
 use Rattle.air_core.proofs.PlainAside.{IsUnmoved, aside_silent, may_tech, alone_says, alone_steps}
 use Rattle.air_core.proofs.PlainTurns.{joint_one}
@@ -56,6 +56,7 @@ use Rattle.bench_devices.proofs.SelectingV.{are_relit, relit, relit_among, relit
 use Rattle.bench_devices.proofs.Sensed.{is_three_of, stays_sensed}
 use Rattle.bench_devices.proofs.ThreeLists.{all_more}
 use Rattle.bench_devices.proofs.Walk.{walk}
+use Rattle.air_core.proofs.BrokenWaits.{never_light}
 
 -- a command that each tag with this identifier answers
 pub record IsHeeded (id : List ℕ) (f : Signal) : Type 0 where
@@ -215,13 +216,6 @@ stands_relit id ls sound h =
       },
     )
 
--- nothing of the waits lights the field up
-wait_dark : (s : Standing) → due_at s ≡ LightUp → ⊥
-wait_dark (Asking bad []) e = cc
-wait_dark (Asking bad (c ∷ cs)) e = cc
-wait_dark (Broken x cs) e = cc
-wait_dark Astray e = cc
-
 all_answered : (ns : List Note) (g : Signal) → AllByRecursion IsAnswered ns → AllByRecursion IsAnswered (ns ++ Got (Whole g) ∷ [])
 all_answered [] g h = (tt, tt)
 all_answered (n ∷ ns) g h = (h.0, all_answered ns g h.1)
@@ -320,7 +314,7 @@ module _ (id : List ℕ) (size : length id ≡ 8) (asked : List Signal) (a : Mom
       by_heeds c world (inr none) = inr none
   lights b hs (inr (inl x)) due =
       absurd (seeks_no_light id x.behind (sym (asks_same (picking_f id) (seeking_closes id) x.behind) ∙ ap polls.asks x.told ∙ sym (due_seeking b hs x) ∙ due))
-  lights b hs (inr (inr (inl x))) due = absurd (wait_dark (stand 0 x.left []) (sym (due_behind b hs x) ∙ due))
+  lights b hs (inr (inr (inl x))) due = absurd (never_light (stand 0 x.left []) (sym (due_behind b hs x) ∙ due))
   lights b hs (inr (inr (inr x))) due = absurd (let clash : Over ≡ LightUp = sym (ap (then_three asked) x.told) ∙ due in cc)
 
   answered : (b : Moment BenchWorld) (hs : List Note) → Course b hs → (behind : List Note) → seeking id hs ≡ Told (Ok tt) behind → AllByRecursion IsAnswered behind

@@ -5,21 +5,15 @@ use Rattle.nfc_base.specs.Signal.{Signal}
 use Rattle.nfc_base.specs.Trace.{back_of}
 use Rattle.nfc_base.specs.Trace as backs
 use Rattle.nfc_base.specs.declared.event.Event.{Event}
-use Rattle.nfc_base.specs.declared.event.Event.TheVariants.{Reset, Request, Answer, Clash}
+use Rattle.nfc_base.specs.declared.event.Event.TheVariants.{Reset, Request}
 use Rattle.nfc_base.specs.declared.event.Fate.{Fate}
 use Rattle.nfc_base.specs.declared.event.Fate.TheVariants.{Pass, Damage, Lose, Break}
 use Rattle.nfc_base.specs.declared.event.Heard.{Heard}
-use Rattle.air_core.specs.Joint.{Joint, Nothing, Single, Clashing}
-use Rattle.air_core.specs.Conversation.{AirModel, Note, Lit, note, Next, LightUp, Asks, EachDue, first_fate, later_fates, queue_after, FatesFrom, joint_events, replay, turn_events, turn_heard, Move, Light, Ask, trace_of, Moment, with_events, TurnsTo, receptions}
+use Rattle.air_core.specs.Joint.{Nothing}
+use Rattle.air_core.specs.Conversation.{AirModel, Note, Lit, note, Next, LightUp, Asks, EachDue, first_fate, later_fates, queue_after, FatesFrom, replay, turn_events, turn_heard, Move, Light, Ask, trace_of, Moment, with_events, TurnsTo, receptions}
 use Rattle.air_core.specs.Turning.{receptions-append}
 use Rattle.air_core.proofs.Following.{turn_first, trace_first, turn_known, turn_split}
-
--- what comes back has the first fate
-joint_fated : (q : List Fate) (j : Joint) (y : Fate) (t : List Event) → FatesFrom q (joint_events j y ++ t)
-    → (joint_events j y ≡ joint_events j (first_fate q)) × FatesFrom (queue_after q (joint_events j y)) t
-joint_fated q Nothing y t p = (refl, p)
-joint_fated q (Single g) y t p = (ap (λ z. Answer g z ∷ []) p.0, p.1)
-joint_fated q (Clashing g) y t p = (ap (λ z. Clash g z ∷ []) p.0, p.1)
+use Rattle.air_core.proofs.OneCourse.{joint_fated}
 
 module _ {W : Type 0} (m : AirModel W) where
   abbrev pub fated : List Fate → W → Signal → List Event

@@ -13,7 +13,7 @@ use Rattle.tag_writer.specs.declared.fault.WriteFault.TheVariants as faults
 use Rattle.tag_writer.specs.Faults.{IsWriteFault, IsToldOrMemory, OnTold, is_told, ending_of}
 use Rattle.tag_writer.specs.Law.{WriteLaw}
 use Rattle.tag_writer.specs.Puts.{commands_of}
-use Rattle.tag_writer.specs.WriteAsked.{IsWriteAsked, HasAskedOf, up_to_refused, all_puts, last_command}
+use Rattle.tag_writer.specs.WriteAsked.{IsWriteAsked, up_to_refused, all_puts, last_command}
 use Rattle.tag_writer.specs.WriteAsked as writer
 use Rattle.tag_writer.specs.Writing.{Keeps, HasWritten, HasWrittenAll, HasBegun, HasSucceeded}
 use Rattle.tag_reader.specs.Survey.{surveyed}
@@ -39,7 +39,7 @@ never_told : IsToldOrMemory faults.SixBad → ⊥
 never_told (inl told) = cc
 never_told (inr memory) = cc
 
-same_behind : {A : Type 0} (xs ys zs : List A) → xs ++ ys ≡ xs ++ zs → ys ≡ zs
+pub same_behind : {A : Type 0} (xs ys zs : List A) → xs ++ ys ≡ xs ++ zs → ys ≡ zs
 same_behind [] ys zs e = e
 same_behind (x ∷ xs) ys zs e = same_behind xs ys zs (let k : xs ++ ys ≡ xs ++ zs = cc in k)
 

@@ -112,16 +112,6 @@ part_refused tech word digits bytes tail c hex none f s =
     let fits : length bytes ≤ 288 = subst (λ b. length b ≤ 288) same s.fits.fits in
     none (fits, subst (λ t. IsBadTail bytes t → ⊥) parts.1 (subst (λ b. IsBadTail b f.tail → ⊥) same (no_bad_tail f s.fits)))
 
--- What they make is a frame that the word spells.
-pub frame_spelled : (tech : Tech) (word digits bytes : List ℕ) (tail : ℕ) (f : Signal) → CutsTail word digits tail → SpellsHex digits bytes → f ≡ signal tech bytes tail → IsSignal f → SpellsFrame tech word f
-frame_spelled tech word digits bytes tail f c hex is fits = record {
-  hex = digits;
-  bytes = subst (SpellsHex digits) (sym (ap (λ s. s.bytes) is)) hex;
-  is = c.is ∙ ap (λ t. digits ++ tail_text t) (sym (ap (λ s. s.tail) is));
-  fits = fits;
-  technology = ap (λ s. s.tech) is;
-}
-
 last_of : List ℕ → ℕ
 last_of [] = 0
 last_of (b ∷ []) = b

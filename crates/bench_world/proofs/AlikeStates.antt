@@ -1,11 +1,11 @@
 -- What doesn't show decides nothing later: alike states accept the same commands, and have the same fronts and the same legal steps.
-use Rattle.std.proofs.Common.{◌≡◌, inl, inr, List, [], ◌∷◌, Option, Some, None, IsSome, refl, sym, ◌∙◌, ap, subst}
+use Rattle.std.proofs.Common.{◌≡◌, inl, inr, List, [], Option, Some, None, IsSome, refl, sym, ◌∙◌, ap, subst}
 use Rattle.nfc_base.specs.declared.event.Event.{Event}
 use Rattle.nfc_base.specs.declared.event.Fate.{Fate}
 use Rattle.bench_script.specs.declared.command.Command.{Command}
 use Rattle.bench_world.specs.declared.entry.Entry.{Entry}
 use Rattle.bench_world.specs.Alike.{Alike, AlikeAccept, AlikeAnswers, AlikeFronts, AlikeSteps}
-use Rattle.bench_world.specs.Legal.{State, Given, Accepts, AnswerLaw, EachLegal, FrontOf, IsAskedBy, LegalStep, link_after, state_after}
+use Rattle.bench_world.specs.Legal.{State, Given, Accepts, AnswerLaw, FrontOf, IsAskedBy, LegalStep, link_after, state_after}
 use Rattle.bench_world.specs.Links.{OpenLink}
 use Rattle.bench_world.specs.Peers.{Peers}
 use Rattle.bench_world.specs.World.{WholeWorld}
@@ -27,16 +27,6 @@ alike_back s t a = record {
   peers = sym a.peers;
   stays = sym a.stays;
   whole = λ open_. sym (a.whole (subst IsSome (sym a.link) open_));
-}
-
-pub alike_then : (s t u : State) → Alike s t → Alike t u → Alike s u
-alike_then s t u a b = record {
-  link = a.link ∙ b.link;
-  lit = a.lit ∙ b.lit;
-  queue = a.queue ∙ b.queue;
-  peers = a.peers ∙ b.peers;
-  stays = a.stays ∙ b.stays;
-  whole = λ open_. a.whole open_ ∙ b.whole (subst IsSome a.link open_);
 }
 
 -- What holds of a state and itself, and of two in which no link is open and whose worlds the dark leaves the same, holds of alike states.
@@ -95,16 +85,6 @@ pub alike_steps : AlikeSteps
 alike_steps s t u g e alike step =
     by_alike (λ x y. LegalStep x g e u → (z : State) × LegalStep y g e z × Alike u z) (λ x h. (u, h, alike_itself u))
     (λ w v same q p h. steps_none w v same q p u g e h) s t alike step
-
--- So a legal journal from one is one from the other.
-pub alike_journal : (s t u : State) (gs : List Given) (js : List Entry) → Alike s t → EachLegal s gs js u → (v : State) × EachLegal t gs js v × Alike u v
-alike_journal s t u [] [] alike steps = (t, refl, subst (λ x. Alike x t) (sym steps) alike)
-alike_journal s t u [] (j ∷ js) alike steps = absurd steps
-alike_journal s t u (g ∷ gs) [] alike steps = absurd steps
-alike_journal s t u (g ∷ gs) (j ∷ js) alike steps =
-    let one = alike_steps s t steps.0 g j alike steps.1 in
-    let more = alike_journal steps.0 one.0 u gs js one.2 steps.2 in
-    (more.0, (one.0, one.1, more.1), more.2)
 
 -- What happened decides the answer.
 pub alike_answers : AlikeAnswers

@@ -19,8 +19,9 @@ use Rattle.bench_world.specs.Links.{OpenLink, end_numbered}
 use Rattle.bench_world.specs.Obeying.{IsSettled, linked_at, state_at, under}
 use Rattle.bench_world.specs.Peers.{Peers}
 use Rattle.bench_world.proofs.CallNotes.{IsPlainNext}
-use Rattle.bench_world.proofs.OnLink.{Ends, as_many, bench, end_is, end_shown, end_there, going, now, opened, trace_is}
+use Rattle.bench_world.proofs.OnLink.{as_many, bench, end_is, end_shown, end_there, going, now, opened, trace_is}
 use Rattle.bench_world.proofs.Restarted.{set_there}
+use Rattle.bench_world.proofs.Fronts.{Ends}
 
 -- what is accepted stays, whether the end is whole or not
 pub same_accepted : (v : Bool) (end : FarEnd) → OfEnd (λ e. e.service.accepted ≡ end.service.accepted) (by_link peer_ends v (Some end))

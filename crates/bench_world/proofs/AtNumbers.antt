@@ -118,16 +118,6 @@ pub adding_none : (k : Option Held) → adding [] k ≡ k
 adding_none None = refl
 adding_none (Some k) = ap (λ xs. Some (record { limit = k.limit; accepted = xs })) (append-nil k.accepted)
 
-pub held_none_more : (n : ℕ) (ps : List (Option ℕ)) (ks : List (Option Held)) → AreHeld ps ks → with_held [] n ps ks ≡ ks
-held_none_more n [] [] all = refl
-held_none_more n [] (k ∷ ks) all = absurd all
-held_none_more n (p ∷ ps) [] all = absurd all
-held_none_more n (p ∷ ps) (k ∷ ks) all = by (is_number n p) (held_none_more n ps ks all.1)
-  where
-    by : (v : Bool) → with_held [] n ps ks ≡ ks → (if v then adding [] k ∷ ks else k ∷ with_held [] n ps ks) ≡ k ∷ ks
-    by true e = ap (λ x. x ∷ ks) (adding_none k)
-    by false e = ap (λ xs. k ∷ xs) e
-
 at_none : (n : ℕ) (ps : List (Option ℕ)) → at_number n ps [] ≡ None
 at_none n [] = refl
 at_none n (p ∷ ps) = by (is_number n p) (at_none n ps)

@@ -87,6 +87,3 @@ module _ (old mid : Machines) (settled : IsSettled old) (q : ℕ) (l : OpenLink)
       short_so old mid settled q l far.end t joins b j after client slots Unlink new down
       (short old.air old.ends old.peers l (so old mid settled q l far.end t) joins b after none_at_rls j client
       (of_own (Fails Memory) (subst (λ y. Fails y far mid.air) r fails)) (of_own (λ f a. AsideFails f.end Memory after.end) (subst (λ y. AsideFails far.end y after.end) r (left accord none_at_rls))))
-
-  pub never_told : (x y : SnepFault) → x ≡ y → (Accords l.client far.end → Quiet → AsideFails far.end x after.end) → AsideFails far.end y after.end
-  never_told x y r left = subst (λ z. AsideFails far.end z after.end) r (left accord none_at_rls)

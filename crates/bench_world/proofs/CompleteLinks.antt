@@ -271,7 +271,7 @@ pub six_told : (asked : LinkAsking) (l : OpenLink) (joins : List ℕ) (es : List
 six_told (Does call) l joins es six = ap (told_call call) six
 six_told Closes l joins es six = ap told_closing six
 
-both_ends : (P Q R : FarEnd → Type 0) → ((end : FarEnd) → P end → Q end → R end) → (o : Option FarEnd) → OfEnd P o → OfEnd Q o → OfEnd R o
+pub both_ends : (P Q R : FarEnd → Type 0) → ((end : FarEnd) → P end → Q end → R end) → (o : Option FarEnd) → OfEnd P o → OfEnd Q o → OfEnd R o
 both_ends P Q R h None p q = absurd p
 both_ends P Q R h (Some end) p q = h end p q
 

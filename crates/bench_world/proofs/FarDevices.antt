@@ -1,5 +1,5 @@
 -- A peer of the bench that is selected and has a link does what its target's table says; the devices beside it are silent at the frames of its link.
-use Rattle.std.proofs.Common.{◌≡◌, ℕ, zero, suc, ◌≤◌, Bool, true, false, List, [], ◌∷◌, ◌++◌, length, Option, Some, None, refl, sym, ◌∙◌, ap, subst}
+use Rattle.std.proofs.Common.{◌≡◌, ℕ, zero, suc, ◌≤◌, Bool, true, List, [], ◌∷◌, ◌++◌, length, Option, Some, None, refl, sym, ◌∙◌, ap, subst}
 use Rattle.std.specs.Prelude.{get_or}
 use Rattle.arrayvec.specs.ArrayVec.{ArrayVec}
 use Rattle.nfc_base.specs.Signal.{Signal, whole_a}
@@ -12,12 +12,8 @@ use Rattle.air_core.specs.Turn.{Air}
 use Rattle.air_core.specs.World.{World, hands_over, answered_by, stepped_by}
 use Rattle.air_core.specs.PlainTags.{IsAlone, IsAside}
 use Rattle.air_core.proofs.PlainAside.{IsUnmoved, aside_silent}
-use Rattle.nfca_poll.specs.Calls.{call_of}
-use Rattle.nfca_poll.specs.Front.{Front, Off, Idle, Sleep, Ready, Active, front_next, is_active}
-use Rattle.nfca_poll.specs.Fronted.{Fronted, active_after, active_answer, after_by, left_at, plain_after}
-use Rattle.nfca_poll.specs.Levels.{levels}
-use Rattle.nfca_poll.specs.declared.upper.UpStep.{UpStep}
-use Rattle.nfca_poll.specs.declared.upper.UpStep.TheVariants as up
+use Rattle.nfca_poll.specs.Front.{Front, Off, Idle, Sleep, Ready, Active, is_active}
+use Rattle.nfca_poll.specs.Fronted.{Fronted, active_after, active_answer}
 use Rattle.dep_link.specs.declared.target.TargetStep.{TargetStep}
 use Rattle.dep_link.specs.declared.target.TargetStep.TheVariants as steps
 use Rattle.dep_link.specs.Exchange.{InStep}
@@ -36,20 +32,17 @@ use Rattle.bench_devices.specs.declared.device.Device.TheVariants.{T2, T4, Peer,
 use Rattle.bench_devices.specs.Beside.{InStepAt}
 use Rattle.bench_devices.specs.Device.{devices, device_end, device_id, device_linked, device_selected}
 use Rattle.bench_devices.specs.Keeping.{ghosts}
-use Rattle.bench_devices.specs.Peers.{PeerNear, by_target, delivered, peer_if, peer_machine, takes_frame}
+use Rattle.bench_devices.specs.Peers.{PeerNear, by_target, peer_machine}
 use Rattle.bench_devices.proofs.QuietRats.{laws}
 use Rattle.link_numbers.specs.Shown.{far_shown}
 use Rattle.link_numbers.proofs.FarAlone.{Around, AreAround, IsSilent, amid}
 use Rattle.link_numbers.proofs.FarClosing as closing
 use Rattle.link_numbers.proofs.FarClosing.{HasClosed, closes_well}
 use Rattle.link_numbers.proofs.FarFit.{RepliesFit}
-use Rattle.link_numbers.proofs.FarLaw.{IsWhole}
-use Rattle.link_numbers.proofs.FarMost.{Cuts, dark_cuts, table_cuts}
 use Rattle.link_numbers.proofs.FarPayloads.{IsWithin, peer_numbered, reads}
-use Rattle.link_numbers.proofs.FarRun.{most_replied}
 use Rattle.link_numbers.proofs.FarShown.{SameDark}
 use Rattle.link_numbers.proofs.FarSolo.{DoesSo}
-use Rattle.link_numbers.proofs.FarWalk.{HasCome, Outs}
+use Rattle.link_numbers.proofs.FarWalk.{HasCome, Outs, IsWhole}
 use Rattle.link_numbers.proofs.FarWalked.{walks_well}
 
 -- a selected peer with a link, whose target stands so
@@ -98,7 +91,7 @@ module _ (id : List ℕ) (starred : Bool) where
   }
 
 -- A selected device with a link is such a peer.
-front_active : (f : Front) → is_active f ≡ true → (starred : Bool) × (f ≡ Active starred)
+pub front_active : (f : Front) → is_active f ≡ true → (starred : Bool) × (f ≡ Active starred)
 front_active Off e = absurd cc
 front_active Idle e = absurd cc
 front_active Sleep e = absurd cc
@@ -220,73 +213,3 @@ module _ (w : FarWorld Device PeerState) (place : ℕ) (i : InitState) (a : Peer
         w.numbers talks.step most ok sent from es more (subst (λ z. AreTurns air z es) world_is turns) each (subst (λ z. RepliesFit devices device_linked peer_ends z es) world_is fit) outs in
         subst (λ z. ShowsWell z (far_shown i.core.number (es ++ more)) es (HasClosed (closing_stand sent from i (receptions es)))) (sym world_is)
         (record { turns = k.turns; alike = k.alike; done = k.done })
-
--- Each peer's pieces have two bytes or more, whatever it hears.
-abbrev pub PeerCuts : Device → Type 0
-PeerCuts (T2 d) = Unit {0}
-PeerCuts (T4 d) = Unit {0}
-PeerCuts (Peer d) = Cuts d.upper.target
-PeerCuts (T5 p) = Unit {0}
-PeerCuts (T3 p) = Unit {0}
-
-replied_cuts : (s : TargetState) (r : List ℕ) → Cuts s → Cuts (replied s r)
-replied_cuts s r k = subst (λ z. 2 ≤ z) (sym (most_replied s r)) k
-
-delivered_cuts : (s : TargetState) (reply : Option (List ℕ)) → Cuts s → Cuts (delivered s reply).after.target
-delivered_cuts s None k = k
-delivered_cuts s (Some r) k = replied_cuts s r k
-
-step_cuts : (s : TargetState) (reply : Option (List ℕ)) (d : TargetStep) → Cuts s → Cuts (by_target s reply d).after.target
-step_cuts s reply steps.Quiet k = k
-step_cuts s reply (steps.Reply f) k = k
-step_cuts s reply (steps.Restart general f) k = k
-step_cuts s reply (steps.Deliver payload) k = delivered_cuts s reply k
-step_cuts s reply (steps.Asleep f) k = k
-step_cuts s reply (steps.Released f) k = k
-
-did_cuts : (u : PeerNear) (f : Signal) (reply : Option (List ℕ)) (v : Bool) → Cuts u.target → Cuts (peer_if v u f reply).after.target
-did_cuts u f reply true k = step_cuts (target_table u.target f).state reply (target_table u.target f).does (table_cuts u.target k f)
-did_cuts u f reply false k = k
-
-moved_cuts : (d : Fronted PeerNear) (now next : Front) → Cuts d.upper.target → Cuts (left_at peer_machine now next d.upper).target
-moved_cuts d Off next k = k
-moved_cuts d Idle next k = k
-moved_cuts d Sleep next k = k
-moved_cuts d (Ready n s) next k = k
-moved_cuts d (Active s) Off k = dark_cuts d.upper.target
-moved_cuts d (Active s) Idle k = dark_cuts d.upper.target
-moved_cuts d (Active s) Sleep k = dark_cuts d.upper.target
-moved_cuts d (Active s) (Ready n o) k = dark_cuts d.upper.target
-moved_cuts d (Active s) (Active o) k = k
-
-plain_cuts : (d : Fronted PeerNear) (f : Signal) → Cuts d.upper.target → Cuts (plain_after peer_machine d f).upper.target
-plain_cuts d f k = moved_cuts d d.front (front_next (levels d.id) d.front (call_of f)) k
-
-active_cuts : (says : UpStep) (u : PeerNear) (d : Fronted PeerNear) (f : Signal) → Cuts u.target → Cuts d.upper.target → Cuts (active_after peer_machine says u d f).upper.target
-active_cuts up.Foreign u d f j k = plain_cuts d f k
-active_cuts up.Quiet u d f j k = j
-active_cuts (up.Reply g) u d f j k = j
-active_cuts (up.Sleep g) u d f j k = dark_cuts u.target
-active_cuts (up.Idle g) u d f j k = dark_cuts u.target
-
-fronted_cuts : (front : Front) (d : Fronted PeerNear) (f : Signal) (reply : Option (List ℕ)) → Cuts d.upper.target → Cuts (after_by peer_machine front d f reply).upper.target
-fronted_cuts Off d f reply k = plain_cuts d f k
-fronted_cuts Idle d f reply k = plain_cuts d f k
-fronted_cuts Sleep d f reply k = plain_cuts d f k
-fronted_cuts (Ready n s) d f reply k = plain_cuts d f k
-fronted_cuts (Active s) d f reply k =
-    active_cuts (peer_machine.says d.upper f reply) (peer_machine.after d.upper f reply) d f (did_cuts d.upper f reply (takes_frame d.upper f) k) k
-
-pub after_cuts : (l : Device) (f : Signal) (reply : Option (List ℕ)) → PeerCuts l → PeerCuts (devices.after l f reply)
-after_cuts (T2 d) f reply k = tt
-after_cuts (T4 d) f reply k = tt
-after_cuts (Peer d) f reply k = fronted_cuts d.front d f reply k
-after_cuts (T5 p) f reply k = tt
-after_cuts (T3 p) f reply k = tt
-
-pub darkened_cuts : (l : Device) → PeerCuts (devices.darkened l)
-darkened_cuts (T2 d) = tt
-darkened_cuts (T4 d) = tt
-darkened_cuts (Peer d) = dark_cuts d.upper.target
-darkened_cuts (T5 p) = tt
-darkened_cuts (T3 p) = tt

@@ -38,7 +38,7 @@ use Rattle.bench_devices.proofs.Searching.{search_closes}
 use Rattle.bench_world.specs.Forging.{Forging, Activates, Exchanges, Unlinked, forge_stand, forged_general, forging, linked_then, peer_linked, then_forges}
 use Rattle.bench_world.proofs.ForgingDue.{link_opened, opening_due}
 
-abbrev atr : Signal
+abbrev pub atr : Signal
 atr = atr_frame forged_general
 
 -- no wait lights the field up

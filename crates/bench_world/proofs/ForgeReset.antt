@@ -18,7 +18,7 @@ use Rattle.bench_world.specs.Peers.{Peers, placed_under}
 use Rattle.bench_world.specs.World.{FarEnd, stable}
 use Rattle.bench_world.proofs.Unlinking.{IsReset, front_ended_by, same_numbers, unlinked_state}
 
-numbers_stay : (s : State) → (unlinked s).peers.numbers ≡ s.peers.numbers
+pub numbers_stay : (s : State) → (unlinked s).peers.numbers ≡ s.peers.numbers
 numbers_stay s = same_numbers s.link s.peers s.world.fars
 
 same_forged : (v : Bool) (s : State) (id : List ℕ) (behind : List (Option FarEnd)) → peers_forged v (unlinked s) (A id) behind ≡ peers_forged v s (A id) behind

@@ -27,7 +27,7 @@ abbrev atr : Signal
 atr = atr_frame forged_general
 
 -- nothing is due where no command is left
-none_left : (ns : List Note) (f : Signal) → due_at (stand 0 [] ns) ≡ Asks f → ⊥
+pub none_left : (ns : List Note) (f : Signal) → due_at (stand 0 [] ns) ≡ Asks f → ⊥
 none_left [] f e = over_is_no_request f e
 none_left (n ∷ ns) f e = over_is_no_request f e
 

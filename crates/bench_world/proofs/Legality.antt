@@ -270,7 +270,7 @@ told_lost faults.NotFound answer is lost = absurd cc
 told_lost faults.BadAnswer answer is lost = absurd cc
 
 -- polling ends by no six bad receptions
-never_six : (e : PollFault) (answer : Answer) → poll_answer e ≡ Some answer → answer ≡ answers.SixBad → ⊥
+pub never_six : (e : PollFault) (answer : Answer) → poll_answer e ≡ Some answer → answer ≡ answers.SixBad → ⊥
 never_six faults.Nobody answer is six = cc
 never_six faults.Disturbed answer is six = cc
 never_six faults.FieldLost answer is six = cc

@@ -96,18 +96,8 @@ use Rattle.bench_world.proofs.Restarted.{KeepsEnd, begun_anew, times_keep, last_
 use Rattle.bench_world.proofs.Unlinking.{accepted_shown}
 use Rattle.bench_world.proofs.WholeNotes.{whole_notes}
 use Rattle.bench_world.proofs.Legality.{selecting_more, told_lost, poll_lost, asks_for, above, front_so, asks_so, plain_after, part_stays, stores_stay, stores_kept, stable_in}
-use Rattle.std.specs.Prelude.{◌-◌, ◌==◌, ◌≤◌, Bool, if◌then◌else◌}
-use Rattle.llcp_pdu.specs.Wire.{magic, least_miu}
-use Rattle.llcp_pdu.specs.Writing.{params_bytes}
-use Rattle.llcp_pdu.specs.declared.param.Param.TheVariants.{Version, Miux, Wks}
-
--- what an initiator says of its end fits into ATR_REQ
-short_by : (miu : ℕ) (v : Bool) → length (magic ++ params_bytes (Version 0x13 ∷ ((if v then [] else Miux (miu - least_miu) ∷ []) ++ Wks 0x0003 ∷ []))) ≤ 48
-short_by miu true = omega arith
-short_by miu false = omega arith
-
-own_short : (miu : ℕ) → length (own_general miu) ≤ 48
-own_short miu = short_by miu (miu == least_miu)
+use Rattle.std.specs.Prelude.{◌-◌, Bool}
+use Rattle.air_core.proofs.BrokenWaits.{never_light}
 
 -- no answer but that of a link that is open opens one
 plain_so : (s : State) (id : List ℕ) (miu rw : ℕ) (es : List Event) (a : Told_answer) → ((n : ℕ) → a ≡ answers.Linked n → ⊥) → state_after s no_joins (Link id miu rw) es (Some a) ≡ plain_after s (Link id miu rw) es
@@ -204,13 +194,6 @@ rest_breaks first rest none all = elim (cases_lt 0 (breaks first)) [ inl some �
 
 no_more_noise : (first rest : List Event) → noise (first ++ rest) ≡ 0 → noise rest ≡ 0
 no_more_noise first rest none = omega (arith, none, noise_append first rest)
-
--- no wait lights the field up
-never_lit : (s : Standing) → due_at s ≡ LightUp → ⊥
-never_lit (Asking bad []) e = cc
-never_lit (Asking bad (c ∷ cs)) e = cc
-never_lit (Broken x cs) e = cc
-never_lit Astray e = cc
 
 more_noise : (first rest : List Event) → 0 < noise rest → 0 < noise (first ++ rest)
 more_noise first rest some = omega (arith, some, noise_append first rest)
@@ -431,7 +414,7 @@ module _ (ends : Ends) (peers : Peers) (old : Air Device) (id : List ℕ) (miu r
       heard_whole : noise o.speaks.events ≡ 0 → AllByRecursion IsAnswered o.notes
       heard_whole none =
           subst (AllByRecursion IsAnswered) o.speaks.known
-          (whole_notes (atr_next (own_general miu)) (λ ns e. never_lit (stand 0 (atr_frame (own_general miu) ∷ []) ns) e) [] o.speaks.events o.speaks.each none (o.calm none))
+          (whole_notes (atr_next (own_general miu)) (λ ns e. never_light (stand 0 (atr_frame (own_general miu) ∷ []) ns) e) [] o.speaks.events o.speaks.each none (o.calm none))
 
       tells_by : (answer : Told_answer) → (IsFieldLost answer → result ≡ Err causes.FieldLost) → (result ≡ Err causes.FieldLost → IsFieldLost answer) → (answer ≡ answers.LinkEnded losses.SixBad → result ≡ Err causes.SixBad)
           → TellsStanding (λ a. a ≡ answers.Linked count) TellsLoss (stand 0 (atr_frame (own_general miu) ∷ []) o.notes) answer → LinkTells (A id) old.listeners count (own_general miu) es answer

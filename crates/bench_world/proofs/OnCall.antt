@@ -52,7 +52,7 @@ use Rattle.bench_world.specs.Peers.{Peers, next_number}
 use Rattle.bench_world.proofs.Arrived.{GoesOn, came_at, cut_at, same_accepted}
 use Rattle.bench_world.proofs.CallNotes.{IsPlainNext, call_broken, call_lost, calls_plain}
 use Rattle.bench_world.proofs.Quiet.{no_breaks}
-use Rattle.bench_world.proofs.OnLink.{Ends as FarEnds, accepted_now, accepted_there, as_many, bare, bare_alike, bare_more, devices_stay, end_is, end_shown, ends_more, ends_same, first, going, kept_long, leaves, now, opened, own, queue_is, served, set_long, tame, trace_is, world_is}
+use Rattle.bench_world.proofs.OnLink.{Ends as FarEnds, accepted_now, accepted_there, as_many, bare, bare_alike, bare_more, devices_stay, end_is, end_shown, ends_more, ends_same, going, kept_long, leaves, now, opened, own, queue_is, served, set_long, tame, trace_is, world_is}
 use Rattle.bench_world.proofs.Restarted.{set_there}
 
 -- what a step of a call is said for
@@ -82,9 +82,6 @@ module _ (air : Air Device) (ends : FarEnds) (peers : Peers) (l : OpenLink) (set
 
     abbrev es : List Event
     es = (going air ends peers l settled next plain b joins.far after notes g).events
-
-    abbrev from : WholeWorld
-    from = first air ends peers l settled next plain b joins.far after notes g
 
     -- the state then
     abbrev pub to : Option OpenLink → Peers → Machines

@@ -24,7 +24,7 @@ use Rattle.link_calls.specs.Staying.{Setting, setting_of}
 use Rattle.bench_devices.specs.declared.device.Device.{Device}
 use Rattle.bench_devices.specs.declared.device.Device.TheVariants.{T2, T4, Peer, T5, T3}
 use Rattle.bench_devices.specs.Beside.{InStepAt, PeerAt, TalkLeaves}
-use Rattle.bench_devices.specs.Kinds.{DeviceKind, T2Kind, T3Kind, T4Kind, PeerKind, T5Kind}
+use Rattle.bench_devices.specs.Kinds.{PeerKind}
 use Rattle.bench_devices.specs.Device.{devices, device_end, device_id, device_linked, is_tag, stable_of, StablePart, kind_of}
 use Rattle.bench_devices.specs.Keeping.{Kept, ghosts, kept, AreTame}
 use Rattle.bench_devices.proofs.BesideLink.{at_split}
@@ -35,13 +35,11 @@ use Rattle.bench_world.specs.Obeying.{Machines, IsSettled, linked_at, state_at, 
 use Rattle.bench_world.specs.Opened.{AreServed, IsFirstWith, IsOpen, IsServed}
 use Rattle.bench_world.specs.Peers.{Peers}
 use Rattle.bench_world.proofs.CallNotes.{IsPlainNext}
-use Rattle.bench_world.proofs.Fronts.{ends_table}
+use Rattle.bench_world.proofs.Fronts.{ends_table, Ends}
 use Rattle.bench_world.proofs.Restarted.{far_there, far_set, set_there}
 use Rattle.bench_world.proofs.TalkFar.{due_talk, talk_leaves}
-
--- the far ends above a field, one place a device
-abbrev pub Ends : Type 0
-Ends = List (Option FarEnd)
+use Rattle.bench_devices.proofs.TagOrPeer.{tag_kind}
+use Rattle.bench_world.proofs.Unlinking.{accepted_by_link}
 
 pub set_long : (os : Ends) (place : ℕ) (end after : FarEnd) → get_or os place None ≡ Some end → length (slice_set os place (Some after)) ≡ length os
 set_long [] place end after e = absurd cc
@@ -60,16 +58,8 @@ linked_there : (before : List Device) (d : Device) (behind : List Device) → li
 linked_there [] d behind = refl
 linked_there (x ∷ before) d behind = linked_there before d behind
 
--- What a device's kept parts tell of it.
-tag_by : DeviceKind → Bool
-tag_by T2Kind = true
-tag_by T3Kind = true
-tag_by T4Kind = true
-tag_by PeerKind = false
-tag_by T5Kind = true
-
-tag_is : (d : Device) → is_tag d ≡ tag_by (kept d).fixed.kind
-unfolding tag_by
+tag_is : (d : Device) → is_tag d ≡ tag_kind (kept d).fixed.kind
+unfolding tag_kind
 tag_is (T2 d) = refl
 tag_is (T4 d) = refl
 tag_is (Peer d) = refl
@@ -77,7 +67,7 @@ tag_is (T5 p) = refl
 tag_is (T3 p) = refl
 
 same_tag : (l m : Device) → kept m ≡ kept l → is_tag m ≡ is_tag l
-same_tag l m e = tag_is m ∙ ap (λ (k : Kept). tag_by k.fixed.kind) e ∙ sym (tag_is l)
+same_tag l m e = tag_is m ∙ ap (λ (k : Kept). tag_kind k.fixed.kind) e ∙ sym (tag_is l)
 
 first_kept : (l m : Device) (ls ms : List Device) → map kept (m ∷ ms) ≡ map kept (l ∷ ls) → kept m ≡ kept l
 first_kept l m ls ms e = cc
@@ -180,11 +170,6 @@ end_shown n (suc place) (p ∷ ps) (l ∷ ls) (o ∷ os) end first long at =
 pub end_there : (n place : ℕ) (ps : List (Option ℕ)) (ls : List Device) (os : Ends) (end : FarEnd) → IsFirstWith n place ps → length ps ≡ length ls → linked_at place ls ≡ true → get_or os place None ≡ Some end
     → end_numbered n ps (shown device_linked peer_ends ls os) ≡ Some end
 end_there n place ps ls os end first long linked at = end_shown n place ps ls os end first long at ∙ ap (λ v. by_link peer_ends v (Some end)) linked
-
-accepted_by_link : (v : Bool) (o : Option FarEnd) → accepted_by (by_link peer_ends v o) ≡ accepted_by o
-accepted_by_link true o = refl
-accepted_by_link false None = refl
-accepted_by_link false (Some l) = refl
 
 pub accepted_there : (n place : ℕ) (ps : List (Option ℕ)) (ls : List Device) (os : Ends) (end : FarEnd) → IsFirstWith n place ps → length ps ≡ length ls → get_or os place None ≡ Some end
     → accepted_by (end_numbered n ps (shown device_linked peer_ends ls os)) ≡ accepted_by (Some end)

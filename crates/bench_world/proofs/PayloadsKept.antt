@@ -43,9 +43,7 @@ use Rattle.bench_world.proofs.HeldOn.{nothing_sent}
 use Rattle.bench_world.proofs.OnLink.{none_numbered}
 use Rattle.bench_world.proofs.Unlinking.{same_numbers}
 use Rattle.bench_world.proofs.Tales.{goes_on, stories_behind, stories_from}
-
-abbrev Ends : Type 0
-Ends = List (Option FarEnd)
+use Rattle.bench_world.proofs.Fronts.{Ends}
 
 -- The end of the peer with a number, once one device more is placed; another one is taken away; or a value is offered.
 nowhere : (n : ℕ) (ps : List (Option ℕ)) (x : FarEnd) → end_numbered n ps [] ≡ Some x → ⊥

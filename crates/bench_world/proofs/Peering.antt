@@ -1,7 +1,7 @@
 -- A peer at a place: its server is given a value, and what that accepted is told.
 use Rattle.std.proofs.Common.{◌≡◌, ℕ, zero, suc, ◌+◌, ◌^◌, ◌<◌, List, [], ◌∷◌, ◌++◌, length, map, Bool, true, false, nat_eq, if◌then◌else◌, Option, Some, None, refl, sym, ◌∙◌, ap, subst, arith}
-use Rattle.std.specs.Prelude.{get_or, slice_set, slice_index, slice_index_or, option_map, drop, is_some}
-use Rattle.std.proofs.lemmas.List.{length-set, length-map, append-nil, append_assoc}
+use Rattle.std.specs.Prelude.{get_or, slice_set, option_map}
+use Rattle.std.proofs.lemmas.List.{length-set}
 use Rattle.std.specs.Cmp.Lexicographic.{pointwise}
 use Rattle.nfca_poll.proofs.OneLevel.{pointwise_self}
 use Rattle.far_air.specs.FarEnds.{by_link}
@@ -21,8 +21,7 @@ use Rattle.bench_world.specs.Legal.{State, IsPeerPlaced, inbox_now}
 use Rattle.bench_world.specs.Obeying.{Machines, state_at, IsSettled, Obeyed, FarAt, linked_at, with_end}
 use Rattle.bench_world.specs.declared.inbox.LinkRange.{LinkRange}
 use Rattle.bench_world.specs.Peers.{with_place_changed, placed_under, end_offered}
-use Rattle.bench_world.specs.Inbox.{chosen, received_on, inbox_at}
-use Rattle.snep_core.specs.Server.{Received as Accepted, messages_of, sources_of}
+use Rattle.bench_world.specs.Inbox.{inbox_at}
 use Rattle.bench_world.specs.World.{FarEnd}
 use Rattle.bench_world.proofs.PlacesKept.{served_offered}
 use Rattle.bench_world.proofs.LinkKept.{keeps_so, open_offered}
@@ -110,36 +109,6 @@ inbox_told old new id place messages settled peer s same is =
     ∙ ap (λ n. inbox_at links (get_or old.peers.numbers n None) (get_or old.ends n None)) s.at ∙ sym is in
     let O : Machines → Type 0 = λ m. Obeyed old m (Inbox id) (answers.Inbox messages) in
     subst O (sym same) (still_obeyed old old (Inbox id) (answers.Inbox messages) settled.idle peer refl refl refl refl (ap answers.Inbox (sym told)) settled.idle.tame settled.idle.tidy settled.places settled.link (λ h. h))
-
--- where no link has begun, all of it came on none
-all_chosen : (n : ℕ) (ms : List Accepted) → chosen (λ i. true) n ms ≡ ms
-all_chosen n [] = refl
-all_chosen n (m ∷ ms) = ap (λ xs. m ∷ xs) (all_chosen (n + 1) ms)
-
-pub on_no_link : (peer : ℕ) (o : FarEnd) → received_on 0 o.service.accepted ≡ inbox_at [] (Some peer) (Some o)
-on_no_link peer o = ap (received_on 0) (sym (all_chosen 0 o.service.accepted)) ∙ sym (append-nil (received_on 0 (chosen (λ i. true) 0 o.service.accepted)))
-
--- what is told of the messages from a place on
-pub told_next : (ms : List Accepted) (i : ℕ) (m : List ℕ) (s : ℕ) → i < length ms → m ≡ slice_index_or (messages_of ms) i m → s ≡ slice_index (sources_of ms) i
-    → received_on 0 (drop i ms) ≡ record { link = 0; source = s; message = m } ∷ received_on 0 (drop (suc i) ms)
-told_next [] i m s within at from = absurd (omega (arith, within))
-told_next (x ∷ ms) zero m s within at from =
-    let R : ℕ → List ℕ → Received = λ y k. record { link = 0; source = y; message = k } in
-    ap (λ r. r ∷ received_on 0 ms) (ap (λ y. R y x.message) (sym from) ∙ ap (R s) (sym at))
-told_next (x ∷ ms) (suc i) m s within at from = told_next ms i m s (omega (arith, within)) at from
-
-pub told_more : (ms : List Accepted) (told all : List Received) (i : ℕ) (m : List ℕ) (s : ℕ) → i < length (messages_of ms) → m ≡ slice_index_or (messages_of ms) i m → s ≡ slice_index (sources_of ms) i
-    → told ++ received_on 0 (drop i ms) ≡ all → (told ++ record { link = 0; source = s; message = m } ∷ []) ++ received_on 0 (drop (i + 1) ms) ≡ all
-told_more ms told all i m s within at from is =
-    let one : Received = record { link = 0; source = s; message = m } in
-    let few : i < length ms = omega (arith, within, length-map ms (λ (r : Accepted). r.message)) in
-    let next : i + 1 ≡ suc i = omega arith in
-    ap (λ n. (told ++ one ∷ []) ++ received_on 0 (drop n ms)) next ∙ append_assoc told (one ∷ []) (received_on 0 (drop (suc i) ms)) ∙ sym (ap (λ xs. told ++ xs) (told_next ms i m s few at from)) ∙ is
-
--- what is told where a number and a far end stand
-pub told_where : (number : Option ℕ) (end : Option FarEnd) (l : FarEnd) → is_some number ≡ true → end ≡ Some l → received_on 0 l.service.accepted ≡ inbox_at [] number end
-told_where None end l some has = absurd (let clash : false ≡ true = some in cc)
-told_where (Some peer) end l some has = on_no_link peer l ∙ sym (ap (inbox_at [] (Some peer)) has)
 
 -- The far end at a place is in the state as it says.
 pub far_shown : (ls : List Device) (os : List (Option FarEnd)) (n : ℕ) → n < length ls

@@ -159,11 +159,6 @@ first_more n k [] qs f = absurd f
 first_more n zero (p ∷ ps) qs f = f
 first_more n (suc k) (p ∷ ps) qs f = (f.0, first_more n k ps qs f.1)
 
-pub first_within : (n k : ℕ) (ps : List (Option ℕ)) → IsFirstWith n k ps → k < length ps
-first_within n k [] f = absurd f
-first_within n zero (p ∷ ps) f = omega arith
-first_within n (suc k) (p ∷ ps) f = omega (arith, first_within n k ps f.1)
-
 -- where a place is, once another one is taken away
 abbrev pub place_without : ℕ → ℕ → ℕ
 place_without zero zero = zero

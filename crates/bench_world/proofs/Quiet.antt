@@ -1,7 +1,7 @@
 -- On quiet air noise keeps no command from its answer.
 use Rattle.std.proofs.Common.{◌≡◌, ℕ, ◌+◌, ◌<◌, List, [], ◌∷◌, Bool, Ok, refl, sym, ◌∙◌, ap, subst, arith}
 use Rattle.nfc_base.specs.Signal.{Signal}
-use Rattle.nfc_base.specs.Trace.{Turn, turns, back_of, noise, breaks, other_than_pass}
+use Rattle.nfc_base.specs.Trace.{turns, back_of, noise, breaks, other_than_pass}
 use Rattle.nfc_base.specs.Trace as backs
 use Rattle.nfc_base.specs.declared.event.Event.{Event}
 use Rattle.nfc_base.specs.declared.event.Event.TheVariants.{Reset, Request, Answer as Answers, Clash}
@@ -90,7 +90,7 @@ back_passes (Request g x ∷ es) z = refl
 back_passes (Answers g x ∷ es) z = omega (arith, z)
 back_passes (Clash g x ∷ es) z = omega (arith, z)
 
-behind : (x : Fate) (n : ℕ) → other_than_pass x + n ≡ 0 → n ≡ 0
+pub behind : (x : Fate) (n : ℕ) → other_than_pass x + n ≡ 0 → n ≡ 0
 behind x n z = omega (arith, z)
 
 pub no_noisy : (is_one : Signal → Bool) (es : List Event) → noise es ≡ 0 → noisy_turns is_one es ≡ 0

@@ -1,5 +1,5 @@
 -- On quiet air each command on the open link is answered as its peer answers it.
-use Rattle.std.proofs.Common.{◌≡◌, ◌↔◌, ℕ, ◌<◌, ◌==◌, ◌||◌, nat_lt, List, [], ◌∷◌, length, map, Bool, true, false, if◌then◌else◌, Option, Some, None, refl, sym, ◌∙◌, ap, arith}
+use Rattle.std.proofs.Common.{◌≡◌, ◌↔◌, ℕ, ◌<◌, ◌==◌, ◌||◌, nat_lt, List, [], ◌∷◌, length, map, Bool, true, false, if◌then◌else◌, Option, Some, refl, sym, ◌∙◌, ap, arith}
 use Rattle.std.proofs.lemmas.Bool.{eqb-true}
 use Rattle.std.proofs.lemmas.Bool.Decides.{nat_tests}
 use Rattle.nfc_base.specs.Trace.{noise}
@@ -29,7 +29,7 @@ use Rattle.bench_world.specs.Quiet.{AllPass}
 use Rattle.bench_world.specs.QuietLinks.{gained, GainsAll, GainsBy, IsQuietly, StaysBehind, QuietTalks}
 use Rattle.bench_world.specs.World.{FarEnd, WholeWorld, stable}
 use Rattle.bench_world.proofs.Complete.{told_once}
-use Rattle.bench_world.proofs.CompleteLinks.{CameSo, GoesOn, call_ended, call_law, complete, had_six, jobs_on, six_bad, six_told, within, beyond, none_told}
+use Rattle.bench_world.proofs.CompleteLinks.{CameSo, GoesOn, call_ended, call_law, complete, had_six, jobs_on, six_bad, six_told, within, beyond, none_told, both_ends}
 use Rattle.bench_world.proofs.Quiet.{no_breaks, quiet_of}
 use Rattle.bench_world.proofs.Talks.{on_link, still_on}
 
@@ -108,10 +108,6 @@ gains_so : (call : Call) (end : FarEnd) (more : List Received) (answer : Answer)
 gains_so (Putting ws) end more answer x adds = all_gain ws end more (told_each ws answer) adds (jobs_told (Putting ws) x.jobs answer x.told)
 gains_so (Getting sap most key) end more answer x adds = adds
 gains_so (Finding name) end more answer x adds = adds
-
-both_ends : (P Q R : FarEnd → Type 0) → ((end : FarEnd) → P end → Q end → R end) → (o : Option FarEnd) → OfEnd P o → OfEnd Q o → OfEnd R o
-both_ends P Q R h None p q = absurd p
-both_ends P Q R h (Some end) p q = h end p q
 
 module _ (s t : State) (g : Given) (e : Entry) (step : LegalStep s g e t) (pass : AllPass s.queue) (l : OpenLink) (asked : LinkAsking) (asks : asked_on_link e.command ≡ Some asked) (up : s.link ≡ Some l) where
   abbrev law : CallLaw s g.joins l asked e.command e.events e.answer

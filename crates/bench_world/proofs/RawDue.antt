@@ -10,7 +10,7 @@ use Rattle.air_core.specs.Conversation.{Note, Lit, Got, Lost, Asks}
 use Rattle.air_core.specs.Waits.{Asking, Broken, due_at, stand}
 use Rattle.air_core.proofs.Following.{over_is_no_request}
 use Rattle.arrayvec.specs.ArrayVec.{ArrayVec}
-use Rattle.dep_link.specs.Activating.{atr_frame, told_atr}
+use Rattle.dep_link.specs.Activating.{told_atr}
 use Rattle.dep_link.specs.Frames.{spelled}
 use Rattle.bench_script.specs.declared.command.DeviceId.{DeviceId}
 use Rattle.bench_devices.specs.declared.polling.SeenKind.{SeenKind}
@@ -20,14 +20,8 @@ use Rattle.bench_devices.specs.Polling as polls
 use Rattle.bench_devices.specs.Polling.{Followed, Told, selecting}
 use Rattle.bench_world.specs.Forging.{forged_general}
 use Rattle.bench_world.specs.Rawing.{Rawing, Activates, Sends, Unlinked, raw_due, raw_linked_by, raw_noted, raw_stand, rawing, then_raws}
-
-abbrev atr : Signal
-atr = atr_frame forged_general
-
--- nothing is due where no command is left
-none_left : (ns : List Note) (f : Signal) → due_at (stand 0 [] ns) ≡ Asks f → ⊥
-none_left [] f e = over_is_no_request f e
-none_left (n ∷ ns) f e = over_is_no_request f e
+use Rattle.bench_world.proofs.ForgeNotes.{atr}
+use Rattle.bench_world.proofs.ForgingDue.{none_left}
 
 module _ (frames : List Signal) where
   -- as long as ATR_REQ is due there, it is here

@@ -52,9 +52,6 @@ module _ (frames : List Signal) where
   strays_on [] = refl
   strays_on (n ∷ ns) = strays_on ns
 
-  dark_on : (n : Note) (ns : List Note) → raw_stand frames Dark (n ∷ ns) ≡ Strays
-  dark_on n ns = strays_on ns
-
   -- the field was lost at a frame exactly where a note says so
   lost_stands : (ns : List Note) (heard : List RawHeard) (left : List Signal) → DrivenAt (Sends heard left) ns → HasLost ns → raw_stand frames (Sends heard left) ns ≡ Dark
   lost_stands [] heard left d l = absurd l

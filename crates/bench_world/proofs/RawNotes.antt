@@ -11,7 +11,7 @@ use Rattle.air_core.specs.Conversation.{Moment, Note, Lit, Got, Lost, Next, Over
 use Rattle.air_core.specs.Turning.{due_weaker}
 use Rattle.air_core.specs.Waits.{Standing, Asking, Broken, Astray, due_at, stand}
 use Rattle.arrayvec.specs.ArrayVec.{ArrayVec}
-use Rattle.dep_link.specs.Activating.{atr_frame, told_atr}
+use Rattle.dep_link.specs.Activating.{told_atr}
 use Rattle.dep_link.specs.AnyTarget.{AnswersAtr, atr_next, told_initiator}
 use Rattle.dep_link.specs.Frames.{spelled}
 use Rattle.dep_link.specs.Initiator.{InitState}
@@ -32,11 +32,8 @@ use Rattle.bench_devices.proofs.Following.{Closes, asks_same, going_driven, kind
 use Rattle.bench_devices.proofs.Searching.{search_closes}
 use Rattle.bench_world.specs.Forging.{forged_general}
 use Rattle.bench_world.specs.Rawing.{Rawing, Activates, Sends, Unlinked, raw_linked, raw_linked_then, raw_stand, rawing, then_raws}
-use Rattle.bench_world.proofs.ForgeNotes.{NoRest, never_lit, no_rest}
+use Rattle.bench_world.proofs.ForgeNotes.{NoRest, never_lit, no_rest, atr}
 use Rattle.bench_world.proofs.RawDue.{link_opened, opening_due}
-
-abbrev atr : Signal
-atr = atr_frame forged_general
 
 -- What selecting asks is asked first, and then what opening a link asks.
 polls_first : (frames : List Signal) (p : Followed SeenKind) (n : Next) → asks p ≡ n → IsDemand n → then_raws frames p ≡ n

@@ -18,10 +18,8 @@ use Rattle.bench_world.specs.Peers.{Peers, placed_under}
 use Rattle.bench_world.specs.RawAt.{RawStops}
 use Rattle.bench_world.specs.Rawing.{raw_opens}
 use Rattle.bench_world.specs.World.{FarEnd, stable}
-use Rattle.bench_world.proofs.Unlinking.{IsReset, front_ended_by, same_numbers, unlinked_state}
-
-numbers_stay : (s : State) → (unlinked s).peers.numbers ≡ s.peers.numbers
-numbers_stay s = same_numbers s.link s.peers s.world.fars
+use Rattle.bench_world.proofs.Unlinking.{IsReset, front_ended_by, unlinked_state}
+use Rattle.bench_world.proofs.ForgeReset.{numbers_stay}
 
 same_raw : (v : Bool) (s : State) (id : DeviceId) (behind : List (Option FarEnd)) → peers_forged v (unlinked s) id behind ≡ peers_forged v s id behind
 same_raw false s id behind = refl

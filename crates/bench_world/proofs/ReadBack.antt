@@ -54,7 +54,7 @@ lines_apart n k x y small less e =
     (decimal_injective n k (omega arith) (omega arith) parts.0, before_lf x y (ap (drop 1) parts.1))
 
 -- the digits of a byte stand above the signs
-abbrev all_above : List ℕ → Bool
+abbrev pub all_above : List ℕ → Bool
 all_above [] = true
 all_above (b ∷ bs) = ltb 47 b && all_above bs
 
@@ -115,7 +115,7 @@ frame_tells f g is are tech e =
     let tail : f.tail ≡ g.tail = tail_tells (f.tail == 0) (g.tail == 0) f.tail g.tail refl refl is.small are.small parts.1 in
     ap (λ x. signal x f.bytes f.tail) tech ∙ ap (λ x. signal g.tech x f.tail) bytes ∙ ap (λ x. signal g.tech g.bytes x) tail
 
-fate_tells : (x y : Fate) → fate_text x ≡ fate_text y → x ≡ y
+pub fate_tells : (x y : Fate) → fate_text x ≡ fate_text y → x ≡ y
 fate_tells Pass Pass e = refl
 fate_tells Pass Damage e = absurd (omega (arith, ap first e))
 fate_tells Pass Lose e = absurd (omega (arith, ap first e))

@@ -1,15 +1,13 @@
 -- Where all passes, a peer with a link is heard at RLS_REQ.
-use Rattle.std.proofs.Common.{◌≡◌, ℕ, List, [], ◌++◌, Bool, true, false, ◌||◌, if◌then◌else◌, Option, Some, None, refl, ◌∙◌, ap, arith}
+use Rattle.std.proofs.Common.{◌≡◌, ℕ, List, [], ◌++◌, Bool, true, false, ◌||◌, if◌then◌else◌, Option, Some, None, refl, ◌∙◌, ap}
 use Rattle.std.specs.List.{cons_option}
 use Rattle.nfc_base.specs.Choosing.{Choosing}
 use Rattle.nfc_base.specs.Far.{Untouched}
-use Rattle.nfc_base.specs.LinkTurns.{bad_receptions}
 use Rattle.nfc_base.specs.Signal.{Signal}
-use Rattle.nfc_base.specs.Trace.{noise, back_of}
+use Rattle.nfc_base.specs.Trace.{back_of}
 use Rattle.nfc_base.specs.Trace as backs
 use Rattle.nfc_base.specs.declared.event.Event.{Event}
 use Rattle.nfc_base.specs.declared.event.Fate.{Fate}
-use Rattle.nfc_base.specs.declared.event.Fate.TheVariants.{Pass, Damage, Lose, Break}
 use Rattle.nfc_base.specs.declared.event.Heard.{Heard}
 use Rattle.nfc_base.specs.declared.frame.Tech.TheVariants.{A}
 use Rattle.air_core.specs.Conversation.{first_fate, later_fates, turn_events}
@@ -40,6 +38,7 @@ use Rattle.bench_devices.specs.Peers.{PeerNear, PeerDid, by_turn, peer_if, peer_
 use Rattle.bench_devices.proofs.QuietRats.{laws}
 use Rattle.bench_world.specs.World.{FarEnd}
 use Rattle.bench_world.proofs.CallCalm.{IsCalm}
+use Rattle.dep_link.proofs.ActivateLaw.{said_calm}
 
 -- it answers, unless it's mute
 abbrev Frees_so : TargetState → TargetTurn
@@ -65,16 +64,6 @@ rls_says (T4 d) a linked heeds = absurd cc
 rls_says (Peer d) a linked heeds = says_by d.front d.id d.upper a linked heeds
 rls_says (T5 p) a linked heeds = absurd cc
 rls_says (T3 p) a linked heeds = absurd cc
-
--- a turn in which something was said, and all passed
-said_calm : (f g : Signal) (x y : Fate) → noise (tag_events f x y (Some g)) ≡ 0 → bad_receptions (tag_events f x y (Some g)) ≡ 0
-said_calm f g Pass Pass z = refl
-said_calm f g Pass Damage z = absurd (omega (arith, z))
-said_calm f g Pass Lose z = absurd (omega (arith, z))
-said_calm f g Pass Break z = absurd (omega (arith, z))
-said_calm f g Damage y z = absurd (omega (arith, z))
-said_calm f g Lose y z = absurd (omega (arith, z))
-said_calm f g Break y z = absurd (omega (arith, z))
 
 begins_fresh : (f g : Signal) (x y : Fate) → back_of (tag_events f x y (Some g)) ≡ backs.Nothing
 begins_fresh f g x y = refl

@@ -25,6 +25,7 @@ use Rattle.bench_world.specs.Legal.{State, Given, Joins, Accepts, IsFree, FrontO
 use Rattle.bench_world.specs.World.{WholeWorld, bench_air}
 use Rattle.bench_world.proofs.FarStays.{far_stay}
 use Rattle.bench_world.specs.Taking.{IsTaken, AreSpelled, AreAccepted, AreTaken, LinesDecide, standing_from, standing_of}
+use Rattle.bench_devices.proofs.TagOrPeer.{tag_kind}
 
 -- what the conditions ask of a device
 pub record Shape : Type 0 where
@@ -55,18 +56,11 @@ busy_by T4Kind = true
 busy_by PeerKind = true
 busy_by T5Kind = false
 
-tag_by : DeviceKind → Bool
-tag_by T2Kind = true
-tag_by T3Kind = true
-tag_by T4Kind = true
-tag_by PeerKind = false
-tag_by T5Kind = true
-
 shape_by : Fixed → ℕ → Shape
-shape_by x long = record { id = x.id; blocks = blocks_by x.kind x.size long; busy = busy_by x.kind; tag = tag_by x.kind }
+shape_by x long = record { id = x.id; blocks = blocks_by x.kind x.size long; busy = busy_by x.kind; tag = tag_kind x.kind }
 
 shape_is : (d : Device) → shape d ≡ shape_by (fixed d) (length (device_store d))
-unfolding shape_by blocks_by busy_by tag_by
+unfolding shape_by blocks_by busy_by tag_kind
 shape_is (T2 d) = refl
 shape_is (T4 d) = refl
 shape_is (Peer d) = refl

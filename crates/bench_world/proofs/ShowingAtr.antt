@@ -2,7 +2,6 @@
 use Rattle.std.proofs.Common.{◌≡◌, ℕ, ◌≤◌, ◌||◌, Bool, true, false, if◌then◌else◌, List, [], ◌∷◌, ◌++◌, length, Option, Some, None, refl, sym, ◌∙◌, ap, subst, arith}
 use Rattle.std.specs.Prelude.{get_or, ◌-◌, ◌==◌}
 use Rattle.nfc_base.specs.Far.{FarUse, Untouched, Restarts, Hands}
-use Rattle.nfc_base.specs.Signal.{Signal}
 use Rattle.nfc_base.specs.Trace.{heard_by}
 use Rattle.nfc_base.specs.declared.event.Fate.{Fate}
 use Rattle.nfc_base.specs.declared.event.Fate.TheVariants.{Pass, Damage, Lose, Break}
@@ -14,7 +13,7 @@ use Rattle.air_core.specs.World.{answered_by, hands_over, hears, stepped_by}
 use Rattle.air_core.specs.Conversation.{joint_back, joint_events, replay, turn_events, turn_heard}
 use Rattle.nfca_poll.specs.Front.{Front, Off, Idle, Sleep, Ready, Active}
 use Rattle.nfca_poll.specs.Fronted.{Fronted, active_after, handed_by}
-use Rattle.dep_link.specs.Activating.{atr_frame, atr_req}
+use Rattle.dep_link.specs.Activating.{atr_req}
 use Rattle.dep_link.specs.Exchange.{InStep}
 use Rattle.dep_link.specs.Frames.{is_atr_req}
 use Rattle.nfc_base.specs.Pieces.{longest_extension, most_busy}
@@ -29,7 +28,6 @@ use Rattle.far_air.specs.Staying.{NoPayload}
 use Rattle.peer_air.specs.PeerFars.{peer_ends}
 use Rattle.link_numbers.proofs.FarAlone.{Around, AreAround, IsAmid, alone, amid, around_all, is_placed, same_joint, turned}
 use Rattle.link_numbers.proofs.FarCourse.{Made, made_events, made_world}
-use Rattle.link_numbers.proofs.FarLaw.{IsWhole}
 use Rattle.bench_devices.specs.declared.device.Device.{Device}
 use Rattle.bench_devices.specs.declared.device.Device.TheVariants.{T2, T4, Peer, T5, T3}
 use Rattle.bench_devices.specs.Device.{device_linked, devices}
@@ -40,9 +38,8 @@ use Rattle.air_core.specs.PlainTags.{IsAside}
 use Rattle.bench_world.specs.Forging.{forged_general}
 use Rattle.bench_world.specs.World.{FarEnd, WholeWorld, bench_air}
 use Rattle.bench_world.proofs.FarDevices.{TalksTo, aside_darkened, aside_quiet}
-
-abbrev pub atr : Signal
-atr = atr_frame forged_general
+use Rattle.bench_world.proofs.ForgeNotes.{atr}
+use Rattle.link_numbers.proofs.FarWalk.{IsWhole}
 
 short : length forged_general ≤ 48
 short = omega arith

@@ -4,7 +4,7 @@ use Rattle.std.proofs.Common.{◌≡◌, ℕ, suc, Bool, true, false, if◌then�
 use Rattle.std.specs.Prelude.{nat_lt}
 use Rattle.std.proofs.lemmas.List.{append-nil}
 use Rattle.nfc_base.specs.Signal.{Signal}
-use Rattle.nfc_base.specs.Trace.{back_of, by_fate, heard_back, heard_by}
+use Rattle.nfc_base.specs.Trace.{back_of, by_fate, heard_by}
 use Rattle.nfc_base.specs.Trace as backs
 use Rattle.nfc_base.specs.declared.carrier.EndCause.TheVariants as cause
 use Rattle.nfc_base.specs.declared.event.Event.{Event}
@@ -30,7 +30,7 @@ use Rattle.link_calls.specs.Walk.{walk_at, walk_due, walk_stand}
 use Rattle.link_numbers.proofs.FarWalk.{walk_never}
 use Rattle.bench_devices.specs.declared.polling.SeenKind.TheVariants as seen
 use Rattle.bench_devices.specs.Polling as polls
-use Rattle.bench_devices.specs.Polling.{Followed, Told, follows, kind_by, seen_kind, selecting}
+use Rattle.bench_devices.specs.Polling.{Followed, Told, follows, kind_by, seen_kind}
 use Rattle.bench_devices.proofs.Following.{follows_on}
 use Rattle.bench_devices.proofs.Polls.{IsFresh, Polls, poll_lit, poll_start, poll_turn}
 use Rattle.bench_devices.proofs.Searching.{search_closes}
@@ -38,11 +38,12 @@ use Rattle.bench_world.specs.Forging.{Activates, Unlinked, bad_again, forge_due,
 use Rattle.bench_world.specs.ShownForged.{behind_opening, behind_res}
 use Rattle.bench_world.specs.World.{WholeWorld, bench_air}
 use Rattle.bench_world.proofs.ForgingDue.{exchanges}
-use Rattle.bench_world.proofs.ShowingAtr.{AwaitsAtr, Behind, BeginsLink, atr, atr_is, atr_payless, atr_turn}
+use Rattle.bench_world.proofs.ShowingAtr.{AwaitsAtr, Behind, BeginsLink, atr_is, atr_payless, atr_turn}
 use Rattle.bench_world.proofs.ShowingPayless.{Payless, one_turn, payless_append, turn_payless}
 use Rattle.bench_world.proofs.ShowingSelected.{MayBegin, awaits, poll_counts, poll_payless}
 use Rattle.bench_world.proofs.ShowingTurns.{fated}
 use Rattle.bench_world.proofs.ShowingWalk.{walked}
+use Rattle.bench_world.proofs.ForgeNotes.{atr}
 
 -- What was heard of a turn, where that was no whole answer: behind it as many replies are counted as without it.
 abbrev NoneWhole : Option Heard → Type 0

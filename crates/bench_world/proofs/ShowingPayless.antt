@@ -46,10 +46,6 @@ quiet_at Break f ds q = tt
 abbrev Goes : List Event → Type 0
 Goes es = (w : WholeWorld) → NoneHands devices w.field es → Payless w es
 
--- behind one event
-one_more : (w : WholeWorld) (e : Event) (es : List Event) → NoneHands devices w.field (e ∷ []) → Goes es → NoneHands devices (replay bench_air w (e ∷ [])).field es → Payless (bench_air.happens w e) es
-one_more w e es one more n = more (bench_air.happens w e) n
-
 pub none_payless : (es : List Event) → Goes es
 none_payless [] w n = tt
 none_payless (Reset ∷ es) w n = none_payless es (bench_air.happens w Reset) n

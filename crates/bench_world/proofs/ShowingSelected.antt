@@ -12,7 +12,7 @@ use Rattle.air_core.specs.Turning.{due_weaker}
 use Rattle.air_core.specs.PlainTags.{IsAside}
 use Rattle.nfca_poll.specs.Crowd.{Card, Each}
 use Rattle.nfca_poll.specs.Enquiry.{Enquires, enquiring}
-use Rattle.nfca_poll.specs.Front.{Front, Off, Idle, Sleep, Ready, Active, is_active}
+use Rattle.nfca_poll.specs.Front.{Active}
 use Rattle.nfca_poll.specs.Ident.{IsIdent}
 use Rattle.nfca_poll.specs.RoundEnds.{LeavesActive}
 use Rattle.nfca_poll.specs.Rounds.{device_of, picking}
@@ -56,7 +56,7 @@ use Rattle.bench_world.specs.Opened.{AreServed, IsServed}
 use Rattle.bench_world.specs.ShownForged.{behind_opening, behind_res}
 use Rattle.bench_world.specs.World.{FarEnd, WholeWorld, bench_air}
 use Rattle.bench_world.proofs.CompleteLinkings.{no_tag}
-use Rattle.bench_world.proofs.FarDevices.{fars_split}
+use Rattle.bench_world.proofs.FarDevices.{fars_split, front_active}
 use Rattle.bench_world.proofs.Fronts.{ends_table}
 use Rattle.bench_world.proofs.LinkObeyed.{none_selecting}
 use Rattle.bench_world.proofs.PlacesKept.{kinds_of, served_as}
@@ -113,13 +113,6 @@ pub record IsPeerIn (d : Device) : Type 0 where
   pub named : device_id d ≡ id
   pub few : target.busy ≤ most_busy
   pub times : (1 ≤ target.times) × (target.times ≤ longest_extension)
-
-front_active : (f : Front) → is_active f ≡ true → (starred : Bool) × (f ≡ Active starred)
-front_active Off e = absurd cc
-front_active Idle e = absurd cc
-front_active Sleep e = absurd cc
-front_active (Ready k starred) e = absurd cc
-front_active (Active starred) e = (starred, refl)
 
 peer_is : (d : Device) → is_tag d ≡ false → device_selected d ≡ true → IsSound (kept d) → IsPeerIn d
 peer_is (T2 d) tag e s = absurd cc

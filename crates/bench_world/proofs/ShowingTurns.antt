@@ -5,25 +5,19 @@ use Rattle.nfc_base.specs.Signal.{Signal}
 use Rattle.nfc_base.specs.Trace.{back_of}
 use Rattle.nfc_base.specs.Trace as backs
 use Rattle.nfc_base.specs.declared.event.Event.{Event}
-use Rattle.nfc_base.specs.declared.event.Event.TheVariants.{Reset, Request, Answer, Clash}
+use Rattle.nfc_base.specs.declared.event.Event.TheVariants.{Reset, Request}
 use Rattle.nfc_base.specs.declared.event.Fate.{Fate}
 use Rattle.nfc_base.specs.declared.event.Fate.TheVariants.{Pass, Damage, Lose, Break}
-use Rattle.air_core.specs.Joint.{Joint, Nothing, Single, Clashing}
-use Rattle.air_core.specs.Conversation.{AirModel, Note, Next, Over, LightUp, Asks, receptions, EachDue, first_fate, later_fates, queue_after, FatesFrom, joint_events, replay, turn_events, Move, Light, Ask, trace_of, AreTurns}
+use Rattle.air_core.specs.Joint.{Nothing}
+use Rattle.air_core.specs.Conversation.{AirModel, Note, Next, Over, LightUp, Asks, receptions, EachDue, first_fate, later_fates, queue_after, FatesFrom, replay, turn_events, Move, Light, Ask, trace_of, AreTurns}
 use Rattle.air_core.specs.Turning.{queue_after-append, replay-append}
 use Rattle.air_core.proofs.Following.{same_asked, light_is_no_request, no_demand, turn_first, turn_split}
+use Rattle.air_core.proofs.OneCourse.{joint_fated}
 
 -- Behind some events these ones were due, and have the fates of the queue.
 pub record IsDueFront (next : List Note → Next) (before : List Event) (q : List Fate) (es : List Event) : Type 0 where
   pub due : EachDue next before es
   pub fates : FatesFrom q es
-
--- what comes back has the first fate of the queue
-joint_fated : (q : List Fate) (j : Joint) (y : Fate) (t : List Event) → FatesFrom q (joint_events j y ++ t)
-    → (joint_events j y ≡ joint_events j (first_fate q)) × FatesFrom (queue_after q (joint_events j y)) t
-joint_fated q Nothing y t p = (refl, p)
-joint_fated q (Single g) y t p = (ap (λ z. Answer g z ∷ []) p.0, p.1)
-joint_fated q (Clashing g) y t p = (ap (λ z. Clash g z ∷ []) p.0, p.1)
 
 module _ {W : Type 0} (m : AirModel W) where
   -- the events of moves that are made in the light

@@ -17,7 +17,7 @@ use Rattle.link_calls.proofs.AtOnce.{each_waits, none_at}
 use Rattle.bench_world.specs.declared.entry.Answer.TheVariants as answers
 use Rattle.bench_world.specs.declared.entry.SlotDone.{SlotDone}
 use Rattle.bench_world.specs.Calls.{all_done, done_before, told_at_once, told_one, told_several}
-use Rattle.bench_world.specs.LinkTaken.{done_at, is_success, is_taken, marked_done, not_yet, told_slots}
+use Rattle.bench_world.specs.LinkTaken.{done_at, is_success, marked_done, not_yet, told_slots}
 
 -- a slot tells this of its message, which doesn't wait
 abbrev SlotSays : List OnSap → List Slot → ℕ → List ℕ → Type 0
@@ -59,12 +59,6 @@ told_by_slots ws slots now jobs apart rest is still =
           ∙ ap (marked (job_from s jobs)) (slot_there final client_sap k s refl ∙ waits),
       none_at now still.none k,
     )))
-
--- one alone is told of by its slot, and several each
-pub one_by_slot : (ws : List SlotMessage) (w : SlotMessage) (slots : List Slot) → length ws ≡ 1 → w ≡ get_or ws 0 w → told_slots ws slots ≡ (if is_taken slots w.slot then answers.Success else answers.Reject)
-one_by_slot [] w slots one is = absurd (omega (arith, one))
-one_by_slot (x ∷ []) w slots one is = ap (λ (y : SlotMessage). if is_taken slots y.slot then answers.Success else answers.Reject) (sym is)
-one_by_slot (x ∷ y ∷ ws) w slots one is = absurd (omega (arith, one))
 
 marked_all : (slots : List Slot) (ws : List SlotMessage) → map (marked_done slots) (map not_yet ws) ≡ map (done_at slots) ws
 marked_all slots [] = refl

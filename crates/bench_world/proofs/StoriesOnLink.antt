@@ -107,11 +107,6 @@ call_over w q p l ys o None places in_step = record { places = places; stand = o
 call_over w q p l ys o (Some m) places in_step =
     let s = in_step m refl in record { places = places; stand = subst (λ n. Open (view_at p w.fars) n ys) (sym s.0) (record { opened = o; step = s.1 }) }
 
--- a call that adds nothing to what the peer accepted
-pub same_opened : (p : Peers) (fars now : List (Option FarEnd)) (n : ℕ) (ys : List Story) → map held now ≡ map held fars → Open (view_at p fars) n ys → Open (view_at p now) n ys
-same_opened p fars now n ys same o =
-    subst (λ ks. Open (record { numbers = p.numbers; placed = next_number p; links = p.links; held = ks }) n ys) (sym same) o
-
 -- A command on it, which puts these messages, told of so.
 module _ (s t : State) (l : OpenLink) (ys : List Story) (o : Open (view_of s) l.peer ys) (x : Stretch) (ws : List SlotMessage) (apart : AreApart ws) (ts : List Told) (puts : puts_in x.command x.told ≡ puts_told ws ts)
     (more : List Accepted) (adds : OfEnd (λ end. AllAdd ws end ts more) (peer_end_of s l)) (numbers : t.peers.numbers ≡ s.peers.numbers)

@@ -1,17 +1,15 @@
 -- What holds of each command that asks something on the open link.
-use Rattle.std.proofs.Common.{◌≡◌, ℕ, List, [], ◌∷◌, Bool, true, false, is_some, if◌then◌else◌, Option, Some, None, refl, ◌∙◌, ap, append-nil}
+use Rattle.std.proofs.Common.{◌≡◌, ℕ, List, [], Bool, true, false, is_some, Some, refl, ap}
 use Rattle.nfc_base.specs.declared.event.Event.{Event}
 use Rattle.air_core.specs.Conversation.{LightUp, Note}
-use Rattle.snep_core.specs.Server.{Received}
 use Rattle.snep_core.specs.Talk.{closes}
 use Rattle.link_calls.specs.Asking.{LinkAsking, Does, Closes, call_begins}
 use Rattle.bench_script.specs.declared.command.Command.{Command}
 use Rattle.bench_script.specs.declared.command.Command.TheVariants.{Put, Get, Lookup, OnPut, OnGet, Puts, Unlink, Read, Read3, Write, Write3}
 use Rattle.bench_world.specs.Asked.{IsOnLink, asked_on_link}
-use Rattle.bench_world.specs.Calls.{OfEnd, accepting_if, due_asked, with_accepted}
-use Rattle.bench_world.specs.Legal.{State, CutFront, CutShort, IsAskedBy, Joins, changed, peer_end_of}
-use Rattle.bench_world.specs.Links.{OpenLink, is_number}
-use Rattle.bench_world.specs.World.{FarEnd}
+use Rattle.bench_world.specs.Calls.{due_asked}
+use Rattle.bench_world.specs.Legal.{State, CutFront, CutShort, IsAskedBy, Joins, changed}
+use Rattle.bench_world.specs.Links.{OpenLink}
 use Rattle.bench_world.proofs.CallNotes.{calls_plain, closings_plain}
 
 -- a command that isn't one
@@ -52,26 +50,3 @@ short_of joins s c cut t on f = f
 pub never_lit : (asked : LinkAsking) (l : OpenLink) (joins : List ℕ) (ns : List Note) → due_asked asked l joins ns ≡ LightUp → ⊥
 never_lit (Does call) l joins ns = (calls_plain joins (call_begins l.client call) l.initiator ns).lit
 never_lit Closes l joins ns = (closings_plain joins (closes l.client) l.initiator ns).lit
-
--- Nothing accepted more.
-same_accepting : (o : Option FarEnd) → accepting_if [] o ≡ o
-same_accepting None = refl
-same_accepting (Some l) = ap (λ xs. Some (record l { service = record l.service { accepted = xs } })) (append-nil l.service.accepted)
-
-pub none_accepted : (n : ℕ) (ps : List (Option ℕ)) (os : List (Option FarEnd)) → with_accepted [] n ps os ≡ os
-none_accepted n [] os = refl
-none_accepted n (p ∷ ps) [] = refl
-none_accepted n (p ∷ ps) (o ∷ os) = by (is_number n p) (none_accepted n ps os)
-  where
-    by : (v : Bool) → with_accepted [] n ps os ≡ os → (if v then accepting_if [] o ∷ os else o ∷ with_accepted [] n ps os) ≡ o ∷ os
-    by true e = ap (λ x. x ∷ os) (same_accepting o)
-    by false e = ap (λ xs. o ∷ xs) e
-
--- what is said of an end without speaking of it
-pub of_any : {X : Type 0} (o : Option FarEnd) → OfEnd (λ end. X) o → X
-of_any None h = absurd h
-of_any (Some end) h = h
-
--- so it is where nothing is added
-pub ends_stay : (s : State) (l : OpenLink) (more : List Received) → OfEnd (λ end. more ≡ []) (peer_end_of s l) → (now ends : List (Option FarEnd)) → now ≡ with_accepted more l.peer s.peers.numbers ends → now ≡ ends
-ends_stay s l more none now ends e = e ∙ ap (λ xs. with_accepted xs l.peer s.peers.numbers ends) (of_any (peer_end_of s l) none) ∙ none_accepted l.peer s.peers.numbers ends

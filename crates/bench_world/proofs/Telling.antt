@@ -137,10 +137,10 @@ site_access (hows.T5 id) size store (File m) writable is = absurd is.0
 same_fault : (e f : PollFault) → ◌≡◌ {A = Result Everybody PollFault} (Err e) (Err f) → e ≡ f
 same_fault e f h = cc
 
-no_answer : (a : Answer) → None ≡ Some a → ⊥
+pub no_answer : (a : Answer) → None ≡ Some a → ⊥
 no_answer a e = cc
 
-told_once : (a b : Answer) → ◌≡◌ {A = Option Answer} (Some a) (Some b) → a ≡ b
+pub told_once : (a b : Answer) → ◌≡◌ {A = Option Answer} (Some a) (Some b) → a ≡ b
 told_once a b e = cc
 
 -- the answer tells of the store what the read shows of it

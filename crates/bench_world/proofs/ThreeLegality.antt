@@ -56,7 +56,7 @@ use Rattle.bench_world.specs.Legal.{Stores3Law, no_joins}
 use Rattle.bench_world.specs.Obeying.{CutOffUnlinked, ObeyedUnlinked}
 use Rattle.bench_world.specs.Threes.{AreWellStored, CutThree, IfThree, IsWellStored, KeepsStores3, ReadAsks3, ReadEnd3, TellsEnd3, TellsForm3, TellsRead3, TellsWrite3, ThreeEnds, ThreeTells, WriteAsks3, WriteEnd3, end_told, told_three, written_three}
 use Rattle.bench_world.proofs.Fronts.{ends_behind, field_behind, stable_behind}
-use Rattle.bench_world.proofs.Legality.{above, asks_for, asks_obeyed, front_of, lost_behind, none_in, part_stays, stores_stay, trace_is}
+use Rattle.bench_world.proofs.Legality.{above, asks_for, asks_obeyed, front_of, lost_behind, none_in, part_stays, stores_stay, trace_is, never_six}
 use Rattle.bench_world.proofs.Placed.{Upon}
 use Rattle.bench_world.proofs.Placing.{IsWith, is_with, map-over, with_sound}
 use Rattle.bench_world.proofs.Telling.{tells_as}
@@ -218,14 +218,6 @@ lost_only faults.BadAnswer answer is lost = absurd cc
 
 lost_as : (e : PollFault) (answer : Answer) → poll_answer e ≡ Some answer → ◌≡◌ {A = Result (Unit {0}) PollFault} (Err e) (Err faults.FieldLost) → answer ≡ answers.FieldLost
 lost_as e answer is lost = (let same : e ≡ faults.FieldLost = cc in let told : Some answer ≡ Some answers.FieldLost = sym is ∙ ap poll_answer same in cc)
-
-never_six : (e : PollFault) (answer : Answer) → poll_answer e ≡ Some answer → answer ≡ answers.SixBad → ⊥
-never_six faults.Nobody answer is six = cc
-never_six faults.Disturbed answer is six = cc
-never_six faults.FieldLost answer is six = cc
-never_six faults.Memory answer is six = cc
-never_six faults.NotFound answer is six = cc
-never_six faults.BadAnswer answer is six = cc
 
 -- no tag was selected: so a command of it tells, whatever it would tell of one
 missed_three : (Tells : Device → Answer → Type 0) (id : List ℕ) (asked : List Signal) (old new : Moment (World Device)) (e : PollFault) (answer : Answer) → (s : Seeks id (Err e) old new)

@@ -1,5 +1,5 @@
 -- What a read and a write of a Type 3 tag came to, and the answers that tell it.
-use Rattle.std.proofs.Common.{◌≡◌, inl, inr, ℕ, ◌<◌, List, Bool, true, false, Option, Some, None, Ok, Err, refl, sym, ◌∙◌, ap, subst, arith}
+use Rattle.std.proofs.Common.{◌≡◌, inl, inr, ℕ, ◌<◌, List, Bool, true, false, Option, Some, Ok, Err, refl, sym, ◌∙◌, ap, subst, arith}
 use Rattle.std.specs.Prelude.{◌≤◌, ◌*◌, ◌==◌, get_or, length}
 use Rattle.nfc_base.specs.declared.tag_link.AskFault.{AskFault}
 use Rattle.nfc_base.specs.declared.tag_link.AskFault.TheVariants as asking
@@ -23,13 +23,10 @@ use Rattle.bench_world.specs.declared.entry.Answer.{Answer}
 use Rattle.bench_world.specs.declared.entry.Answer.TheVariants as answers
 use Rattle.bench_world.specs.Answering.{TellsFault}
 use Rattle.bench_world.specs.Threes.{IfThree, MayEnd3, MayEndWrite3, ReadEnd3, TellsEnd3, TellsForm3, TellsRead3, TellsWrite3, WriteEnd3, end_told, told_three, written_three}
-use Rattle.bench_world.proofs.Telling.{tells_either}
+use Rattle.bench_world.proofs.Telling.{tells_either, no_answer}
 
 some_answer : (a b : Answer) → ◌≡◌ {A = Option Answer} (Some a) (Some b) → a ≡ b
 some_answer a b e = cc
-
-no_answer : (a : Answer) → None ≡ Some a → ⊥
-no_answer a e = cc
 
 -- Where an answer tells of it, memory wasn't wanting.
 pub read_fed : (r : ReadEnd3) (answer : Answer) → told_three r ≡ Some answer → r ≡ Err fault.Memory → ⊥

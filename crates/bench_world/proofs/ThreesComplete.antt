@@ -73,12 +73,6 @@ module _ (Tells : Device → Answer → Type 0) (id : List ℕ) (ds : List Devic
   abbrev Ends : Result (Unit {0}) PollFault → Type 0
   Ends r = ThreeEnds Tells id ds asked r t.behind answer
 
-  no_fault : (none : breaks events ≡ 0) → (six : answer ≡ answers.SixBad → ⊥) → (e : AskFault) → TellsFault e answer → ⊥
-  no_fault none six asking.FieldLost is = let some : 0 < breaks events = t.lost.0 is in omega (arith, none, some)
-  no_fault none six asking.SixBad is = six is
-  no_fault none six asking.Memory is = is
-  no_fault none six asking.Protocol is = is
-
   says : OfPlaced (λ x. Tells x answer) (device_with id ds) → Tells d answer
   says h = subst (λ o. OfPlaced (λ x. Tells x answer) o) found h
 

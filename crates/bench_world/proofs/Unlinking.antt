@@ -36,7 +36,7 @@ use Rattle.bench_world.proofs.Peering.{any_other}
 use Rattle.bench_world.proofs.Removing.{removed, under_at}
 
 -- A server has accepted as many messages, whether the state has its far end whole or what stays of it.
-accepted_by_link : (v : Bool) (o : Option FarEnd) → accepted_by (by_link peer_ends v o) ≡ accepted_by o
+pub accepted_by_link : (v : Bool) (o : Option FarEnd) → accepted_by (by_link peer_ends v o) ≡ accepted_by o
 accepted_by_link true o = refl
 accepted_by_link false None = refl
 accepted_by_link false (Some l) = refl
@@ -315,18 +315,6 @@ module _ (n : ℕ) (ps : List (Option ℕ)) (i : ℕ) (within : i < length ps) (
   not_here other os =
       let next : suc i ≡ i + 1 = omega arith in
       by_place false other os ∙ ap (λ k. end_numbered n (drop k ps) (drop k os)) next
-
-  pub here : is_number n (get_or ps i p) ≡ true → (os : List (Option FarEnd)) → end_numbered n (drop i ps) (drop i os) ≡ get_or os i None
-  here named os = by_place true named os
-
-pub nowhere : (n : ℕ) (ps : List (Option ℕ)) (os : List (Option FarEnd)) (i : ℕ) → length ps ≡ i → end_numbered n (drop i ps) (drop i os) ≡ None
-nowhere n ps os i all = ap (λ qs. end_numbered n qs (drop i os)) (dropped ps i all)
-  where
-    dropped : {X : Type 0} (xs : List X) (k : ℕ) → length xs ≡ k → drop k xs ≡ []
-    dropped [] zero e = refl
-    dropped [] (suc k) e = refl
-    dropped (x ∷ xs) zero e = absurd cc
-    dropped (x ∷ xs) (suc k) e = dropped xs k cc
 
 -- the last of some links ends
 pub last_set : (n : ℕ) (ls : List LinkRange) (i : ℕ) (d : LinkRange) → i + 1 ≡ length ls

@@ -1,5 +1,5 @@
 -- Where all passed nothing that is heard is damaged, and no field is lost; and where no reception was bad each is a whole answer.
-use Rattle.std.proofs.Common.{◌≡◌, ℕ, ◌+◌, List, [], ◌∷◌, ◌++◌, Option, Some, None, refl, arith}
+use Rattle.std.proofs.Common.{◌≡◌, ◌+◌, List, [], ◌∷◌, ◌++◌, Option, Some, None, refl, arith}
 use Rattle.std.specs.List.{AllByRecursion}
 use Rattle.nfc_base.specs.LinkTurns.{bads_heard, bad_receptions}
 use Rattle.nfc_base.specs.Trace.{noise, back_of, heard_by, other_than_pass}
@@ -11,6 +11,7 @@ use Rattle.nfc_base.specs.declared.event.Heard.{Heard}
 use Rattle.nfc_base.specs.declared.event.Heard.TheVariants.{Whole, Collided, Damaged, Silent}
 use Rattle.air_core.specs.Conversation.{Note, note, Next, Over, LightUp, Asks, EachDue, receptions}
 use Rattle.bench_devices.specs.Hearing.{IsUnharmed, IsAnswered}
+use Rattle.bench_world.proofs.Quiet.{behind}
 
 -- Without noise nothing that is heard is damaged, and no field is lost.
 pub heard_first : (x : Fate) (es : List Event) → other_than_pass x + noise es ≡ 0 → IsUnharmed (note (heard_by x (back_of es)))
@@ -28,9 +29,6 @@ heard_first Pass (Clash g Break ∷ es) z = absurd (omega (arith, z))
 heard_first Damage es z = absurd (omega (arith, z))
 heard_first Lose es z = absurd (omega (arith, z))
 heard_first Break es z = absurd (omega (arith, z))
-
-pub behind : (x : Fate) (n : ℕ) → other_than_pass x + n ≡ 0 → n ≡ 0
-behind x n z = omega (arith, z)
 
 pub all_unharmed : (es : List Event) → noise es ≡ 0 → AllByRecursion IsUnharmed (receptions es)
 all_unharmed [] z = tt

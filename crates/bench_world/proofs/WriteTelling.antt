@@ -1,5 +1,5 @@
 -- What a write came to, and the answer that tells it.
-use Rattle.std.proofs.Common.{◌≡◌, inl, inr, ℕ, false, List, Option, Some, None, Ok, Err, refl, sym, ◌∙◌, ap, subst}
+use Rattle.std.proofs.Common.{◌≡◌, inl, inr, ℕ, false, List, Option, Some, Ok, Err, refl, sym, ◌∙◌, ap, subst}
 use Rattle.nfc_base.specs.Signal.{Signal}
 use Rattle.nfc_base.specs.TagLinks.{TagState, TagStep, plain_state}
 use Rattle.nfc_base.specs.declared.event.Event.{Event}
@@ -30,7 +30,7 @@ use Rattle.bench_world.specs.Answering.{written_by, MayEndWrite, TellsFault}
 use Rattle.bench_world.specs.Writing.{TellsTag, TellsWrite, ending_told}
 use Rattle.bench_devices.proofs.TagOrPeer.{one_if}
 use Rattle.bench_world.proofs.OneForm.{one_store_form}
-use Rattle.bench_world.proofs.Telling.{tells_either}
+use Rattle.bench_world.proofs.Telling.{tells_either, no_answer, told_once}
 
 -- What a device does with commands is a function of what stays of it.
 commands_by : DeviceKind → Fixed → TagState → Signal → TagStep
@@ -67,12 +67,6 @@ module _ (d e : Device) (same : kept d ≡ kept e) (message : List ℕ) where
   law_same ending w es law =
       let P : Kept → Type 0 = λ k. WriteLaw k.fixed.how k.fixed.size k.store message ending (images_of k.fixed.id w es) in
       subst P same law
-
-told_once : (a b : Answer) → ◌≡◌ {A = Option Answer} (Some a) (Some b) → a ≡ b
-told_once a b e = cc
-
-no_answer : (a : Answer) → None ≡ Some a → ⊥
-no_answer a e = cc
 
 -- Where an answer tells of a write, memory wasn't wanting.
 pub write_fed : (r : WriteEnd) (answer : Answer) → written_by r ≡ Some answer → r ≡ Err writing.Memory → ⊥

@@ -19,7 +19,7 @@ use Rattle.dep_link.specs.Releasing.{rls_frame, TakesRls}
 use Rattle.dep_link.proofs.Wire.{target_heeds}
 
 -- mute or not
-rls_use : (t : TargetState) → target_use (target_table t rls_frame).does ≡ Untouched
+pub rls_use : (t : TargetState) → target_use (target_table t rls_frame).does ≡ Untouched
 rls_use t = ap (λ (z : TargetTurn). target_use z.does) (target_heeds t RlsReq tt) ∙ go t.mute
   where
     go : (b : Bool) → target_use (framed (if b then stays t else record { state = t; does = Frees RlsRes })).does ≡ Untouched

@@ -110,13 +110,6 @@ spelled v b s =
     let r : ReadAs v b = spelled_as v b s in
     ap (λ f. unless f (frame_of (head b) b)) r.clean ∙ r.value
 
--- no bytes spell two frames
-pub one_frame : (b : List ℕ) (v w : DepFrame) → DepSpelling v b → DepSpelling w b → v ≡ w
-one_frame b v w s t =
-    let p : spelled_frame b ≡ Some v = spelled v b s in
-    let q : spelled_frame b ≡ Some w = spelled w b t in
-    cc
-
 -- what is written of a value in range spells it
 pub written_spells : (v : DepFrame) → IsDepFrame v → DepSpelling v (written v)
 written_spells v range =

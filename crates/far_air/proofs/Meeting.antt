@@ -15,7 +15,7 @@ use Rattle.far_air.specs.FarLaws.{IsFarTable, IsLinked, IsOfTable, with_far, sho
 use Rattle.far_air.specs.FarTurns.{QuietBut}
 use Rattle.far_air.proofs.Showing.{link_kept, stepped_unlinked}
 
-met_same : {L F : Type 0} (l l' : L) (o o' : Option F) (a a' : Option Signal) (r r' : AllMet L F) → l ≡ l' → o ≡ o' → a ≡ a' → r ≡ r' → met_first l o a r ≡ met_first l' o' a' r'
+pub met_same : {L F : Type 0} (l l' : L) (o o' : Option F) (a a' : Option Signal) (r r' : AllMet L F) → l ≡ l' → o ≡ o' → a ≡ a' → r ≡ r' → met_first l o a r ≡ met_first l' o' a' r'
 met_same l l' o o' a a' r r' d e s k =
     ap (λ x. met_first x o a r) d ∙ ap (λ x. met_first l' x a r) e ∙ ap (λ x. met_first l' o' x r) s ∙ ap (λ x. met_first l' o' a' x) k
 

@@ -14,7 +14,7 @@ use Rattle.air_core.specs.Turn.{Air, world, moment}
 use Rattle.air_core.specs.Turning.{going_start}
 use Rattle.air_core.specs.Conversation.{Note, Going}
 use Rattle.air_core.specs.PlainTags.{reached}
-use Rattle.air_core.specs.PlainLinks.{counts_of, unanswered, Follows, stores_after}
+use Rattle.air_core.specs.PlainLinks.{counts_of, Follows, stores_after}
 use Rattle.nfc_base.specs.declared.event.Event.{Event}
 use Rattle.air_core.specs.declared.listener.Listener.{Ghosts}
 use Rattle.air_core.proofs.PlainAside.{Laws}
@@ -33,21 +33,10 @@ use Rattle.isodep_link.proofs.CardTurns.{Holds}
 use Rattle.isodep_link.proofs.CutSizes.{rests_cut, reached_cuts}
 use Rattle.nfc_base.proofs.LinkTurns.{arrived_append}
 use Rattle.isodep_link.proofs.IsoViews.{handed, leads, shown_images, no_more, before, shown_obeyed, shown_held, obeys, shown_noise, shown_step, shown_within, either_store, still_answered, all_answered, answered_before, since_new}
-
-pub none_here : (o : Option AskFault) → ((x : AskFault) → o ≡ Some x → ⊥) → o ≡ None
-none_here None other = refl
-none_here (Some x) other = absurd (other x refl)
-
-counts_rise : (o o' : Option AskFault) → o ≡ None → CountsOn (counts_of o) (counts_of o')
-counts_rise None o' e = record { breaks = omega arith; six_bad = omega arith; odd = omega arith }
-counts_rise (Some x) o' e = absurd cc
+use Rattle.air_core.proofs.PlainAnswers.{counts_rise, none_left}
 
 counts_stay : (o : Option AskFault) → CountsOn (counts_of o) (counts_of o)
 counts_stay o = record { breaks = omega arith; six_bad = omega arith; odd = omega arith }
-
-none_left : (o : Option AskFault) (last : Option Signal) → o ≡ None → unanswered o last ≡ []
-none_left None last e = refl
-none_left (Some x) last e = absurd cc
 
 module _ {L : Type 0} (k : Ghosts L) (laws : Laws k) (card : L → CardState) (tag : L → TagState) (holds : Holds k tag) (old : Air L) (place start told : ℕ) (i : ReaderState) (last : Option Signal) (over : Option AskFault)
     (c : Signal) (begun_ : over ≡ None) (ready : over ≡ None → IsIsoReady k card tag (before k laws card tag holds old place start told i last over)) (may : c ≡ whole_a c.bytes) where
@@ -109,11 +98,6 @@ module _ {L : Type 0} (k : Ghosts L) (laws : Laws k) (card : L → CardState) (t
           ap length obeyed_one ∙ length-append (iso_view k card tag was).obeyed (c ∷ []) in omega (arith, n));
       once = λ e. obeyed_one;
     }
-
-    -- the listener of the next command is the one that is left
-    here : {B : Type 0} (f : L → B) (d : B) → f ready_tag.listener ≡ f w.after.left
-    here f d =
-        sym (place_is k f d (k.identifier ready_tag.listener) new.listeners place ready_tag.listener ready_tag.alone) ∙ place_is k f d (k.identifier l) new.listeners place w.after.left w.after.alone
 
     left_lit : ((new.lit ≡ true) × (w.after.left ≡ reached k l w.after.frames)) ⊎ ((new.lit ≡ false) × (w.after.left ≡ k.machine.darkened (reached k l w.after.frames)))
         → w.after.left ≡ reached k l w.after.frames

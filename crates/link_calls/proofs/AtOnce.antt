@@ -242,13 +242,6 @@ set_none (x ∷ xs) (suc k) s none un = (none.0, set_none xs k s none.1 un)
 pub set_rests : (slots : List Slot) (k : ℕ) (s : Slot) → IsAtRest slots → has_staged s ≡ false → IsAtRest (set slots k s)
 set_rests slots k s rest un = record { eight = length-set slots k s ∙ rest.eight; none = set_none slots k s rest.none un }
 
-pub fresh_rests : IsAtRest fresh_slots
-fresh_rests = record { eight = refl; none = none_staged slot_count }
-  where
-    none_staged : (n : ℕ) → NoneStaged (replicate n NoMessage)
-    none_staged zero = tt
-    none_staged (suc n) = (refl, none_staged n)
-
 -- What a put from the first slot leaves, where it has an ending.
 abbrev pub put_ended : Result Unit SnepFault → Result Ending SnepFault
 put_ended (Ok u) = Ok Done

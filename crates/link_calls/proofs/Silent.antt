@@ -1,26 +1,17 @@
 -- RLS_REQ asks nothing of a far end, and fails a closing by its cause alone.
-use Rattle.std.proofs.Common.{◌≡◌, Bool, true, false, if◌then◌else◌, refl, sym, ◌∙◌, ap}
+use Rattle.std.proofs.Common.{◌≡◌, sym, ◌∙◌}
 use Rattle.nfc_base.specs.Far.{Untouched}
 use Rattle.nfc_base.specs.declared.carrier.EndCause.{EndCause}
 use Rattle.nfc_base.specs.declared.carrier.EndCause.TheVariants as cause
 use Rattle.air_core.specs.Turn.{Air}
 use Rattle.air_core.specs.declared.listener.Listener.{Ghosts}
-use Rattle.dep_pdu.specs.declared.frame.DepFrame.TheVariants.{RlsReq, RlsRes}
-use Rattle.dep_link.specs.Target.{TargetState, TargetTurn, Frees, stays, framed, target_table}
+use Rattle.dep_link.specs.Target.{TargetState}
 use Rattle.dep_link.specs.Initiator.{InitState}
 use Rattle.dep_link.specs.DepLinks.{IsInStep}
-use Rattle.dep_link.specs.Peers.{target_use}
 use Rattle.dep_link.specs.Releasing.{TakesRls, rls_frame}
-use Rattle.dep_link.proofs.Wire.{target_heeds}
 use Rattle.snep_core.specs.Accord.{AsideFails, PeerState}
 use Rattle.snep_core.specs.Calling.{fault_of}
-
-rls_use : (t : TargetState) → target_use (target_table t rls_frame).does ≡ Untouched
-rls_use t = ap (λ (z : TargetTurn). target_use z.does) (target_heeds t RlsReq tt) ∙ go t.mute
-  where
-    go : (b : Bool) → target_use (framed (if b then stays t else record { state = t; does = Frees RlsRes })).does ≡ Untouched
-    go true = refl
-    go false = refl
+use Rattle.dep_link.proofs.Released.{rls_use}
 
 -- where no listener hands anything over at it, the peer of an open link doesn't
 pub takes_rls : {L : Type 0} (k : Ghosts L) (target : L → TargetState) (air : Air L) (i : InitState) → IsInStep k target air i → ((l : L) → k.machine.handed l rls_frame ≡ Untouched) → TakesRls k target air

@@ -16,8 +16,8 @@ use Rattle.air_core.specs.World.{Machine, hands_over, answered_by, stepped_by}
 use Rattle.far_air.specs.FarEnds.{FarTable, numbers_left, rests, later_fars}
 use Rattle.far_air.specs.FarWorld.{FarWorld, AllMet, met_first, reply_at, device_after, far_after, all_meet, meeting, far_stepped, far_dark, far_happens, far_air}
 use Rattle.far_air.specs.FarLaws.{shown}
-use Rattle.far_air.proofs.Meeting.{OneUnasked, one_unasked, meets_unasked}
-use Rattle.link_numbers.proofs.FarCourse.{Made, AllLit, Dues, all_events, all_noted, all_world, made_events, made_note, made_world}
+use Rattle.far_air.proofs.Meeting.{OneUnasked, one_unasked, meets_unasked, met_same}
+use Rattle.link_numbers.proofs.FarCourse.{Made, AllLit, all_events, all_noted, all_world, made_events, made_note, made_world}
 
 -- the devices around one, with their far ends
 pub record Around (L F : Type 0) : Type 0 where
@@ -25,10 +25,6 @@ pub record Around (L F : Type 0) : Type 0 where
   pub behind : List L
   pub firsts : List (Option F)
   pub lasts : List (Option F)
-
-met_same : {L F : Type 0} (l l' : L) (o o' : Option F) (a a' : Option Signal) (r r' : AllMet L F) → l ≡ l' → o ≡ o' → a ≡ a' → r ≡ r' → met_first l o a r ≡ met_first l' o' a' r'
-met_same l l' o o' a a' r r' d e s k =
-    ap (λ x. met_first x o a r) d ∙ ap (λ x. met_first l' x a r) e ∙ ap (λ x. met_first l' o' x r) s ∙ ap (λ x. met_first l' o' a' x) k
 
 module _ {L F : Type 0} (m : Machine L) (linked : L → Bool) (t : FarTable F) where
   -- a device among others, and the device alone
@@ -303,18 +299,6 @@ module _ {L F : Type 0} (m : Machine L) (linked : L → Bool) (t : FarTable F) w
       module _ {C : Type 0} (due : C → Next) (noted : C → Note → C) where
         pub same_note : (x : Around L F) (w v : FarWorld L F) (q : Made) → Asks q.frame → IsAmid x w v → made_note (far_air m linked t) w q ≡ made_note (far_air m linked t) v q
         same_note x w v q k a = ap (λ j. note (heard_by q.fate (joint_back j q.back))) (same_joint x w v q.frame k a)
-
-        pub dues_alone : (qs : List Made) (x : Around L F) (w v : FarWorld L F) (c : C) → AllAsk qs → IsAmid x w v → Dues (far_air m linked t) due noted w c qs
-            → Dues (far_air m linked t) due noted v c qs
-        dues_alone [] x w v c k a d = tt
-        dues_alone (q ∷ qs) x w v c k a d =
-            let W : FarWorld L F = made_world (far_air m linked t) w q in
-            let V : FarWorld L F = made_world (far_air m linked t) v q in (
-              sym (same_lit x w v a) ∙ d.0,
-              d.1,
-              dues_alone qs (around_all x (made_events (far_air m linked t) v q)) W V (noted c (made_note (far_air m linked t) v q)) k.1 (turned x w v q k.0 a)
-                  (subst (λ n. Dues (far_air m linked t) due noted W (noted c n) qs) (same_note x w v q k.0 a) d.2),
-            )
 
         pub noted_alone : (qs : List Made) (x : Around L F) (w v : FarWorld L F) (c : C) → AllAsk qs → IsAmid x w v
             → all_noted (far_air m linked t) due noted w c qs ≡ all_noted (far_air m linked t) due noted v c qs

@@ -34,7 +34,7 @@ use Rattle.link_calls.specs.Walk.{Walk, Carries, Comes, BrokenBy, Strays, walk_n
 use Rattle.link_numbers.specs.Shown.{answers_of, far_shown, numbers, pieces_of}
 use Rattle.link_numbers.proofs.FarAlone.{Around, AreAround, IsSilent, amid}
 use Rattle.link_numbers.proofs.FarCourse.{Made, made_events, made_note, made_world, noted_all}
-use Rattle.link_numbers.proofs.FarLaw.{IsWhole, far_law}
+use Rattle.link_numbers.proofs.FarLaw.{far_law}
 use Rattle.link_numbers.proofs.FarFit.{DuesFit, RepliesFit}
 use Rattle.link_numbers.proofs.FarRun as run
 use Rattle.link_numbers.proofs.FarSame.{IsNumbered}
@@ -42,7 +42,7 @@ use Rattle.link_numbers.proofs.FarShown.{SameDark, Shown, same_dark, shown_more,
 use Rattle.link_numbers.proofs.FarShows.{answers_append}
 use Rattle.link_numbers.proofs.FarSolo.{DoesSo, here}
 use Rattle.link_numbers.proofs.FarWalk as walk
-use Rattle.link_numbers.proofs.FarWalk.{HasCome, IsWholeWalk, at_whole, walk_asks, walk_goes, walk_never, walk_starts, walk_whole}
+use Rattle.link_numbers.proofs.FarWalk.{HasCome, IsWholeWalk, at_whole, walk_asks, walk_goes, walk_never, walk_starts, walk_whole, IsWhole}
 
 abbrev C : Type 0
 C = ClosingStanding

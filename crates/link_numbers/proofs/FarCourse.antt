@@ -1,7 +1,7 @@
 -- Turns of an air whose requests are due one after another, by what was heard of those before.
 use Rattle.std.proofs.Common.{◌≡◌, List, [], ◌∷◌, ◌++◌, Bool, true, false, if◌then◌else◌, refl, sym, ◌∙◌, ap, subst, append_assoc, append-nil}
 use Rattle.nfc_base.specs.Signal.{Signal}
-use Rattle.nfc_base.specs.Trace.{Back, by_fate, back_of, heard_by}
+use Rattle.nfc_base.specs.Trace.{back_of, heard_by}
 use Rattle.nfc_base.specs.Trace as backs
 use Rattle.nfc_base.specs.declared.event.Event.{Event}
 use Rattle.nfc_base.specs.declared.event.Event.TheVariants.{Request}
@@ -107,10 +107,6 @@ module _ {W : Type 0} (m : AirModel W) where
     abbrev pub Dues : W → C → List Made → Type 0
     Dues w c [] = Unit {0}
     Dues w c (q ∷ qs) = (m.lit w ≡ true) × (due c ≡ Asks q.frame) × Dues (made_world w q) (noted c (made_note w q)) qs
-
-    pub dues_lit : (w : W) (c : C) (qs : List Made) → Dues w c qs → AllLit w qs
-    dues_lit w c [] d = tt
-    dues_lit w c (q ∷ qs) d = (d.0, dues_lit (made_world w q) (noted c (made_note w q)) qs d.2)
 
     -- where it stands behind them
     abbrev pub all_noted : W → C → List Made → C

@@ -43,9 +43,6 @@ module _ {L F : Type 0} (m : Machine L) (linked : L → Bool) (t : FarTable F) w
   met_free f (l ∷ ls) os ns ks none =
       one_free l f (first_far os) ns ks (hands_over m l f) (all_meet m linked t f ls (later_fars os)) none.0 (met_free f ls (later_fars os) ns ks none.1)
 
-  met_numbers : (f : Signal) (ls : List L) (os : List (Option F)) (ns : List ℕ) → NoPayload m linked t f ls → (all_meet m linked t f ls os ns).numbers ≡ ns
-  met_numbers f ls os ns none = ap (λ (z : AllMet L F). z.numbers) (met_free f ls os ns ns none)
-
   -- one event
   asked_free : (w : W) (f : Signal) (x : Fate) (ks : List ℕ) → NoPayloadAt m linked t x f w.field.listeners
       → far_happens m linked t (with_numbers w ks) (Request f x) ≡ with_numbers (far_happens m linked t w (Request f x)) ks

@@ -1,6 +1,6 @@
 -- The numbers that a peer's answers show are as good as the true ones, among others in the field that are silent.
 use Rattle.std.proofs.Common.{◌≡◌, ℕ, ◌≤◌, List, [], ◌∷◌, ◌++◌, Bool, true, Some, refl, sym, ◌∙◌, ap, subst}
-use Rattle.nfc_base.specs.Signal.{Signal, whole_a}
+use Rattle.nfc_base.specs.Signal.{Signal}
 use Rattle.nfc_base.specs.declared.event.Event.{Event}
 use Rattle.nfc_base.specs.declared.event.Event.TheVariants.{Request}
 use Rattle.nfc_base.specs.declared.event.Fate.{Fate}
@@ -22,10 +22,7 @@ use Rattle.link_numbers.proofs.FarSame.{IsNumbered, begins_same}
 use Rattle.link_numbers.proofs.FarShown.{SameDark, Shown}
 use Rattle.link_numbers.proofs.FarShows.{shows}
 use Rattle.link_numbers.proofs.FarSolo.{DoesSo, here}
-
--- a frame of whole bytes of NFC-A
-abbrev pub IsWhole : Signal → Type 0
-IsWhole f = f ≡ whole_a f.bytes
+use Rattle.link_numbers.proofs.FarWalk.{IsWhole}
 
 module _ {L F : Type 0} (m : Machine L) (linked : L → Bool) (t : FarTable F) where
   abbrev W : Type 0

@@ -20,7 +20,7 @@ use Rattle.link_numbers.proofs.FarSame.{IsNumbered}
 use Rattle.link_numbers.proofs.FarShows.{begun_front}
 use Rattle.link_numbers.proofs.Payload.{cut_shown, later_shown, whole_shown}
 
-part_some : (p : Part) → 0 < length (part_bytes p)
+pub part_some : (p : Part) → 0 < length (part_bytes p)
 part_some Symm = omega arith
 part_some (Ui d s info) = omega arith
 part_some (Connect d s ps) = omega arith

@@ -47,7 +47,7 @@ cut_append U (g ∷ a) b =
     cut_first U g (a ++ b) ∙ cut_append (cut_up U (pieces_of (g ∷ []))) a b ∙ ap (λ c. cut_up c (pieces_of b)) (sym (cut_first U g a))
 
 -- a cut with payloads before its own
-abbrev behind : List (List ℕ) → Cut → Cut
+abbrev pub behind : List (List ℕ) → Cut → Cut
 behind ps c = record { next = c.next; chain = c.chain; payloads = ps ++ c.payloads }
 
 joined_behind : (ps : List (List ℕ)) (c : Cut) (more : Bool) (xs : List ℕ) → joined (behind ps c) more xs ≡ behind ps (joined c more xs)
@@ -102,9 +102,6 @@ front_further a (x ∷ b) c f = record { byte = x; more = b ++ f.byte ∷ f.more
 read_further : (a b : List ℕ) (n : ℕ) → ReadOff (a ++ b) n → ReadOff a n
 read_further a b n (of_whole c f e) = of_whole c (front_further a b c f) e
 read_further a b n (of_begun more e) = of_begun (b ++ more) (e ∙ ap (λ z. first_number (cut_off z)) (append_assoc a b more))
-
-read_same : (a b : List ℕ) (n : ℕ) → a ≡ b → ReadOff a n → ReadOff b n
-read_same a b n e r = subst (λ z. ReadOff z n) e r
 
 some_front : (a xs : List ℕ) → 0 < length xs → IsProperPrefix a (a ++ xs)
 some_front a [] h = absurd (omega arith)

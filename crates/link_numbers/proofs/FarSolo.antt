@@ -38,9 +38,6 @@ module _ {L F : Type 0} (m : Machine L) (linked : L → Bool) (t : FarTable F) (
     pub has_link : (s : TargetState) → linked (dev s) ≡ true
     pub dark : (s : TargetState) (l : List ℕ) → m.darkened (dev (leaving s l)) ≡ m.darkened (dev s)
 
-  abbrev A : Type 0
-  A = FarWorld L F
-
   -- the world of the device alone
   abbrev pub here : TargetState → F → List ℕ → FarWorld L F
   here s a ns = alone m linked t true (dev s) (Some a) ns

@@ -12,7 +12,7 @@ use Rattle.link_calls.specs.Walk.{Course, Giver, Underway, Through, Walk, Carrie
 use Rattle.link_numbers.proofs.FarCourse.{noted_all}
 
 -- a frame of whole bytes of NFC-A
-abbrev IsWhole : Signal → Type 0
+abbrev pub IsWhole : Signal → Type 0
 IsWhole f = f ≡ whole_a f.bytes
 
 -- whatever an exchange asks is one

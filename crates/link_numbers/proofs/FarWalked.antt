@@ -17,14 +17,14 @@ use Rattle.dep_link.specs.Payloads.{begins}
 use Rattle.dep_link.specs.Replies.{cut_up}
 use Rattle.link_numbers.proofs.FarAlone.{Around, AreAround, IsSilent, amid}
 use Rattle.link_numbers.proofs.FarCourse.{Made}
-use Rattle.link_numbers.proofs.FarLaw.{IsWhole, far_law}
+use Rattle.link_numbers.proofs.FarLaw.{far_law}
 use Rattle.link_numbers.proofs.FarFit.{DuesFit, RepliesFit}
 use Rattle.link_numbers.proofs.FarRun as run
 use Rattle.link_numbers.proofs.FarSame.{IsNumbered}
 use Rattle.link_numbers.proofs.FarShown.{SameDark, Shown, same_dark, shown_none}
 use Rattle.link_numbers.proofs.FarShows.{answers_append}
 use Rattle.link_numbers.proofs.FarSolo.{DoesSo, here}
-use Rattle.link_numbers.proofs.FarWalk.{Busy, Done, HasCome, IsWholeWalk, Off, Outs, at_whole, busy_asks, busy_has_more, done_due, off_due, off_has_more, walk_all, walk_asks, walk_goes, walk_never, walk_starts, walk_whole}
+use Rattle.link_numbers.proofs.FarWalk.{Busy, Done, HasCome, IsWholeWalk, Off, Outs, at_whole, busy_asks, busy_has_more, done_due, off_due, off_has_more, walk_all, walk_asks, walk_goes, walk_never, walk_starts, walk_whole, IsWhole}
 
 module _ {L F : Type 0} (m : Machine L) (linked : L → Bool) (t : FarTable F) (dev : TargetState → L) (does : DoesSo m linked t dev)
     (Good : F → Type 0) (reads : F → List ℕ → Bool) (numbered : IsNumbered t Good reads)

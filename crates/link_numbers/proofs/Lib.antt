@@ -1,7 +1,6 @@
 pub mod Counting
 pub mod Kept
 pub mod Payload
-pub mod Pieces
 pub mod OwnCuts
 pub mod OwnTurns
 pub mod OwnMoving

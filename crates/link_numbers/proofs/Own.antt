@@ -5,8 +5,7 @@ use Rattle.nfc_base.specs.Signal.{Signal}
 use Rattle.nfc_base.specs.Choosing.{first_number, later_numbers}
 use Rattle.air_core.specs.Conversation.{Note}
 use Rattle.llcp_pdu.specs.declared.part.Part.{Part}
-use Rattle.llcp_pdu.specs.declared.part.Part.TheVariants.{Symm, Ui, Connect, Disc, Cc, Dm, Frmr, Snl, Info, Rr, Rnr}
-use Rattle.llcp_pdu.specs.Writing.{part_bytes}
+use Rattle.llcp_pdu.specs.declared.part.Part.TheVariants.{Symm}
 use Rattle.dep_link.specs.Frames.{after}
 use Rattle.dep_link.specs.Payloads.{Cut}
 use Rattle.nfc_base.specs.Pieces.{Core, more_follows, turned}
@@ -21,7 +20,7 @@ use Rattle.link_calls.specs.Walk.{Carries, Comes, BrokenBy, Strays, walk_at, wal
 use Rattle.link_calls.specs.CallDue.{by_client, next_of}
 use Rattle.link_numbers.specs.OwnShows.{AtEnd, IsWithin, Rested}
 use Rattle.link_numbers.specs.Shown.{cut_off, number, numbers}
-use Rattle.link_numbers.proofs.OwnCuts.{Grows, open_, closed, at, behind, cuts, cuts_behind, cuts_then, grown, numbers_behind}
+use Rattle.link_numbers.proofs.OwnCuts.{Grows, open_, closed, at, cuts, cuts_behind, cuts_then, grown, numbers_behind}
 use Rattle.link_numbers.proofs.OwnTurns.{Turn, asked_in}
 use Rattle.link_numbers.proofs.OwnMoving.{Again, Behind, Fails, Kind, Onward, Wanders, again, draws, fails, frame_due, hears_last, hears_more, kind_of, made, onward, rests, waits, wanders}
 use Rattle.link_numbers.proofs.OwnPlaces.{Drawing, Fit, Follows, Midst, Outcome, Unsent, again_midst, cut, midst_follows, midst_from, onward_fit, onward_unsent, outcome, sent_ack, sent_again, sent_last, sent_more, two_came, whole}
@@ -29,34 +28,16 @@ use Rattle.link_numbers.proofs.OwnBegun.{both_due}
 use Rattle.link_numbers.proofs.Payload.{cut_shown, later_shown, whole_shown}
 use Rattle.link_numbers.proofs.CallKeeps.{Unread, none_by, ready_unread, ready_within, reply_by, reply_unread, reply_within, told_by}
 use Rattle.link_numbers.proofs.CallTurns.{Alike, CallAlong, asks_one, both_go, calls_alike, follows_of, over_alike, turn_alike}
-
--- a payload isn't empty
-some_part : (p : Part) → 0 < length (part_bytes p)
-some_part Symm = omega arith
-some_part (Ui d s info) = omega arith
-some_part (Connect d s ps) = omega arith
-some_part (Disc d s) = omega arith
-some_part (Cc d s ps) = omega arith
-some_part (Dm d s reason) = omega arith
-some_part (Frmr d s r) = omega arith
-some_part (Snl ps) = omega arith
-some_part (Info d s ns nr info) = omega arith
-some_part (Rr d s nr) = omega arith
-some_part (Rnr d s nr) = omega arith
+use Rattle.link_numbers.proofs.FarPayloads.{part_some}
+use Rattle.link_numbers.proofs.FarShows.{begun_front, behind}
 
 some_payload : (ps : List Part) → 0 < length (payload_of ps)
-some_payload [] = some_part Symm
-some_payload (p ∷ []) = some_part p
+some_payload [] = part_some Symm
+some_payload (p ∷ []) = part_some p
 some_payload (p ∷ q ∷ ps) = omega arith
 
 some_given : (n : ℕ) (l : EndState) → l.readable ≡ true → 0 < length (given silent n l)
 some_given n l e = subst (λ xs. 0 < length xs) (sym (ap (λ (t : Bool). if t then payload_of (given_parts silent n l).parts else []) e)) (some_payload (given_parts silent n l).parts)
-
--- two bytes tell whether a payload that is cut off begins an AGF
-cut_front : (xs ys : List ℕ) → 2 ≤ length xs → cut_off (xs ++ ys) ≡ cut_off xs
-cut_front [] ys h = absurd (omega arith)
-cut_front (x ∷ []) ys h = absurd (omega arith)
-cut_front (x ∷ y ∷ xs) ys h = refl
 
 -- The number that is read of what came of a payload, whatever comes behind it, gives a payload that begins so too.
 pub front_shown : (l : EndState) (n m : ℕ) (xs : List ℕ) (fs : List Signal) → l.readable ≡ true → 2 ≤ length xs → IsProperPrefix xs (given silent n l)
@@ -66,7 +47,7 @@ front_shown l n m xs fs r two front = by (cuts (at m xs) fs) (grown m xs fs)
     by : (c : Cut) → Grows xs c → IsProperPrefix xs (given silent (first_number (numbers c)) l)
     by c (open_ ys e more) =
         let k = cut_shown silent l n xs r two front in
-        let is : numbers c ≡ k.0 ∷ [] = ap (λ ps. map number ps ++ cut_off c.chain) e ∙ ap cut_off more ∙ cut_front xs ys two ∙ k.1 in
+        let is : numbers c ≡ k.0 ∷ [] = ap (λ ps. map number ps ++ cut_off c.chain) e ∙ ap cut_off more ∙ begun_front xs ys two ∙ k.1 in
         subst (λ ns. IsProperPrefix xs (given silent (first_number ns) l)) (sym is) k.2
     by c (closed z zs ps e) =
         let is : first_number (numbers c) ≡ number (xs ++ z ∷ zs) = ap (λ qs. first_number (map number qs ++ cut_off c.chain)) e in

@@ -14,10 +14,11 @@ use Rattle.dep_link.specs.Payloads.{Cut}
 use Rattle.dep_link.specs.Initiator.{InitState, asked, sent}
 use Rattle.dep_link.specs.Asking.{Standing, Waits, Broken, Astray, due_at, noted}
 use Rattle.llcp_link.specs.Fronts.{IsProperPrefix}
-use Rattle.link_numbers.proofs.OwnCuts.{Grows, open_, closed, at, behind, cuts, grown}
+use Rattle.link_numbers.proofs.OwnCuts.{Grows, open_, closed, at, cuts, grown}
 use Rattle.link_numbers.proofs.OwnTurns.{Along, Turn, asked_in, heard_in, on}
-use Rattle.link_numbers.proofs.OwnMoving.{Again, Fails, InTimes, Kind, Onward, Wanders, again, frame_due, hears_more, kind_of, made, onward, same_kind}
+use Rattle.link_numbers.proofs.OwnMoving.{Again, Fails, Kind, Onward, Wanders, again, frame_due, hears_more, kind_of, made, onward, same_kind}
 use Rattle.link_numbers.proofs.OwnPlaces.{Fit, Follows, Midst, Unsent, again_midst, midst_follows, onward_fit, onward_rest, onward_unsent, sent_again, sent_last, sent_more}
+use Rattle.link_numbers.proofs.FarShows.{behind}
 
 -- they differ at most in the bytes of the payload
 pub record Twins (i j : InitState) : Type 0 where
@@ -26,14 +27,6 @@ pub record Twins (i j : InitState) : Type 0 where
   pub plain : j.core.extension ≡ i.core.extension
   pub phase : j.phase ≡ i.phase
   pub bads : j.bads ≡ i.bads
-
-twin_fit : (i j : InitState) → Twins i j → Fit i.core → Fit j.core
-twin_fit i j w fit = record {
-  number = subst (λ n. n < 4) (sym w.number) fit.number;
-  some = subst (λ n. 2 ≤ n) (sym w.most) fit.some;
-  fits = subst (λ n. n ≤ 251) (sym w.most) fit.fits;
-  times = subst InTimes (sym w.plain) fit.times;
-}
 
 again_twins : (i j : InitState) (phase : Phase) (bads : ℕ) → Twins i j → Twins (again i phase bads) (again j phase bads)
 again_twins i j phase bads w = record { number = w.number; most = w.most; plain = w.plain; phase = refl; bads = refl }

@@ -13,13 +13,11 @@ use Rattle.nfc_base.proofs.Chains.{same}
 use Rattle.dep_link.proofs.Standing.{not_after}
 use Rattle.dep_link.proofs.Wire.{frames_append}
 use Rattle.link_numbers.specs.Shown.{has_content, number, numbers, pieces_of}
+use Rattle.link_numbers.proofs.FarShows.{behind}
 
 -- so much of a payload came, and no payload before it; a cut with payloads before it
 abbrev pub at : ℕ → List ℕ → Cut
 at n chain = record { next = n; chain = chain; payloads = [] }
-
-abbrev pub behind : List (List ℕ) → Cut → Cut
-behind ps c = record { next = c.next; chain = c.chain; payloads = ps ++ c.payloads }
 
 -- what some frames on the air make of a cut
 abbrev pub cuts : Cut → List Signal → Cut

@@ -21,9 +21,10 @@ use Rattle.dep_link.proofs.Standing.{after_small}
 use Rattle.dep_link.proofs.Wire.{is_piece, written_read}
 use Rattle.llcp_link.specs.Fronts.{IsProperPrefix}
 use Rattle.link_numbers.specs.Shown.{has_content}
-use Rattle.link_numbers.proofs.OwnCuts.{Grows, open_, closed, ack_again, at, behind, cuts, cuts_behind, cuts_next, cuts_still, grown, taken_ack, taken_again, taken_last, taken_more}
+use Rattle.link_numbers.proofs.OwnCuts.{Grows, open_, closed, ack_again, at, cuts, cuts_behind, cuts_next, cuts_still, grown, taken_ack, taken_again, taken_last, taken_more}
 use Rattle.link_numbers.proofs.OwnTurns.{Turn, asked_in}
 use Rattle.link_numbers.proofs.OwnMoving.{Again, Fails, InTimes, Kind, Onward, Wanders, again, frame_due, hears_more, kind_of, made, onward}
+use Rattle.link_numbers.proofs.FarShows.{behind}
 
 -- its parts are in the ranges of the frames that it sends, and a piece has two bytes or more where others follow
 pub record Fit (c : Core) : Type 0 where

@@ -15,7 +15,7 @@ use Rattle.link_calls.specs.CallDue.{CallStanding, by_client, call_at, call_on, 
 use Rattle.link_numbers.specs.OwnShows.{AtEnd, IsWithin, Rested}
 use Rattle.link_numbers.proofs.OwnMoving.{Again, Behind, Fails, Kind, Onward, Wanders, draws, fails, hears_last, hears_more, kind_of, made, rests, waits, wanders}
 use Rattle.link_numbers.proofs.OwnPlaces.{Fit, onward_fit}
-use Rattle.link_numbers.proofs.CallKeeps.{begins_within, reply_within}
+use Rattle.link_numbers.proofs.CallKeeps.{begins_within}
 
 -- a target's LR code leaves room for two bytes in a piece
 size_so : (a b c : Bool) → (2 ≤ (if a then 64 else (if b then 128 else (if c then 192 else 254))) - 3) × ((if a then 64 else (if b then 128 else (if c then 192 else 254))) - 3 ≤ 251)
@@ -96,37 +96,6 @@ call_fits c (n ∷ ns) h = call_fits (walk_noted by_client c n) ns (noted_fit c 
 -- So the initiator rests behind a call as before it.
 pub comes_rested : (ns : List ℕ) (from to : Step) (i j : InitState) (notes : List Note) → Rested i.core → call_stand ns from i notes ≡ Comes to j → Rested j.core
 comes_rested ns from to i j notes r e = subst CallFits e (call_fits (call_at ns from i) notes (starts_fit from ns i r))
-
--- and its end is within the bound
-abbrev CallWithin : CallStanding → Type 0
-CallWithin (Carries w s) = IsWithin w.0.llc
-CallWithin (Comes to i) = AtEnd IsWithin to
-CallWithin (BrokenBy cause) = Unit {0}
-CallWithin Strays = Unit {0}
-
-starts_within : (to : Step) (ns : List ℕ) (i : InitState) → AtEnd IsWithin to → CallWithin (walk_at by_client (next_of ns to) i)
-starts_within (Goes w) ns i h = h
-starts_within (Ends jobs l) ns i h = h
-starts_within (GivesUp g) ns i h = h
-
-carried_within : (w : Working) (ns : List ℕ) (s : Standing) → IsWithin w.llc → CallWithin (walk_carried by_client (w, ns) s)
-carried_within w ns (Waits i f) h = h
-carried_within w ns (Rests i reply) h = starts_within (replied (first_number ns) w reply) (later_numbers ns) i (reply_within (first_number ns) w reply h)
-carried_within w ns (Broken cause) h = tt
-carried_within w ns Astray h = tt
-
-all_within : (c : CallStanding) (ns : List Note) → CallWithin c → CallWithin (call_on c ns)
-all_within c [] h = h
-all_within c (n ∷ ns) h = all_within (walk_noted by_client c n) ns (noted_within c h)
-  where
-    noted_within : (c : CallStanding) → CallWithin c → CallWithin (walk_noted by_client c n)
-    noted_within (Carries w s) h = carried_within w.0 w.1 (noted s n) h
-    noted_within (Comes to i) h = tt
-    noted_within (BrokenBy cause) h = tt
-    noted_within Strays h = tt
-
-pub comes_within : (ns : List ℕ) (from to : Step) (i j : InitState) (notes : List Note) → AtEnd IsWithin from → call_stand ns from i notes ≡ Comes to j → AtEnd IsWithin to
-comes_within ns from to i j notes h e = subst CallWithin e (all_within (call_at ns from i) notes (starts_within from ns i h))
 
 -- A call begins within it, whatever it is, and so does the end of all connections.
 pub call_within : (l : EndState) (call : Call) → IsWithin l → AtEnd IsWithin (call_begins l call)

@@ -1,9 +1,8 @@
 -- Going round the clients.
-use Rattle.std.proofs.Common.{◌≡◌, ◌<◌, ℕ, suc, ◌+◌, ◌-◌, Option, Some, None, List, [], ◌∷◌, refl, sym, ap, subst, ◌∙◌, inl, inr, arith}
+use Rattle.std.proofs.Common.{◌≡◌, ◌<◌, ℕ, suc, ◌+◌, ◌-◌, Option, Some, None, refl, sym, ap, subst, ◌∙◌, inl, inr, arith}
 use Rattle.llcp_link.specs.Serving.{Serving}
-use Rattle.llcp_link.specs.State.{LlcState, Queued}
-use Rattle.llcp_link.specs.Giving.{Gave, or_else, sap_after, first_from, first_of_all, informs, acknowledges, gave, gave_from, gave_behind}
-use Rattle.llcp_link.specs.Offering.{IsLonger, LeftBy, LeavesNext, part_of, queued_first}
+use Rattle.llcp_link.specs.Giving.{Gave, or_else, sap_after, first_from}
+use Rattle.llcp_link.specs.Offering.{IsLonger, LeftBy, LeavesNext, part_of}
 
 pub first_unfolds : {A : Type 0} (n i s : ℕ) (f : ℕ → Option A) → i < n → first_from (n - i) s f ≡ or_else (f s) (first_from (n - (i + 1)) (sap_after s) f)
 unfolding first_from
@@ -19,24 +18,6 @@ found_here n i s f all x h e some = e ∙ first_unfolds n i s f h ∙ ap (λ o. 
 pub ends_round : {A : Type 0} (n s : ℕ) (f : ℕ → Option A) (all : Option A) → all ≡ first_from (n - n) s f → all ≡ None
 unfolding first_from
 ends_round n s f all e = e ∙ ap (λ k. first_from k s f) (let z : n - n ≡ 0 = omega arith in z)
-
-module _ {S : Type 0} (m : Serving S) (l : LlcState S) where
-  queue_empty : (qs : List Queued) → queued_first l qs ≡ None → qs ≡ []
-  queue_empty [] e = refl
-  queue_empty (q ∷ qs) e = cc
-
-  pub gave_queued : (g : Gave S) (qs : List Queued) → queued_first l qs ≡ Some g → gave_from m l qs ≡ Some g
-  gave_queued g [] e = cc
-  gave_queued g (q ∷ qs) e = e
-
-  pub gave_unqueued : queued_first l l.queue ≡ None → gave m l ≡ gave_behind m l
-  gave_unqueued e = ap (gave_from m l) (queue_empty l.queue e)
-
-  pub gave_unit : queued_first l l.queue ≡ None → (g : Gave S) → first_of_all l.last (informs m l) ≡ Some g → gave m l ≡ Some g
-  gave_unit e g i = gave_unqueued e ∙ ap (λ o. or_else o (first_of_all l.last (acknowledges l))) i
-
-  pub gave_ack : queued_first l l.queue ≡ None → first_of_all l.last (informs m l) ≡ None → gave m l ≡ first_of_all l.last (acknowledges l)
-  gave_ack e i = gave_unqueued e ∙ ap (λ o. or_else o (first_of_all l.last (acknowledges l))) i
 
 pub ends_at : {A : Type 0} (k s : ℕ) (f : ℕ → Option A) (all : Option A) → k ≡ 0 → all ≡ first_from k s f → all ≡ None
 unfolding first_from

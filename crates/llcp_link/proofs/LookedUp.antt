@@ -4,13 +4,10 @@ use Rattle.llcp_link.specs.State.{Lookup}
 use Rattle.llcp_link.specs.Asking.{put_lookup}
 use Rattle.llcp_link.specs.Places.{place_by}
 use Rattle.llcp_link.specs.Names.{told_one}
+use Rattle.llcp_link.proofs.OwnPlaces.{no_place}
 
 abbrev pub lookup_place : ℕ → List Lookup → Option ℕ
 lookup_place tid xs = place_by (λ (x : Lookup). x.tid) tid xs
-
-no_place : (p : Option ℕ) → option_map suc p ≡ None → p ≡ None
-no_place None e = refl
-no_place (Some i) e = absurd cc
 
 module _ (tid : ℕ) where
   -- of a number that isn't there

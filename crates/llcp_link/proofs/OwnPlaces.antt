@@ -5,7 +5,7 @@ use Rattle.llcp_link.specs.State.{OwnState, own_from, with_own}
 use Rattle.llcp_link.specs.Asking.{put_own, without_own}
 use Rattle.llcp_link.specs.Places.{IsNowhere, PlaceOf, StandsAt, own_place}
 
-no_place : (p : Option ℕ) → option_map suc p ≡ None → p ≡ None
+pub no_place : (p : Option ℕ) → option_map suc p ≡ None → p ≡ None
 no_place None e = refl
 no_place (Some i) e = absurd cc
 

@@ -1,5 +1,5 @@
 -- Answers of service discovery, one after the other.
-use Rattle.std.proofs.Common.{◌≡◌, ◌≤◌, ◌<◌, ℕ, suc, ◌+◌, ◌-◌, ◌/◌, ◌==◌, Bool, true, false, List, [], ◌∷◌, ◌++◌, length, take, filter_map, Option, Some, None, refl, sym, ap, ◌∙◌, arith, length-append, if◌then◌else◌}
+use Rattle.std.proofs.Common.{◌≡◌, ◌≤◌, ◌<◌, ℕ, suc, ◌+◌, ◌-◌, ◌/◌, ◌==◌, Bool, true, false, List, [], ◌∷◌, ◌++◌, length, take, filter_map, Option, Some, refl, sym, ap, ◌∙◌, arith, length-append, if◌then◌else◌}
 use Rattle.std.specs.List.{cons_option}
 use Rattle.std.proofs.lemmas.Bool.Decides.{nat_tests}
 use Rattle.std.proofs.lemmas.List.{append_assoc}
@@ -51,13 +51,6 @@ module _ (f : Param → Option Param) where
   take_one : (n m : ℕ) (x : Param) (xs : List Param) → n < m → take (m - n) (x ∷ xs) ≡ x ∷ take (m - (n + 1)) xs
   take_one n m x xs h =
       let z : m - n ≡ suc (m - (n + 1)) = omega arith in ap (λ k. take k (x ∷ xs)) z
-
-  -- nothing was asked by a parameter
-  pub goes_past : (most : ℕ) (had : List Param) (left ps all : List Param) (p : Param) → had ++ take (most - length had) (filter_map f left) ≡ all
-      → left ≡ p ∷ ps → f p ≡ None → had ++ take (most - length had) (filter_map f ps) ≡ all
-  goes_past most had left ps all p i l e =
-      let k : filter_map f left ≡ filter_map f ps = ap (filter_map f) l ∙ ap (λ o. cons_option o (filter_map f ps)) e in
-      sym (ap (λ xs. had ++ take (most - length had) xs) k) ∙ i
 
   put_by : (most : ℕ) (had : List Param) (q : Param) (xs : List Param) (b : Bool) → (length had == most) ≡ b → length had ≤ most
       → (if b then had else had ++ q ∷ []) ++ take (most - length (if b then had else had ++ q ∷ [])) xs ≡ had ++ take (most - length had) (q ∷ xs)

@@ -1,5 +1,5 @@
 -- The PDUs of an AGF, one after the other.
-use Rattle.std.proofs.Common.{◌≡◌, List, [], ◌∷◌, ◌++◌, map, refl, sym, ap, subst, inl, ◌∙◌, append-nil}
+use Rattle.std.proofs.Common.{◌≡◌, List, [], ◌∷◌, ◌++◌, map, refl, sym, ap, inl, ◌∙◌}
 use Rattle.std.proofs.lemmas.List.{append_assoc, map-append}
 use Rattle.llcp_pdu.specs.declared.part.Part.{Part}
 use Rattle.llcp_pdu.specs.declared.pdu.Pdu.{Pdu}
@@ -8,7 +8,7 @@ use Rattle.llcp_link.specs.Serving.{Serving}
 use Rattle.llcp_link.specs.State.{LlcState}
 use Rattle.llcp_link.specs.Taking.{Item, Good, step, steps, steps_part}
 use Rattle.llcp_link.specs.Stepping.{stepped}
-use Rattle.llcp_link.specs.Halting.{IsSame, LeavesService, Halts}
+use Rattle.llcp_link.specs.Halting.{IsSame, Halts}
 
 pub steps_more : {S : Type 0} (m : Serving S) (l : LlcState S) (xs ys : List Item) → steps m l (xs ++ ys) ≡ steps m (steps m l xs) ys
 steps_more m l [] ys = refl
@@ -20,9 +20,6 @@ pub record SoFar {S : Type 0} (m : Serving S) (old : LlcState S) (all left : Lis
   pub split : all ≡ front ++ left
   pub steps : steps m old (map Good front) ≡ now
 
-pub begins : {S : Type 0} (m : Serving S) (old : LlcState S) (all : List Part) → SoFar m old all all old
-begins m old all = record { front = []; split = refl; steps = refl }
-
 pub goes_on : {S : Type 0} (m : Serving S) (old : LlcState S) (all left ps : List Part) (p : Part) (now next : LlcState S) (pdu : Pdu) → SoFar m old all left now
     → left ≡ p ∷ ps → pdu ≡ One p → next ≡ stepped m now pdu → SoFar m old all ps next
 goes_on m old all left ps p now next pdu s e i n = record {
@@ -31,19 +28,6 @@ goes_on m old all left ps p now next pdu s e i n = record {
   steps =
       ap (steps m old) (map-append Good s.front (p ∷ [])) ∙ steps_more m old (map Good s.front) (Good p ∷ []) ∙ ap (λ l. steps_part m l p) s.steps
       ∙ sym (n ∙ ap (stepped m now) i);
-}
-
-pub ends : {S : Type 0} (m : Serving S) (old : LlcState S) (all left : List Part) (now : LlcState S) → SoFar m old all left now → left ≡ [] → now ≡ steps m old (map Good all)
-ends m old all left now s e =
-    sym s.steps ∙ ap (λ xs. steps m old (map Good xs)) (sym (s.split ∙ ap (λ xs. s.front ++ xs) e ∙ append-nil s.front))
-
-pub stops : {S : Type 0} (m : Serving S) (old : LlcState S) (all left : List Part) (now new : LlcState S) → SoFar m old all left now → LeavesService m now.service new.service
-    → Halts m old (map Good all) new
-stops m old all left now new s h = record {
-  front = map Good s.front;
-  behind = map Good left;
-  split = ap (map Good) s.split ∙ map-append Good s.front left;
-  service = subst (λ l. LeavesService m l.service new.service) (sym s.steps) h;
 }
 
 pub same_on : {S : Type 0} (a b c : LlcState S) → IsSame a b → IsSame b c → IsSame a c

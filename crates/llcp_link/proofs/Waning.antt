@@ -10,13 +10,13 @@ use Rattle.llcp_conn.specs.declared.conn.Taken.TheVariants as taking
 use Rattle.llcp_conn.specs.Conn.{ConnState, Gave as GaveConn, Took, queued, acks, count_end, due, fresh, gives, gives_ack, gives_from, is_outside, report, takes, takes_nr, takes_unit}
 use Rattle.llcp_link.specs.Serving.{Serving}
 use Rattle.llcp_link.specs.State.{LlcState, Queued, OwnIs, Asking, Open, Refused, Leaving, Closed, OwnState, Holder, Nobody, Served, Asked, conn_from, own_from, own_holder, holds_open, served_holder, holder, with_own, with_conn}
-use Rattle.llcp_link.specs.Asking.{acked_of, acked_on, is_open, is_open_by, standing_of, standing_on, unit_taken_by}
+use Rattle.llcp_link.specs.Asking.{acked_of, acked_on, is_open, is_open_by, standing_of, standing_on}
 use Rattle.llcp_link.specs.declared.standing.Standing.TheVariants as stands
 use Rattle.llcp_link.specs.Names.{rw_of, reached, name_of, miu_of, answers_to, lookups_told}
 use Rattle.llcp_link.specs.Taking as t
 use Rattle.llcp_link.specs.Taking.{Item, Good, Broken, taken_from, brought, step, steps, steps_part}
 use Rattle.llcp_link.specs.Giving as g
-use Rattle.llcp_link.specs.Giving.{Gave, GaveAll, first_from, gave, gave_none, joined, given_so, given_parts, after_giving, or_else, sap_after}
+use Rattle.llcp_link.specs.Giving.{Gave, GaveAll, first_from, gave, joined, given_so, given_parts, after_giving, or_else, sap_after}
 use Rattle.llcp_link.specs.Waning.{pending, pending_on}
 use Rattle.llcp_pdu.specs.Wire.{rr_type, rnr_type, sap_count}
 use Rattle.llcp_link.specs.Own.{OwnGave, ack_on, ack_so, cc_on, cc_so, dm_on, dm_so, gave_so, if_there, on_own, unit_on, unit_so}
@@ -477,14 +477,6 @@ module _ {S : Type 0} (m : Serving S) (h : ℕ) where
 
   pub given_wanes : (n : ℕ) (l : LlcState S) → W l (after_giving m n l)
   given_wanes n l = either {X = LlcState S} (W l) l.readable (given_parts m n l).llc l (λ e. given_wane l (gave m l) refl _) (λ e. same_own l l refl)
-
-  -- a unit that was handed up is taken away
-  pub drained_wanes : (l : LlcState S) → W l (unit_taken_by l (own_from h l.own))
-  drained_wanes l = go (own_from h l.own) refl
-    where
-      go : (q : Option OwnState) → own_from h l.own ≡ q → W l (unit_taken_by l q)
-      go None e = same_own l (unit_taken_by l None) refl
-      go (Some o) e = put_wanes l o o.is (drop 1 o.units) (subst (λ z. own_from z l.own ≡ Some o) (sym (here_of h l.own o e)) e) (stays o.is)
 
 pending_is : (i : OwnIs) → pending_on i ≡ waits_on i + under_way i
 pending_is Asking = refl

@@ -129,7 +129,7 @@ pub before_more : {A : Type 0} (ps : List A) (p : A) (r : Result (List A) Refusa
 before_more [] p r = refl
 before_more (q ∷ ps) p r = ap (onto q) (before_more ps p r)
 
-nil_right : {X : Type 0} (xs : List X) → xs ++ [] ≡ xs
+pub nil_right : {X : Type 0} (xs : List X) → xs ++ [] ≡ xs
 nil_right [] = refl
 nil_right (x ∷ xs) = ap (λ z. x ∷ z) (nil_right xs)
 

@@ -1,5 +1,5 @@
 -- A PDU that is spelled is read, and what is read is spelled: whole payloads.
-use Rattle.std.proofs.Common.{◌≡◌, ◌<◌, ◌≤◌, ℕ, zero, suc, ◌+◌, ◌*◌, ◌/◌, ◌%◌, nat_lt, Bool, true, false, List, [], ◌∷◌, ◌++◌, length, take, drop, Option, Some, None, Result, Ok, Err, refl, sym, ◌∙◌, ap, subst, arith, length-append, length-take}
+use Rattle.std.proofs.Common.{◌≡◌, ◌<◌, ◌≤◌, ℕ, zero, suc, ◌+◌, ◌*◌, ◌/◌, ◌%◌, nat_lt, Bool, true, false, List, [], ◌∷◌, ◌++◌, length, take, drop, Option, Some, None, Result, Ok, Err, refl, sym, ap, subst, arith, length-append, length-take}
 use Rattle.std.proofs.lemmas.List.{take-append-drop}
 use Rattle.llcp_pdu.specs.declared.fault.PduKind.TheVariants.{Short}
 use Rattle.llcp_pdu.specs.declared.fault.Refusal.{Refusal}
@@ -58,10 +58,6 @@ one_reads (Rnr d s nr) b h f = whole_one (Rnr d s nr) RnrType d 14 s b _ refl re
 pub pdu_reads : (v : Pdu) (b : List ℕ) → LlcpSpelling v b → pdu b ≡ Ok v
 pdu_reads (One p) b h = one_reads p b h (part_reads p 0 b h)
 pdu_reads (Agf ps) b (rest, hd, hs, e, k) = rw (e, inner_reads ps 2 rest k) refl
-
--- no bytes spell two PDUs
-pub one_pdu : (v w : Pdu) (b : List ℕ) → LlcpSpelling v b → LlcpSpelling w b → v ≡ w
-one_pdu v w b h k = same_ok v w (sym (pdu_reads v b h) ∙ pdu_reads w b k)
 
 -- the other way: a header that was read
 headed_there : (t : Option Ptype) (d s at : ℕ) (h : Header) → headed at t d s ≡ Ok h → (h.dsap ≡ d) × (h.ssap ≡ s) × (t ≡ Some h.ptype)

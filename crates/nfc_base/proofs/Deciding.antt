@@ -43,9 +43,6 @@ part_packed t (b ∷ c ∷ bytes) h l f some k =
         ap (λ m. get_or (b ∷ c ∷ bytes) m 0) (let q : length (b ∷ c ∷ bytes) - 1 ≡ suc (length (c ∷ bytes) - 1) = omega arith in q) in
         omega (arith, e, k)
 
-no_tail : (t : ℕ) → 0 < t → (t == 0) ≡ false
-no_tail t h = grind arith
-
 -- the frame of a frame's bits is that frame
 pub of_its_bits : (f : Signal) → IsSignal f → of_bits f.tech (bits f) ≡ f
 of_its_bits f is = by_tail (f.tail == 0) refl

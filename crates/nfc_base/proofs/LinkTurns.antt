@@ -3,7 +3,7 @@ use Rattle.std.proofs.Common.{◌≡◌, ◌<◌, ℕ, zero, suc, ◌+◌, List,
 use Rattle.std.proofs.lemmas.List.{append_cancel_left}
 use Rattle.std.specs.Option.{option_to_list}
 use Rattle.nfc_base.specs.Signal.{Signal}
-use Rattle.nfc_base.specs.Trace.{Back, back_of, heard_by, breaks}
+use Rattle.nfc_base.specs.Trace.{back_of, heard_by, breaks}
 use Rattle.nfc_base.specs.Trace as backs
 use Rattle.nfc_base.specs.StopAndWait.{Does, Quiet, Reply, Deliver, Hears, Silent, StopAndWait, Stage, Requests, Answers, Dark, stage_of, World, badness, counted, hears, answering_does, transmitted, delivered_of}
 use Rattle.nfc_base.specs.LinkTurns.{heard_in, with_arrived, arrived, bads_heard, bad_receptions, Turned, MovedBy, GivenBy, settled, step, sent_back, answered, turned, IsTurn}
@@ -12,7 +12,7 @@ use Rattle.nfc_base.specs.declared.event.Event.TheVariants.{Reset, Request, Answ
 use Rattle.nfc_base.specs.declared.event.Fate.{Fate}
 use Rattle.nfc_base.specs.declared.event.Fate.TheVariants.{Pass, Damage, Lose, Break}
 use Rattle.nfc_base.specs.declared.event.Heard.{Heard}
-use Rattle.nfc_base.proofs.ExactlyOnce.{Keeps, Inv, Kept, kept_now, step_keeps}
+use Rattle.nfc_base.proofs.ExactlyOnce.{Keeps, Inv, kept_now, step_keeps}
 
 -- what was given once a turn has asked that
 abbrev pub given_after : Option (List ℕ) → Option (List ℕ) → List ℕ → Option (List ℕ)
@@ -366,9 +366,3 @@ module _ {I T : Type 0} (L : StopAndWait I T Signal) (before : List (List ℕ)) 
           bads = sym e3;
           given = rw e4 refl;
         }
-
-    -- what is known of the exchange, wherever the loop stands
-    pub kept_along : (i : I) (t : T) (es : List Event) (far : E) (stage : Stage Signal) (a : Along E steps heard0 es0 far0 i t es far stage)
-        → Kept L before payload K Any base a.world stage
-    kept_along i t es far stage a =
-        subst (λ (s : Stage Signal). Kept L before payload K Any base a.world s) a.stage_is (kept_now L before payload K Any base a.world a.world.stage a.inv)

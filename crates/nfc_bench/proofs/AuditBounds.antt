@@ -8,7 +8,7 @@ use Rattle.nfc_io.specs.declared.line_reader.LineStop.{LineStop}
 use Rattle.nfc_io.specs.declared.line_reader.LineStop.TheVariants.{TooLong, ReadFault}
 use Rattle.nfc_io.specs.declared.rest.Rest.{Rest}
 use Rattle.nfc_io.proofs.Lines.{joined_more}
-use Rattle.nfc_io.proofs.Moves.{with_front-nil, read_on}
+use Rattle.nfc_io.proofs.Moves.{read_on}
 use Rattle.nfc_io.proofs.InOrder.{in_order}
 use Rattle.bench_script.specs.Limits.{AreWithinLimits}
 use Rattle.nfc_bench.specs.AuditInput.{most_report}
@@ -17,9 +17,6 @@ use Rattle.nfc_bench.specs.Limits.{chunk_size, longest_script}
 use Rattle.nfc_bench.specs.Run.{ReadsAtMost}
 use Rattle.nfc_bench.proofs.AuditReading.{lines_again}
 use Rattle.nfc_bench.proofs.Limits.{within_short}
-
-pub reads_nothing : (most : ℕ) (a : Option (List ℕ)) → ReadsAtMost most a a
-reads_nothing most a = record { bytes = []; read = sym (with_front-nil a); size = omega arith }
 
 pub reads_less : (n most : ℕ) (a b : Option (List ℕ)) → n ≤ most → ReadsAtMost n a b → ReadsAtMost most a b
 reads_less n most a b less r = let size : length r.bytes ≤ n = r.size in record { bytes = r.bytes; read = r.read; size = omega (arith, size, less) }

@@ -22,7 +22,7 @@ use Rattle.nfc_bench.specs.AuditReading.{AreLines, GoesTo, HasGathered, ComesToM
 use Rattle.nfc_bench.specs.declared.top.audit_input.Behind.{Behind}
 use Rattle.nfc_bench.specs.declared.top.audit_input.Behind.TheVariants.{Report, NoReport}
 use Rattle.nfc_bench.specs.declared.top.audit_input.Next.TheVariants.{Nothing}
-use Rattle.nfc_bench.proofs.Limits.{limits_more, no_limits}
+use Rattle.nfc_bench.proofs.Limits.{limits_more}
 use Rattle.nfc_bench.proofs.Reading.{GoesOnBy, goes_on_by, told_all}
 
 -- one line more was given
@@ -47,24 +47,6 @@ lines_more lines l script count are room other clean short = record {
   clean = clean_more lines l are.clean clean;
   limits = limits_more lines l are.limits (omega (arith, are.number, room)) short;
   none = no_mark_more lines l are.none other;
-}
-
-pub no_lines : AreLines [] [] 0
-no_lines = record {
-  bytes = refl;
-  number = refl;
-  clean = tt;
-  limits = no_limits;
-  none = λ k d small. absurd (omega arith);
-}
-
--- before the first line
-pub gathered_none : (left : Option (List ℕ)) (a : Lined) → a ≡ new_lined → HasGathered left left a [] 0
-gathered_none left a new = record {
-  lines = [];
-  are = no_lines;
-  gave = (new, refl);
-  going = ap (λ (r : Lined). r.stop) new;
 }
 
 -- a reader went on to a line of a script

@@ -2,7 +2,7 @@
 use Rattle.std.proofs.Common.{◌≡◌, ◌⊎◌, inl, inr, ℕ, ◌+◌, ◌-◌, ◌<◌, ◌≤◌, List, [], ◌∷◌, ◌++◌, length, get_or, map, Bool, true, false, Some, refl, sym, ◌∙◌, ap, subst, append_assoc, arith}
 use Rattle.std.specs.Prelude.{if◌then◌else◌, slice_get, nat_eq, not, ◌&&◌}
 use Rattle.std.specs.Cmp.Lexicographic.{pointwise}
-use Rattle.std.specs.List.{All, AllByRecursion}
+use Rattle.std.specs.List.{AllByRecursion}
 use Rattle.std.proofs.Math.Seq.{get_or-append_seam}
 use Rattle.std.proofs.lemmas.List.{append-nil, length-append}
 use Rattle.std.proofs.lemmas.List.Elements.{All-head, All-tail}
@@ -40,9 +40,10 @@ use Rattle.bench_world.proofs.WriteBehind.{Done, tag_behind}
 use Rattle.nfc_bench.specs.Run.{IsFates, HaveNoFates, IsRunOf, AreRuns}
 use Rattle.nfc_bench.specs.Sweep.{sweep_lines, break_lines, read_line, last_entry, all_transmissions, told_in, told_if, told_by_run, message_told, message_written, written_if, written_in, first_told, is_neither}
 use Rattle.nfc_bench.specs.SweptReads.{HeldBehind, TellsThree, SweptIsRead, NeitherIsEmpty}
-use Rattle.nfc_bench.proofs.Journals.{asking_more, asks_something}
+use Rattle.nfc_bench.proofs.Journals.{asks_something}
 use Rattle.nfc_bench.proofs.WrittenTag.{named_so, written_placed}
 use Rattle.nfc_bench.proofs.SweptLines.{break_fates, breaks_are, breaks_spelled, read_spelled, spelled_append, all_breaks, all_of}
+use Rattle.trace_audit.proofs.Entries.{asking_more}
 
 -- no entry has numbers
 abbrev NoneJoined : List Given → Type 0

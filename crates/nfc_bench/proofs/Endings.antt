@@ -6,7 +6,7 @@ use Rattle.std.proofs.lemmas.List.{append-nil, length-append}
 use Rattle.nfc_io.specs.Counts.{HasRisen}
 use Rattle.nfc_io.specs.Moves.{with_end, GainsFront}
 use Rattle.nfc_io.specs.Lines.{lines_of, whole_lines, NoLf}
-use Rattle.nfc_io.specs.Reading.{Lined, Advances, Looks}
+use Rattle.nfc_io.specs.Reading.{Lined, Advances}
 use Rattle.nfc_io.specs.declared.line_reader.LineStop.TheVariants as ends
 use Rattle.nfc_io.proofs.Counts.{rises_at_last}
 use Rattle.nfc_io.proofs.Moves.{with_end-append, with_end-nil, read_on}
@@ -20,12 +20,12 @@ use Rattle.bench_world.specs.Legal.{first_state}
 use Rattle.bench_world.specs.Obeying.{Benched, begun_anew, new_bench}
 use Rattle.bench_world.specs.Taking.{AreSpelled, IsTaken, standing_of}
 use Rattle.bench_world.proofs.Shapes.{TakenAlike, legal_taken, taken_at, taken_too}
-use Rattle.nfc_bench.specs.Run.{AreObeyed, FirstAreObeyed, FirstRefused, AllTaken, RefusesLine, ObeysFront, AddsFault, line_fault, read_fault, EndsDone, EndsRefused, EndsUnread, EndsUnwritten, ReadsInTime}
-use Rattle.nfc_bench.specs.Reading.{ReadsAll, ReadsToLimit}
+use Rattle.nfc_bench.specs.Run.{AreObeyed, FirstAreObeyed, FirstRefused, AllTaken, RefusesLine, ObeysFront, AddsFault, line_fault, read_fault, EndsRefused, EndsUnread, EndsUnwritten}
+use Rattle.nfc_bench.specs.Reading.{ReadsToLimit}
 use Rattle.nfc_bench.specs.Stops.{Follows, LineRefused, LineCut, LineLost, LineStops, Lost, ObeyedBy, RunRefused, RunUnread, RunLost, RunStops}
 use Rattle.nfc_bench.proofs.Limits.{all_at, IsShort, limits_more, no_limits}
-use Rattle.nfc_bench.proofs.Reading.{goes_on_by, goes_looking, read_at_end, read_at_limit}
-use Rattle.nfc_bench.proofs.Progress.{Progress, GaveNext, Goes, goes, lines_on, whole_on, ended_on, leads_to, obeyed_lost, obeyed_more, obeyed_new, stops_lost, stops_none}
+use Rattle.nfc_bench.proofs.Reading.{goes_on_by}
+use Rattle.nfc_bench.proofs.Progress.{Progress, GaveNext, Goes, goes, whole_on, leads_to, obeyed_lost, obeyed_more, obeyed_new, stops_lost, stops_none}
 use Rattle.nfc_bench.proofs.Journals.{written_none}
 
 -- The lines that were obeyed are taken, and what is taken behind them is taken by the machines.
@@ -60,27 +60,6 @@ refused_by_size quiet left mid a j n t t1 p r =
       written = p.written;
     }
 
--- every line was given, and is obeyed
-all_done : (quiet : Bool) (left mid left' : Option (List ℕ)) (a : Lined) (j : Benched) (n : ℕ) (t t1 : Option (List ℕ))
-    → (p : Progress quiet left mid a j n t t1) → ReadsAll left left' p.done → EndsDone quiet left left' t t1 j
-all_done quiet left mid left' a j n t t1 p r = record {
-  lines = record {
-    input = r.input;
-    told = r.told;
-    limits = subst (λ ls. AreWithinLimits ls) (sym r.parts) r.limits;
-    obeyed = subst (λ ls. AreObeyed ls j) (sym r.parts) p.obeyed.obeyed;
-  };
-  written = p.written;
-}
-
-pub done_at_end : (quiet : Bool) (left mid left' : Option (List ℕ)) (a m : Lined) (j : Benched) (n : ℕ) (t t1 : Option (List ℕ))
-    → Progress quiet left mid a j n t t1 → Advances a m mid left' (Ok false) → EndsDone quiet left left' t t1 j
-done_at_end quiet left mid left' a m j n t t1 p adv = all_done quiet left mid left' a j n t t1 p (read_at_end left mid left' a m p.done p.reads adv)
-
-pub done_at_limit : (quiet : Bool) (left mid left' : Option (List ℕ)) (a m : Lined) (j : Benched) (n : ℕ) (t t1 : Option (List ℕ))
-    → Progress quiet left mid a j n t t1 → Looks a m mid left' (Ok false) → EndsDone quiet left left' t t1 j
-done_at_limit quiet left mid left' a m j n t t1 p look = all_done quiet left mid left' a j n t t1 p (read_at_limit left mid left' a m p.done p.reads look)
-
 -- the source failed, behind no whole line that isn't obeyed
 unread : (quiet : Bool) (left mid left' : Option (List ℕ)) (a : Lined) (j : Benched) (n : ℕ) (t t1 : Option (List ℕ)) (r r' : ℕ) (got : List ℕ)
     → Progress quiet left mid a j n t t1 → Goes a got mid left' → a.is_ended ≡ false → NoLf (a.held ++ got) → HasRisen r r' → RunUnread quiet left left' t t1 r r' j
@@ -104,12 +83,6 @@ pub unread_next : (quiet : Bool) (left mid left' : Option (List ℕ)) (a m : Lin
     → Progress quiet left mid a j n t t1 → Advances a m mid left' (Err ends.ReadFault) → HasRisen r r' → RunUnread quiet left left' t t1 r r' j
 unread_next quiet left mid left' a m j n t t1 r r' p adv risen =
     unread quiet left mid left' a j n t t1 r r' adv.fetched.got p (goes a adv.text mid left' adv.fetched) adv.came.0 (subst NoLf adv.fetched.parts adv.came.2) risen
-
-pub unread_at_limit : (quiet : Bool) (left mid left' : Option (List ℕ)) (a m : Lined) (j : Benched) (n : ℕ) (t t1 : Option (List ℕ)) (r r' : ℕ)
-    → Progress quiet left mid a j n t t1 → Looks a m mid left' (Err ends.ReadFault) → HasRisen r r' → RunUnread quiet left left' t t1 r r' j
-unread_at_limit quiet left mid left' a m j n t t1 r r' p look risen =
-    let empty : NoLf [] = λ k small. absurd (omega arith) in
-    unread quiet left mid left' a j n t t1 r r' look.got p (goes_looking a m mid left' (Err ends.ReadFault) look) look.found.0 (subst NoLf (sym look.found.1) empty) risen
 
 -- The next line was given, and tried.
 

@@ -1,5 +1,5 @@
 -- A journal gains entries, and a report their text.
-use Rattle.std.proofs.Common.{◌≡◌, ℕ, ◌+◌, List, [], ◌∷◌, ◌++◌, length, Bool, true, false, if◌then◌else◌, Option, refl, sym, ◌∙◌, ap, subst, arith}
+use Rattle.std.proofs.Common.{◌≡◌, ℕ, ◌+◌, List, [], ◌∷◌, ◌++◌, length, Bool, true, false, if◌then◌else◌, Option, refl, sym, ◌∙◌, ap, subst}
 use Rattle.std.specs.Prelude.{map}
 use Rattle.std.proofs.lemmas.List.{append-nil, map-append}
 use Rattle.std.proofs.lemmas.Grind.{flat_map-append}
@@ -9,36 +9,13 @@ use Rattle.bench_script.specs.declared.command.Command.{Command}
 use Rattle.bench_script.specs.declared.command.Command.TheVariants.{Skip}
 use Rattle.bench_world.specs.declared.entry.Entry.{Entry}
 use Rattle.bench_script.specs.Script.{words_of, is_skipped, SpelledBy, Spells}
-use Rattle.bench_world.specs.Legal.{State, Given, Joins, EachLegal, first_state}
+use Rattle.bench_world.specs.Legal.{Given, Joins, first_state}
 use Rattle.bench_world.specs.Journal.{NumberedLine, asking_lines, AreEntriesOf, Numbered, LeadsTo}
-use Rattle.bench_world.specs.Obeying.{Benched, Adds, Obeys}
+use Rattle.bench_world.specs.Obeying.{Benched, Adds}
 use Rattle.bench_world.specs.Report.{entry_text, report_text}
 use Rattle.nfc_bench.specs.Stops.{Follows}
 use Rattle.bench_script.proofs.Spelling.{skipped_names_none}
-
--- each entry is legal, and so are some more
-pub each_more : (s m t : State) (gs hs : List Given) (es ds : List Entry) → EachLegal s gs es m → EachLegal m hs ds t → EachLegal s (gs ++ hs) (es ++ ds) t
-each_more s m t [] hs [] ds p q = subst (λ x. EachLegal x hs ds t) p q
-each_more s m t [] hs (e ∷ es) ds p q = absurd p
-each_more s m t (g ∷ gs) hs [] ds p q = absurd p
-each_more s m t (g ∷ gs) hs (e ∷ es) ds p q = (p.0, p.1, each_more p.0 m t gs hs es ds p.2 q)
-
--- the lines that ask for something, of two texts one after the other
-pub asking_more : (n : ℕ) (ls ks : List (List ℕ)) → asking_lines n (ls ++ ks) ≡ asking_lines n ls ++ asking_lines (n + length ls) ks
-asking_more n [] ks = ap (λ m. asking_lines m ks) (let e : n ≡ n + 0 = omega arith in e)
-asking_more n (l ∷ ls) ks =
-    by_skip (is_skipped l) (asking_more (n + 1) ls ks ∙ ap (λ m. asking_lines (n + 1) ls ++ asking_lines m ks) (let e : n + 1 + length ls ≡ n + length (l ∷ ls) = omega arith in e))
-  where
-    by_skip : (v : Bool) → asking_lines (n + 1) (ls ++ ks) ≡ asking_lines (n + 1) ls ++ asking_lines (n + length (l ∷ ls)) ks → (if v then asking_lines (n + 1) (ls ++ ks) else record { number = n; text = l } ∷ asking_lines (n + 1) (ls ++ ks))
-        ≡ (if v then asking_lines (n + 1) ls else record { number = n; text = l } ∷ asking_lines (n + 1) ls) ++ asking_lines (n + length (l ∷ ls)) ks
-    by_skip true at = at
-    by_skip false at = ap (λ x. record { number = n; text = l } ∷ x) at
-
-pub entries_more : (ls ks : List NumberedLine) (es ds : List Entry) → AreEntriesOf ls es → AreEntriesOf ks ds → AreEntriesOf (ls ++ ks) (es ++ ds)
-entries_more [] ks [] ds p q = q
-entries_more [] ks (e ∷ es) ds p q = absurd p
-entries_more (l ∷ ls) ks [] ds p q = absurd p
-entries_more (l ∷ ls) ks (e ∷ es) ds p q = (p.0, p.1, entries_more ls ks es ds p.2 q)
+use Rattle.trace_audit.proofs.Entries.{asking_more, each_more, entries_more}
 
 pub numbered_more : (n : ℕ) (ls ks : List (List ℕ)) (es ds : List Entry) → Numbered n ls es → Numbered (n + length ls) ks ds → Numbered n (ls ++ ks) (es ++ ds)
 numbered_more n ls ks es ds p q =
@@ -109,11 +86,6 @@ not_skipped l c spelled false h = h
 pub asks_something : (l : List ℕ) (c : Command) → Spells l c → (c ≡ Skip → ⊥) → is_skipped l ≡ false
 asks_something l Skip spelled other = absurd (other refl)
 asks_something l c spelled other = not_skipped l c spelled (is_skipped l) refl
-
--- what obeying adds, where it asks for something
-pub adds_of : (old new : Benched) (n : ℕ) (c : Command) → Obeys old new n c → (c ≡ Skip → ⊥) → Adds old new n c
-adds_of old new n Skip p other = absurd (other refl)
-adds_of old new n c p other = p
 
 pub report_more : (quiet : Bool) (js new es : List Entry) → new ≡ js ++ es → report_text quiet js ++ report_text quiet es ≡ report_text quiet new
 report_more quiet js new es is = sym (flat_map-append (entry_text quiet) js es) ∙ ap (report_text quiet) (sym is)

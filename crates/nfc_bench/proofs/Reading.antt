@@ -12,7 +12,7 @@ use Rattle.nfc_io.proofs.Moves.{with_front-nil, read_on}
 use Rattle.nfc_io.proofs.Lines.{GoesOn, some_line, lines_longer}
 use Rattle.bench_script.specs.Limits.{most_lines, longest_line, AreWithinLimits}
 use Rattle.nfc_bench.specs.Run.{ReadsInTime}
-use Rattle.nfc_bench.specs.Reading.{Scripted, ReadsAll, ReadsToLimit, ReadsScript}
+use Rattle.nfc_bench.specs.Reading.{ReadsAll, ReadsToLimit, ReadsScript}
 use Rattle.nfc_bench.proofs.Progress.{HasRead, Goes, goes, lines_on, ended_on}
 
 -- the input goes on behind the text, where the source tells it; at the source's end by nothing
@@ -128,13 +128,6 @@ ended_now a got mid left' on before now = elim (cases_Bool a.is_ended) [
   | inl over ↦ ended_on a got mid left' on before over
   | inr going ↦ now going
 ]
-
-pub read_at_end : (left mid left' : Option (List ℕ)) (a m : Lined) (done : List (List ℕ)) → HasRead left mid a done → Advances a m mid left' (Ok false) → ReadsAll left left' done
-read_at_end left mid left' a m done p adv =
-    let got : List ℕ = adv.fetched.got in
-    let on : Goes a got mid left' = goes a adv.text mid left' adv.fetched in
-    let over : m.is_ended ≡ true = ap (λ (v : Lined). v.is_ended) adv.came.1 in
-    all_read left mid left' a done got p on (sym adv.fetched.parts ∙ adv.came.0) (ended_now a got mid left' on p.ended (λ going. adv.ended going over))
 
 pub read_at_limit : (left mid left' : Option (List ℕ)) (a m : Lined) (done : List (List ℕ)) → HasRead left mid a done → Looks a m mid left' (Ok false) → ReadsAll left left' done
 read_at_limit left mid left' a m done p look =

@@ -4,9 +4,8 @@ use Rattle.std.specs.Prelude.{IfSome}
 use Rattle.std.specs.List.{All}
 use Rattle.std.proofs.Math.Seq.{drop-cons, get_or-append_seam}
 use Rattle.std.proofs.lemmas.Bool.{cases_Bool}
-use Rattle.std.proofs.lemmas.List.{append-nil, length-append, length-take-le, length-drop, take-append-drop, take_all, take_more, get_or_append_left}
+use Rattle.std.proofs.lemmas.List.{append-nil, length-append, length-take-le, take-append-drop, take_all, take_more, get_or_append_left}
 use Rattle.std.proofs.lemmas.List.Elements.{All-append, All-more}
-use Rattle.nfc_io.specs.Counts.{HasRisen}
 use Rattle.nfc_io.specs.Lines.{lines_of}
 use Rattle.bench_script.specs.declared.command.Command.{Command}
 use Rattle.bench_script.specs.declared.command.Command.TheVariants.{Fates, Write}
@@ -16,18 +15,18 @@ use Rattle.bench_script.proofs.Spelling.{spells_one}
 use Rattle.bench_world.specs.declared.entry.Entry.{Entry}
 use Rattle.bench_world.specs.Legal.{State, first_state}
 use Rattle.bench_world.specs.Obeying.{Benched, begun_anew, new_bench}
-use Rattle.bench_world.specs.Taking.{AreSpelled, AreTaken, standing_of}
+use Rattle.bench_world.specs.Taking.{AreSpelled}
 use Rattle.bench_world.proofs.Shapes.{taken_at}
 use Rattle.nfc_bench.specs.declared.top.sweeping.Cut.{Cut}
 use Rattle.nfc_bench.specs.declared.top.sweeping.Cut.TheVariants.{Refused, ReadFault, Memory}
-use Rattle.nfc_bench.specs.Reading.{Scripted, AreCut, AreLinesOf, ReadsScript}
-use Rattle.nfc_bench.specs.Run.{IsFates, IsWrite, HaveNoFates, IsSwept, IsRunOf, AreObeyed, FirstAreObeyed, ObeysFront, AreRuns, HasSwept, HasSweptSome, FirstUnswept, LastUnwritten, IsUnwritten, Unsweeps, SweepsSome, MaySweep, IsRefused, StopsAt}
+use Rattle.nfc_bench.specs.Reading.{Scripted, AreLinesOf, ReadsScript}
+use Rattle.nfc_bench.specs.Run.{IsFates, IsWrite, HaveNoFates, IsSwept, IsRunOf, FirstAreObeyed, ObeysFront, AreRuns, HasSwept, HasSweptSome, FirstUnswept, LastUnwritten, IsUnwritten, Unsweeps, SweepsSome, MaySweep, StopsAt}
 use Rattle.nfc_bench.specs.Stops.{FirstUntaken, ObeyedBy}
 use Rattle.nfc_bench.specs.Sweep.{Swept, sweep_lines, read_line, all_transmissions}
-use Rattle.nfc_bench.specs.SweepStops.{is_fates, is_write, Stands, MayStand, MayNotStand, StandsTo, ObeysSwept, FirstWithin, ScriptStops, IsWrittenBy, BeginsSweep, AreSweptLines, HasBroken, HasBrokenAll, HasBrokenSome, SweepStops, SweepRefused}
+use Rattle.nfc_bench.specs.SweepStops.{is_fates, is_write, Stands, MayStand, MayNotStand, StandsTo, ObeysSwept, FirstWithin, ScriptStops, BeginsSweep, AreSweptLines, HasBroken, HasBrokenAll, HasBrokenSome, SweepStops, SweepRefused}
 use Rattle.nfc_bench.proofs.Limits.{all_at, IsShort, no_limits}
-use Rattle.nfc_bench.proofs.Endings.{done_taken, none_obeyed, front_at_once}
-use Rattle.nfc_bench.proofs.Progress.{obeyed_new, stops_none}
+use Rattle.nfc_bench.proofs.Endings.{done_taken, none_obeyed}
+use Rattle.nfc_bench.proofs.Progress.{stops_none}
 
 -- A front of a list keeps what holds of each item.
 pub all_front : {X : Type 0} (P : X → Type 0) (xs ys : List X) → All P (xs ++ ys) → All P xs
@@ -388,15 +387,8 @@ told_input : (left left' : Option (List ℕ)) (input : List ℕ) (c : Bool) → 
 told_input None left' input c told = tt
 told_input (Some bytes) left' input c told = told.0
 
-told_end : (left left' : Option (List ℕ)) (input : List ℕ) (c : Bool) → c ≡ false → IfSome left (λ bytes. (input ≡ bytes) × (c ≡ false → left' ≡ Some [])) → IfSome left (λ bytes. (input ≡ bytes) × (left' ≡ Some []))
-told_end None left' input c whole told = tt
-told_end (Some bytes) left' input c whole told = (told.0, told.1 whole)
-
 pub read_told : (left left' : Option (List ℕ)) (s : Scripted) → (r : ReadsScript left left' s) → IfSome left (λ bytes. r.input ≡ bytes)
 read_told left left' s r = told_input left left' r.input s.is_cut r.told
-
-pub read_end : (left left' : Option (List ℕ)) (s : Scripted) → s.is_cut ≡ false → (r : ReadsScript left left' s) → IfSome left (λ bytes. (r.input ≡ bytes) × (left' ≡ Some []))
-read_end left left' s whole r = told_end left left' r.input s.is_cut whole r.told
 
 -- why the first run stopped is why the sweep did
 pub script_stops : (left left' : Option (List ℕ)) (s : Scripted) (r r' : ℕ) (b : Benched) (cut : Cut) → (rs : ReadsScript left left' s) → b.finished ≡ [] → ScriptStops (lines_of rs.input) b cut → SweepStops left r r' b cut

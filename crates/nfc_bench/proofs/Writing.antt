@@ -1,20 +1,13 @@
 -- An entry's text is gathered in pieces, and written.
-use Rattle.std.proofs.Common.{◌≡◌, ℕ, suc, ◌+◌, ◌<◌, List, [], ◌∷◌, ◌++◌, length, get_or, drop, Option, sym, ◌∙◌, ap, subst, arith, append_assoc, append-nil}
+use Rattle.std.proofs.Common.{◌≡◌, ℕ, suc, ◌+◌, ◌<◌, List, ◌∷◌, ◌++◌, length, get_or, drop, Option, sym, ◌∙◌, ap, subst, arith, append_assoc}
 use Rattle.std.specs.Prelude.{Result, Ok, Err, OnErr, OnOk}
 use Rattle.std.specs.List.{flat_map}
 use Rattle.std.proofs.Math.Seq.{drop-cons}
 use Rattle.nfc_io.specs.Moves.{with_end, GainsFront}
-use Rattle.nfc_io.proofs.Moves.{with_end-nil, write_on, GainsFront-more, GainsFront-after}
+use Rattle.nfc_io.proofs.Moves.{write_on, GainsFront-more, GainsFront-after}
 use Rattle.nfc_base.specs.declared.event.Event.{Event}
 use Rattle.bench_world.specs.Report.{event_text, events_text, line_text}
 use Rattle.nfc_bench.specs.Gathering.{IsWritten}
-
--- Nothing of a text is written, or all of it.
-pub nothing_written : (text left : List ℕ) (t : Option (List ℕ)) → left ≡ text → IsWritten text left t t
-nothing_written text left t same = record { given = []; parts = sym same; taken = sym (with_end-nil t) }
-
-pub all_written : (text left : List ℕ) (t t1 : Option (List ℕ)) → IsWritten text left t t1 → left ≡ [] → t1 ≡ with_end t text
-all_written text left t t1 w none = w.taken ∙ ap (with_end t) (sym (w.parts ∙ ap (λ x. w.given ++ x) none ∙ append-nil w.given))
 
 -- what is left is gathered, then a piece, then the rest
 split_so : (given held piece rest : List ℕ) → given ++ (held ++ (piece ++ rest)) ≡ (given ++ (held ++ piece)) ++ rest

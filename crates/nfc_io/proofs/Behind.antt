@@ -12,15 +12,6 @@ use Rattle.nfc_io.specs.declared.rest.Rest.TheVariants.{Whole, TooLong}
 use Rattle.nfc_io.proofs.Moves.{with_front-nil, read_on}
 use Rattle.nfc_io.proofs.InOrder.{in_order}
 
--- the bytes held, before anything is read
-pub on_at_first : (most : ℕ) (is_ended : Bool) (held : List ℕ) (left : Option (List ℕ)) → ReadsOn most is_ended held held left left
-on_at_first most is_ended held left = record {
-  got = [];
-  parts = sym (append-nil held);
-  read = sym (with_front-nil left);
-  wanted = inl refl;
-}
-
 -- one more read
 pub on_by_read : (most n : ℕ) (is_ended : Bool) (held bytes none text : List ℕ) (left mid left' : Option (List ℕ)) → is_ended ≡ false
     → ReadsOn most is_ended held bytes left mid → length bytes ≤ most → none ≡ [] → Gets n none text mid left'

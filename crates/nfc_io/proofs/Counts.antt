@@ -5,7 +5,3 @@ use Rattle.nfc_io.specs.Counts.{HasRisen}
 -- what rose in the last of several calls rose in all of them
 pub rises_at_last : (old mid new : ℕ) → old ≤ mid → HasRisen mid new → HasRisen old new
 rises_at_last old mid new le risen = elim risen [ inl h ↦ inl (omega arith) | inr h ↦ inr h ]
-
--- what rose in the first of several calls rose in all of them
-pub rises_at_first : (old mid new : ℕ) → old ≤ mid → HasRisen old mid → mid ≤ new → HasRisen old new
-rises_at_first old mid new before risen le = elim risen [ inl h ↦ inl (omega arith) | inr h ↦ grind (arith, h, before, le) ]

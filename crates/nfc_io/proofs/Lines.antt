@@ -1,5 +1,5 @@
 -- The lines of a text, from its front.
-use Rattle.std.proofs.Common.{◌≡◌, ◌≢◌, ℕ, zero, suc, ◌<◌, ◌≤◌, List, [], ◌∷◌, ◌++◌, length, Bool, true, false, ◌==◌, refl, sym, ◌∙◌, ap, append_assoc, arith}
+use Rattle.std.proofs.Common.{◌≡◌, ◌≢◌, ℕ, suc, ◌<◌, ◌≤◌, List, [], ◌∷◌, ◌++◌, length, Bool, true, false, ◌==◌, refl, sym, ◌∙◌, ap, append_assoc, arith}
 use Rattle.std.specs.Prelude.{if◌then◌else◌}
 use Rattle.std.specs.List.{AllByRecursion, onto_first}
 use Rattle.std.proofs.lemmas.Bool.{ne_eqb}
@@ -82,9 +82,3 @@ joined_more (k ∷ ls) l = ap (λ x. k ++ 10 ∷ x) (joined_more ls l) ∙ sym (
 pub clean_more : (ls : List (List ℕ)) (l : List ℕ) → AllByRecursion NoLf ls → NoLf l → AllByRecursion NoLf (ls ++ l ∷ [])
 clean_more [] l clean none = (none, tt)
 clean_more (k ∷ ls) l clean none = (clean.0, clean_more ls l clean.1 none)
-
-pub no_lf_more : (l : List ℕ) (b : ℕ) → NoLf l → b ≢ 10 → NoLf (l ++ b ∷ [])
-no_lf_more [] b none other zero small = other
-no_lf_more [] b none other (suc k) small = absurd (omega arith)
-no_lf_more (x ∷ l) b none other zero small = none 0 (omega arith)
-no_lf_more (x ∷ l) b none other (suc k) small = no_lf_more l b (λ j less. none (suc j) (omega arith)) other k (omega arith)

@@ -33,11 +33,6 @@ pub told_after : (bytes got : List ℕ) (o : Option (List ℕ)) → Some bytes �
 told_after bytes got None is = absurd cc
 told_after bytes got (Some rest) is = (rest, refl, cc)
 
--- a source that doesn't tell its bytes keeps silent
-pub untold_after : (got : List ℕ) (o : Option (List ℕ)) → None ≡ with_front got o → o ≡ None
-untold_after got None is = refl
-untold_after got (Some rest) is = absurd cc
-
 -- a front of some bytes is a front of more
 pub GainsFront-more : (a b : Option (List ℕ)) (xs ys : List ℕ) → GainsFront a b xs → GainsFront a b (xs ++ ys)
 GainsFront-more a b xs ys front =

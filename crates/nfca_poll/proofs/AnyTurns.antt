@@ -35,7 +35,7 @@ use Rattle.nfca_poll.proofs.Choosing.{hears, Seeks, IsCard}
 use Rattle.nfca_poll.proofs.Selects.{quiet_turn, identifier_of, few_done}
 use Rattle.nfca_poll.proofs.Crowding.{events_of}
 use Rattle.nfca_poll.proofs.CardsAtRest.{rest_inactive, at_inactive, each_mapped, request_a}
-use Rattle.nfca_poll.proofs.ThroughNoise.{is_calling, asking_on, selecting_on, noise_so_far}
+use Rattle.nfca_poll.proofs.ThroughNoise.{is_calling, asking_on, selecting_on, noise_so_far, due}
 use Rattle.nfca_poll.proofs.Moves.{Moves, YieldsAt, TurnOf, passed, unheard, damaged, lost, turn_of}
 use Rattle.nfca_poll.proofs.Twins.{pairs_map, pairs_with, each_onward, kept_start, kept_turn, asks_ready, ready_polls, Twin, twins_say, twins_move, twins_wake}
 use Rattle.nfca_poll.proofs.FromAny.{IsQuiet, IsAlone, Stays, CallsInVain, Behind, Mixed, each_around, due_start, stay_start, turn_start, calling_turn}
@@ -194,10 +194,6 @@ module _ (may : Bool) (w : List Card) (s : Seek) (v u : List Card) (r : Reading)
       let E : List Card → Type 0 = λ x. Each IsQuiet x in
       goes (Selecting done l) q (subst E (sym q.0) (asked_quiet k.before k.first k.behind done (bits_of l) k.leads))
   lands (Ended o) n h q = (ends o n q, alone o q)
-
--- SDD_REQ or SEL_REQ, with or without noise
-abbrev due : Seeking → Reading
-due q = call_of (request_of q)
 
 later_turn : (may : Bool) (w : List Card) (q : Seeking) (v u : List Card) (h : Heard) (n t : ℕ) → asks_ready (due q) ≡ true → (k : Behind may w (seek_of q) v) → Each IsQuiet k.crowd
     → ((x : Heard) → is_calling (seek_step (seek_of q) x) ≡ false) → seek_step (seek_of q) Silent ≡ Ended Disturbed → seek_step (seek_of q) Damaged ≡ Ended Disturbed

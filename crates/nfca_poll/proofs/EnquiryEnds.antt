@@ -17,8 +17,9 @@ use Rattle.nfca_poll.specs.Enquiry.{Enquiry, Progress, Reaches, Loses, progress,
 use Rattle.nfca_poll.specs.Rounds.{LeavesLit}
 use Rattle.nfca_poll.proofs.Crowding.{drop-front}
 use Rattle.nfca_poll.proofs.Muting.{heard_lit}
-use Rattle.nfca_poll.proofs.LostField.{turn_breaks, breaks-append}
+use Rattle.nfca_poll.proofs.LostField.{turn_breaks}
 use Rattle.nfca_poll.proofs.EnquiryWalks.{after, holds}
+use Rattle.air_core.proofs.LostField.{breaks-append}
 
 pub lit_leaves : {L X : Type 0} (r : Result X PollFault) (new : Air L) → new.lit ≡ true → LeavesLit r new
 lit_leaves (Ok x) new l = l

@@ -20,7 +20,7 @@ use Rattle.nfca_poll.specs.declared.seeking.Done.{Done}
 use Rattle.nfca_poll.specs.declared.seeking.Done.TheVariants as dones
 use Rattle.nfca_poll.specs.declared.fault.PollFault.{PollFault}
 use Rattle.nfca_poll.specs.declared.fault.PollFault.TheVariants as faults
-use Rattle.nfca_poll.specs.Levels.{bcc, cascades}
+use Rattle.nfca_poll.specs.Levels.{bcc}
 use Rattle.nfca_poll.specs.Calls.{Sdd, call_frame, sel_cmd, sel_par, all_known, is_short, is_sdd, is_sel, is_sel_cmd, is_sdd_par, cmd_level, known_count}
 use Rattle.nfca_poll.specs.Poll.{Seek, Calling, Asking, Selecting, Ended, Found, Nobody, BadAnswer, seek_step, selected, goes_on, kind_of, has_bit, is_one_byte, level_bits, collision_bits}
 use Rattle.nfca_poll.specs.Seeking.{resolution, seek_of, request_of, levels_of}
@@ -29,9 +29,8 @@ use Rattle.nfca_poll.specs.Counting.{requests_that, is_sens_req, is_sdd_req, is_
 use Rattle.nfca_poll.proofs.KnownPacks.{two_bytes}
 use Rattle.nfca_poll.proofs.Enquiring.{Reached}
 use Rattle.nfca_poll.proofs.Crowding.{drop-front}
-
-abbrev one_if : Bool → ℕ
-one_if v = if v then 1 else 0
+use Rattle.nfca_poll.proofs.TellingInventory.{less_of, one_if}
+use Rattle.nfca_poll.proofs.TellingResolution.{under_of}
 
 requests-append : (p : Signal → Bool) (a b : List Event) → requests_that p (a ++ b) ≡ requests_that p a + requests_that p b
 requests-append p [] b = (let q : requests_that p b ≡ 0 + requests_that p b = omega arith in q)
@@ -73,16 +72,6 @@ record Costs (k : ℕ) (s : Seek) (x y z : ℕ) (t : Seek) : Type 0 where
   sens : x + left_sens t ≤ left_sens s
   sdd : y + left_sdd k t ≤ left_sdd k s
   sel : z + left_sel k t ≤ left_sel k s
-
-less_of : (a b : ℕ) → nat_lt a b ≡ true → a < b
-less_of a b h = grind arith
-
-under_of : (a b : ℕ) → nat_le a b ≡ false → b < a
-under_of a b h = grind arith
-
-goes_few : (done : List (List ℕ)) (l : List ℕ) (v : Bool) → nat_lt (length done) 2 ≡ v → v && cascades l ≡ true → length done < 2
-goes_few done l true h g = less_of (length done) 2 h
-goes_few done l false h g = absurd cc
 
 calls : (k n : ℕ) → n ≤ 3 → (v : Bool) → nat_lt n 3 ≡ v → Costs k (Calling n) 1 0 0 (if v then Calling (n + 1) else Ended Nobody)
 calls k n h true e = let less : n < 3 = less_of n 3 e in record { there = omega (arith, less); sens = omega (arith, less); sdd = omega arith; sel = omega arith }
@@ -342,13 +331,6 @@ module _ {L : Type 0} (m : Machine L) where
     sens = (let a = k.sens in omega (arith, a));
     sdd = λ j. (let a = k.sdd j in omega (arith, a));
     sel = λ j. (let a = k.sel j in omega (arith, a));
-  }
-
-  pub none_few : (old : Air L) → AsksFew (drop (length old.trace) old.trace)
-  none_few old = record {
-    sens = omega (arith, none_asked is_sens_req old);
-    sdd = λ k. omega (arith, none_asked (is_sdd_req k) old);
-    sel = λ k. omega (arith, none_asked (is_sel_req k) old);
   }
 
   pub few_err : (old now new : Air L) (q : Seeking) (f : Signal) (fault : PollFault) → Counted old now (seek_of q) → Reached resolution m old now (seek_of q) → f ≡ request_of q → AskEnds m now f (Err fault) new

@@ -1,10 +1,8 @@
 -- The first of those that are idle, as the crowd's order has it; and that a resolution over devices at rest ends by it.
 use Rattle.std.proofs.Common.{◌≡◌, ◌≢◌, ◌⊎◌, ℕ, ◌<◌, ◌≤◌, List, [], ◌∷◌, ◌++◌, length, drop, filter, Bool, true, false, if◌then◌else◌, inl, inr, refl, sym, ◌∙◌, ap, subst, arith, Result, Ok, Err}
-use Rattle.nfc_base.specs.Trace.{noise, breaks, of_break, other_than_pass}
+use Rattle.nfc_base.specs.Trace.{noise, breaks}
 use Rattle.nfc_base.specs.declared.event.Event.{Event}
 use Rattle.nfc_base.specs.declared.event.Event.TheVariants.{Reset, Request, Answer, Clash}
-use Rattle.nfc_base.specs.declared.event.Fate.{Fate}
-use Rattle.nfc_base.specs.declared.event.Fate.TheVariants.{Pass, Damage, Lose, Break}
 use Rattle.air_core.specs.World.{Machine}
 use Rattle.air_core.specs.Turn.{Air}
 use Rattle.nfca_poll.specs.declared.fault.Picked.{Picked}
@@ -20,6 +18,7 @@ use Rattle.nfca_poll.proofs.HeardBits.{pointwise_same, pointwise_path}
 use Rattle.nfca_poll.proofs.NobodyIdle.{Sleeps}
 use Rattle.nfca_poll.proofs.Causes.{Leads, none, some, leads}
 use Rattle.nfca_poll.proofs.CrowdOrder.{ids_same, ahead_both}
+use Rattle.air_core.proofs.LostField.{break_noise}
 
 -- one device more
 put_empty : (p : Picked) (ps : List Picked) → first_picked ps ≡ Err faults.Nobody → first_picked (put_by p ps) ≡ Ok p
@@ -123,13 +122,6 @@ one_active [] m b d e =
     sym (ap (λ v. (if v then with_front m (Active false) else m) ∷ with_active m.id b) (pointwise_same m.id) ∙ ap (λ t. with_front m (Active false) ∷ t) (others_stay m.id b e))
 one_active (c ∷ a) m b d e =
     ap (λ t. c ∷ t) (one_active a m b d.1 e) ∙ sym (ap (λ v. (if v then with_front c (Active false) else c) ∷ with_active m.id (a ++ m ∷ b)) (not_same c.id m.id d.0))
-
--- where nothing is noise no field is lost
-break_noise : (x : Fate) → of_break x ≤ other_than_pass x
-break_noise Pass = omega arith
-break_noise Damage = omega arith
-break_noise Lose = omega arith
-break_noise Break = omega arith
 
 breaks_noise : (es : List Event) → breaks es ≤ noise es
 breaks_noise [] = omega arith

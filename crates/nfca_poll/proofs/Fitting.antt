@@ -115,11 +115,6 @@ begins_whole (true ∷ p) (false ∷ x) h k = wrong h
 begins_whole (false ∷ p) (true ∷ x) h k = wrong h
 begins_whole (false ∷ p) (false ∷ x) h k = ap (λ t. false ∷ t) (begins_whole p x h (omega (arith, k)))
 
-pub take_drop : (n : ℕ) (x : List Bool) → x ≡ take n x ++ drop n x
-take_drop zero x = refl
-take_drop (suc n) [] = refl
-take_drop (suc n) (a ∷ x) = ap (λ t. a ∷ t) (take_drop n x)
-
 -- the first 32 bits determine a level
 four_bytes : (x : List ℕ) → length x ≡ 5 → take 32 (bits_of x) ≡ bits_of (take 4 x)
 unfolding bits_of

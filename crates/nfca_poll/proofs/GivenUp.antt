@@ -35,6 +35,7 @@ use Rattle.nfca_poll.proofs.TurnWalks.{turns-append, IsTurn, turn_of}
 use Rattle.nfca_poll.proofs.CallsRead.{sdd_read, sel_read}
 use Rattle.nfca_poll.proofs.RoundParts.{NoReset, no_reset-append, one_more_round, turn_whole}
 use Rattle.nfca_poll.proofs.TellingResolution as resolving
+use Rattle.nfca_poll.proofs.TellingResolution.{due}
 
 abbrev pub from_here : Named
 from_here = record { levels = []; ids = [] }
@@ -114,10 +115,6 @@ module _ (found : List Picked) where
     sel_heard Damaged = tt
     sel_heard Silent = tt
 
--- the request of a turn is the one that is due
-due : (f g : Signal) → Asks f ≡ Asks g → g ≡ f
-due f g e = cc
-
 sens_read : call_of (call_frame Sens) ≡ Calls Sens
 sens_read = refl
 
@@ -148,7 +145,7 @@ each_snoc : {X : Type 0} (P : X → Type 0) (xs : List X) (x : X) → Each P xs 
 each_snoc P [] x p q = (q, tt)
 each_snoc P (y ∷ xs) x p q = (p.0, each_snoc P xs x p.1 q)
 
-or_right : (v w : Bool) → w ≡ true → (v || w) ≡ true
+pub or_right : (v w : Bool) → w ≡ true → (v || w) ≡ true
 or_right true w e = refl
 or_right false w e = e
 

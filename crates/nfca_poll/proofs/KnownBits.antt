@@ -8,6 +8,7 @@ use Rattle.nfc_base.proofs.Packing.{length_of_bits, take_whole}
 use Rattle.nfca_poll.specs.Front.{begins}
 use Rattle.nfca_poll.specs.Calls.{is_sdd, is_sdd_par, is_sel_cmd, known_count, known_bits}
 use Rattle.std.proofs.lemmas.List.{length-drop, length-take-le}
+use Rattle.nfca_poll.proofs.Clashes.{begins_right}
 
 wrong : {X : Type 0} → false ≡ true → X
 wrong h = absurd cc
@@ -15,14 +16,6 @@ wrong h = absurd cc
 and_both : (a b : Bool) → a && b ≡ true → (a ≡ true) × (b ≡ true)
 and_both true b h = (refl, h)
 and_both false b h = wrong h
-
-begins_right : (x y : List Bool) → begins (common x y) y ≡ true
-begins_right [] y = refl
-begins_right (a ∷ x) [] = refl
-begins_right (true ∷ x) (true ∷ y) = begins_right x y
-begins_right (true ∷ x) (false ∷ y) = refl
-begins_right (false ∷ x) (true ∷ y) = refl
-begins_right (false ∷ x) (false ∷ y) = begins_right x y
 
 sixteen : (bytes : List ℕ) (n : ℕ) → 2 ≤ length bytes → drop 16 (take (suc (suc (suc (suc (suc (suc (suc (suc (suc (suc (suc (suc (suc (suc (suc (suc n)))))))))))))))) (bits_of bytes)) ≡ take n (bits_of (drop 2 bytes))
 unfolding bits_of

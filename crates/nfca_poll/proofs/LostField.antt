@@ -1,11 +1,10 @@
 -- A field is lost by a Break alone.
-use Rattle.std.proofs.Common.{◌≡◌, ◌+◌, ◌<◌, List, [], ◌∷◌, ◌++◌, length, drop, inr, sym, ◌∙◌, ap, append_assoc, arith, None, Err}
+use Rattle.std.proofs.Common.{◌≡◌, ◌+◌, ◌<◌, List, ◌++◌, length, drop, inr, sym, ◌∙◌, ap, append_assoc, arith, None, Err}
 use Rattle.nfc_base.specs.declared.event.Event.{Event}
-use Rattle.nfc_base.specs.declared.event.Event.TheVariants.{Reset, Request, Answer, Clash}
 use Rattle.nfc_base.specs.declared.event.Fate.{Fate}
 use Rattle.nfc_base.specs.declared.event.Fate.TheVariants.{Pass, Damage, Lose, Break}
 use Rattle.nfc_base.specs.Signal.{Signal}
-use Rattle.nfc_base.specs.Trace.{breaks, of_break, heard_by}
+use Rattle.nfc_base.specs.Trace.{breaks, heard_by}
 use Rattle.air_core.specs.Joint.{Joint, Nothing, Single, Clashing}
 use Rattle.air_core.specs.World.{Machine, World}
 use Rattle.air_core.specs.Turn.{Air, moment}
@@ -19,13 +18,7 @@ use Rattle.nfca_poll.specs.Poll.{Outcome}
 use Rattle.nfca_poll.specs.Seeking.{outcome}
 use Rattle.nfca_poll.proofs.Enquiring.{Reached}
 use Rattle.nfca_poll.proofs.Crowding.{drop-front}
-
-pub breaks-append : (a b : List Event) → breaks (a ++ b) ≡ breaks a + breaks b
-breaks-append [] b = (let q : breaks b ≡ 0 + breaks b = omega arith in q)
-breaks-append (Reset ∷ a) b = breaks-append a b
-breaks-append (Request f x ∷ a) b = ap (λ n. of_break x + n) (breaks-append a b) ∙ (let q : of_break x + (breaks a + breaks b) ≡ (of_break x + breaks a) + breaks b = omega arith in q)
-breaks-append (Answer f x ∷ a) b = ap (λ n. of_break x + n) (breaks-append a b) ∙ (let q : of_break x + (breaks a + breaks b) ≡ (of_break x + breaks a) + breaks b = omega arith in q)
-breaks-append (Clash f x ∷ a) b = ap (λ n. of_break x + n) (breaks-append a b) ∙ (let q : of_break x + (breaks a + breaks b) ≡ (of_break x + breaks a) + breaks b = omega arith in q)
+use Rattle.air_core.proofs.LostField.{breaks-append}
 
 joint_breaks : (j : Joint) (y : Fate) → heard_by Pass (joint_back j y) ≡ None → 0 < breaks (joint_events j y)
 joint_breaks Nothing y e = absurd cc

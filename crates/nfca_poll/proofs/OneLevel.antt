@@ -1,13 +1,8 @@
 -- Identifiers of one level: the level, its bits and its bytes.
-use Rattle.std.proofs.Common.{◌≡◌, ℕ, zero, suc, ◌^◌, ◌<◌, List, [], ◌∷◌, ◌++◌, length, get_or, Bool, true, ◌==◌, ◌&&◌, nat_eq, if◌then◌else◌, refl, ◌∙◌, ap, subst, arith}
+use Rattle.std.proofs.Common.{◌≡◌, ℕ, zero, suc, ◌^◌, ◌<◌, List, [], ◌∷◌, ◌++◌, length, get_or, true, ◌==◌, ◌&&◌, nat_eq, refl, ◌∙◌, ap, subst, arith}
 use Rattle.std.proofs.lemmas.Nat.{xor_lt}
 use Rattle.std.specs.Cmp.Lexicographic.{pointwise}
-use Rattle.nfc_base.specs.declared.frame.Tech.TheVariants.{A}
-use Rattle.nfc_base.specs.Signal.{whole_a}
-use Rattle.nfc_base.specs.Bits.{bits, bits_of, packed, of_bits}
-use Rattle.nfc_base.proofs.Packing.{packed_bits_of, length_of_bits, bits_of_whole, whole_of_bits}
-use Rattle.nfca_poll.specs.Levels.{bcc, level, levels}
-use Rattle.nfca_poll.specs.Poll.{Selecting, Ended, BadAnswer, completed, level_bits}
+use Rattle.nfca_poll.specs.Levels.{bcc, level}
 
 -- a list of four is its four parts
 four_parts : (id : List ℕ) → length id ≡ 4 → (get_or id 0 0 ∷ get_or id 1 0 ∷ get_or id 2 0 ∷ get_or id 3 0 ∷ []) ≡ id
@@ -21,9 +16,6 @@ four_parts (a ∷ b ∷ c ∷ d ∷ e ∷ id) h = absurd (omega (arith, h))
 -- what holds of four bytes holds of a list of four
 pub by_four : (P : List ℕ → Type 0) → ((a b c d : ℕ) → P (a ∷ b ∷ c ∷ d ∷ [])) → (id : List ℕ) → length id ≡ 4 → P id
 by_four P f id h = subst P (four_parts id h) (f (get_or id 0 0) (get_or id 1 0) (get_or id 2 0) (get_or id 3 0))
-
-pub levels_of_four : (id : List ℕ) → length id ≡ 4 → levels id ≡ level id ∷ []
-levels_of_four = by_four (λ id. levels id ≡ level id ∷ []) (λ a b c d. refl)
 
 pub bcc_fits : (id : List ℕ) → ((i : ℕ) → get_or id i 0 < 256) → bcc id < 256
 bcc_fits id h =
@@ -45,10 +37,6 @@ level_fits id h i = appended_fits id (bcc id) h (bcc_fits id h) i
 pub length_of_level : (id : List ℕ) → length id ≡ 4 → length (level id) ≡ 5
 length_of_level = by_four (λ id. length (level id) ≡ 5) (λ a b c d. refl)
 
--- the level's bits are sent as its five bytes
-pub level_frame : (id : List ℕ) → ((i : ℕ) → get_or id i 0 < 256) → of_bits A (bits_of (level id)) ≡ whole_a (level id)
-level_frame id h = whole_of_bits A (level id) (level_fits id h)
-
 same_number : (n : ℕ) → nat_eq n n ≡ true
 same_number n = grind arith
 
@@ -59,16 +47,3 @@ pointwise_self (x ∷ xs) = ap (λ v. v && pointwise nat_eq xs xs) (same_number 
 -- the check byte of a level is right
 pub level_checks : (id : List ℕ) → length id ≡ 4 → (get_or (level id) 4 0 == bcc (level id)) ≡ true
 level_checks = by_four (λ id. (get_or (level id) 4 0 == bcc (level id)) ≡ true) (λ a b c d. same_number (bcc (a ∷ b ∷ c ∷ d ∷ [])))
-
--- a whole answer with a level's five bytes completes it
-pub completed_level : (id : List ℕ) → length id ≡ 4 → ((i : ℕ) → get_or id i 0 < 256) → completed [] (bits (whole_a (level id))) ≡ Selecting [] (level id)
-completed_level id h k =
-    let x : List Bool = bits_of (level id) in
-    let all : bits (whole_a (level id)) ≡ x = bits_of_whole A (level id) in
-    let forty : length x ≡ 40 = omega (arith, length_of_bits (level id), length_of_level id h) in
-    let count : (length x == level_bits) ≡ true = ap (λ n. n == 40) forty in
-    let back : packed x ≡ level id = packed_bits_of (level id) (level_fits id k) in
-    ap (completed []) all
-    ∙ ap (λ v. if v && (get_or (packed x) 4 0 == bcc (packed x)) then Selecting [] (packed x) else Ended BadAnswer) count
-    ∙ ap (λ y. if get_or y 4 0 == bcc y then Selecting [] y else Ended BadAnswer) back
-    ∙ ap (λ v. if v then Selecting [] (level id) else Ended BadAnswer) (level_checks id h)

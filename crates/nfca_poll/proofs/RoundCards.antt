@@ -95,9 +95,6 @@ told_turn r v _ _ _ (lost x h) = map_twice picked_of (card_next r) v
 sleeps_not : ◌≡◌ {A = Front} Sleep Idle → ⊥
 sleeps_not e = cc
 
-idle_not : ◌≡◌ {A = Front} Idle Sleep → ⊥
-idle_not e = cc
-
 -- one that was found before was awake, by noise
 again_by : (idle : Bool) (n : ℕ) (found : List Picked) (p : Picked) (f : Front) → part_of idle f ≡ Idle → FitsBy false n found p f → Has p found → 0 < n
 again_by idle n found p Off e h k = absurd h

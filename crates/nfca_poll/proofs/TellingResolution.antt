@@ -25,7 +25,7 @@ use Rattle.nfca_poll.proofs.CallsRead.{sdd_read, sel_read}
 use Rattle.nfca_poll.proofs.SeekSteps.{packed_forty}
 use Rattle.nfca_poll.proofs.EnquiryWalks.{after}
 use Rattle.nfca_poll.proofs.TurnWalks.{turns_hold}
-use Rattle.nfca_poll.proofs.TellingInventory.{any_none, any_one}
+use Rattle.nfca_poll.proofs.TellingInventory.{any_none, any_one, less_of, not_both}
 
 abbrev one_if : Bool → ℕ
 one_if v = if v then 1 else 0
@@ -62,10 +62,6 @@ adds ts t = record {
   well = any_none (λ u. is_wrong (call_of u.request) (heard u)) ts t;
   wrong = any_one (λ u. is_wrong (call_of u.request) (heard u)) ts t;
 }
-
-not_both : (v : Bool) → v ≡ false → v ≡ true → ⊥
-not_both true e f = cc
-not_both false e f = cc
 
 -- a resolution so far: no bad reception once presence was shown, and no wrong answer
 pub record Clean (ts : List Turn) : Type 0 where
@@ -109,13 +105,10 @@ tells_other us r c k a b d = record {
   bad = (λ e. absurd (d e), λ e. absurd (not_both (has_wrong us) c.wrong e));
 }
 
-less_of : (a b : ℕ) → nat_lt a b ≡ true → a < b
-less_of a b h = grind arith
-
 far_of : (a b : ℕ) → nat_lt a b ≡ false → b ≤ a
 far_of a b h = grind arith
 
-under_of : (a b : ℕ) → nat_le a b ≡ false → b < a
+pub under_of : (a b : ℕ) → nat_le a b ≡ false → b < a
 under_of a b h = grind arith
 
 -- SENS_REQ: a call that is silent counts
@@ -209,7 +202,7 @@ no_sens false r s e n = refl
 not_sens : (f : Signal) (s : Reading) → call_of f ≡ s → (Calls Sens ≡ s → ⊥) → is_sens_req f ≡ false
 not_sens f s e n = no_sens (is_short f 0x26) _ s e n
 
-due : (f g : Signal) → Asks f ≡ Asks g → g ≡ f
+pub due : (f g : Signal) → Asks f ≡ Asks g → g ≡ f
 due f g e = cc
 
 pub asked : (s : Seek) (ts : List Turn) (t : Turn) → At (Reaches s) ts → seek_next s ≡ Asks t.request → At (after resolution (Reaches s) (note (heard t))) (ts ++ t ∷ [])

@@ -1,5 +1,5 @@
 -- What a call by rounds answers follows from what it heard.
-use Rattle.std.proofs.Common.{◌≡◌, ◌⊎◌, inl, inr, ◌≤◌, ℕ, ◌+◌, List, [], ◌∷◌, ◌++◌, length, filter, Bool, true, false, ◌||◌, nat_lt, if◌then◌else◌, Option, Some, None, Result, Ok, Err, refl, sym, ◌∙◌, ap, subst, append_assoc, arith}
+use Rattle.std.proofs.Common.{◌≡◌, ◌⊎◌, inl, inr, ◌≤◌, ℕ, ◌+◌, List, [], ◌∷◌, ◌++◌, length, filter, Bool, true, false, nat_lt, if◌then◌else◌, Option, Some, None, Result, Ok, Err, refl, sym, ◌∙◌, ap, subst, append_assoc, arith}
 use Rattle.std.proofs.lemmas.List.{append-nil, length-append}
 use Rattle.std.proofs.lemmas.List.Elements.{filter-append}
 use Rattle.std.proofs.lemmas.List.Folds.{list_any-append}
@@ -22,11 +22,9 @@ use Rattle.nfca_poll.specs.Rounds.{Aim, Search, Begins, Seeks, Sends, Told, most
 use Rattle.nfca_poll.specs.ByHeard.{silences, presence_turns, has_wrong, sleeps, TellsFound, TellsPicked, turns_since}
 use Rattle.nfca_poll.proofs.EnquiryWalks.{after}
 use Rattle.nfca_poll.proofs.TurnWalks.{turns_hold}
-use Rattle.nfca_poll.proofs.TellingInventory.{count_more}
+use Rattle.nfca_poll.proofs.TellingInventory.{count_more, far_of, one_if}
 use Rattle.nfca_poll.proofs.TellingResolution as resolving
-
-abbrev one_if : Bool → ℕ
-one_if v = if v then 1 else 0
+use Rattle.nfca_poll.proofs.GivenUp.{or_right}
 
 -- what a part of the turns has, all have
 more_silences : (a b : List Turn) → silences (presence_turns b) ≤ silences (presence_turns (a ++ b))
@@ -35,18 +33,11 @@ more_silences a b =
     ap silences (filter-append _ a b) ∙ ap length (filter-append _ (presence_turns a) (presence_turns b)) ∙ length-append (filter _ (presence_turns a)) (filter _ (presence_turns b)) in
     omega (arith, e)
 
-or_right : (v w : Bool) → w ≡ true → (v || w) ≡ true
-or_right true w e = refl
-or_right false w e = e
-
 more_wrong : (a b : List Turn) → has_wrong b ≡ true → has_wrong (a ++ b) ≡ true
 more_wrong a b h = list_any-append _ a b ∙ or_right (has_wrong a) (has_wrong b) h
 
 more_sleeps : (ts : List Turn) (t : Turn) → sleeps (ts ++ t ∷ []) ≡ sleeps ts + one_if (is_slp t.request)
 more_sleeps ts t = count_more (λ u. is_slp u.request) ts t
-
-far_of : (a b : ℕ) → nat_lt a b ≡ false → b ≤ a
-far_of a b h = grind arith
 
 -- what is told, by whether it is the end of a round at which nobody was left
 record Tells {X : Type 0} (Ends : Result X PollFault → Type 0) (ts : List Turn) (r : Result X PollFault) : Type 0 where

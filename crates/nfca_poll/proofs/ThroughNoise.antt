@@ -144,7 +144,7 @@ silent_ready a m b k v n e h = by_count (nat_lt k 3) refl
     by_count false q = let l : 3 ≤ k = at_least k q in inr (inr (refl, omega (arith, l, h)))
 
 -- what was due of a resolution
-abbrev due : Seeking → Reading
+abbrev pub due : Seeking → Reading
 due q = call_of (request_of q)
 
 nobody_says : (a : List Card) (m : Card) (b : List Card) (v : List Card) (g : Signal) → IsFirst a m b → v ≡ map (card_at [] []) (a ++ m ∷ b) → Has g (filter_map (card_says (Calls Sens)) v) → ⊥

@@ -2,7 +2,7 @@
 use Rattle.std.proofs.Common.{◌≡◌, List, [], ◌∷◌, ◌++◌, length, drop, Option, Result, refl, sym, ◌∙◌, ap, subst, true}
 use Rattle.std.proofs.lemmas.List.{append-nil}
 use Rattle.nfc_base.specs.Signal.{Signal}
-use Rattle.nfc_base.specs.Trace.{Back, Turn, back_of, turns, heard, heard_by}
+use Rattle.nfc_base.specs.Trace.{Back, Turn, back_of, turns, heard}
 use Rattle.nfc_base.specs.Trace as backs
 use Rattle.nfc_base.specs.declared.event.Event.{Event}
 use Rattle.nfc_base.specs.declared.event.Event.TheVariants.{Reset, Request, Answer, Clash}
@@ -28,7 +28,7 @@ turns-append (Request f x ∷ a) b h =
 turns-append (Answer g x ∷ a) b h = turns-append a b h
 turns-append (Clash g x ∷ a) b h = turns-append a b h
 
-joint_turns : (f : Signal) (x : Fate) (j : Joint) (y : Fate) → turns (Request f x ∷ joint_events j y) ≡ record { request = f; fate = x; back = joint_back j y } ∷ []
+pub joint_turns : (f : Signal) (x : Fate) (j : Joint) (y : Fate) → turns (Request f x ∷ joint_events j y) ≡ record { request = f; fate = x; back = joint_back j y } ∷ []
 joint_turns f x Nothing y = refl
 joint_turns f x (Single g) y = refl
 joint_turns f x (Clashing g) y = refl

@@ -19,9 +19,9 @@ use Rattle.nfcv_poll.specs.Passes.{asks_next, next_slots, IsShort}
 use Rattle.nfcv_poll.specs.Search.{with_id}
 use Rattle.nfcv_poll.specs.Tags.{IsOneOf}
 use Rattle.nfcv_poll.proofs.Nibbles.{BeginsWith, slots_of}
-use Rattle.nfcv_poll.proofs.Paths.{take_none}
 use Rattle.nfcv_poll.proofs.Preorder.{turned_over}
 use Rattle.nfcv_poll.proofs.Sought.{Sought, done, waits, here}
+use Rattle.t5t_tag.proofs.Inventories.{take_none}
 
 abbrev one_if : Bool → ℕ
 one_if v = if v then 1 else 0

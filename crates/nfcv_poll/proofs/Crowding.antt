@@ -48,16 +48,13 @@ use Rattle.nfcv_poll.proofs.Members.{stays, each_one, each_id, one_at}
 use Rattle.nfcv_poll.proofs.NoRound.{question_frame, none_lit, none_asked}
 use Rattle.nfcv_poll.proofs.Parted.{Parted, parted_none, parted_more, parted_end, each_pass, each_ended, none_before, each_end}
 use Rattle.nfcv_poll.proofs.Quietly.{Still, place_of, quiet_at_last, still_next, quiet_silent, quiet_still, told_all, each_goes, none_says, AreSought, sought_on}
-use Rattle.nfcv_poll.proofs.Sought.{Sought, Learns, ToldOf, due_frame}
+use Rattle.nfcv_poll.proofs.Sought.{Sought, Learns, ToldOf, due_frame, not_least}
 use Rattle.nfcv_poll.proofs.Clashing.{AreWith}
 use Rattle.nfcv_poll.proofs.FoundTags.{Inv, Stands, IsHeeded, Stay, turn_at, turn_hears, turn_request, turns_more, request_heeded, stay_on, told_there, not_strange, lights as finds_lit, asks as finds_asked, due_some, no_light}
 use Rattle.nfcv_poll.proofs.Passing.{Mark, IsMarked, Met, reached, missed, met, Behind, behind_next, behind_slots, none_left, Working, few_rounds, Begun, pass_begins, Kept, without_clash, shallow, Pushed, Clashed, pushed, passed, with_clash as clash_more, Next, next_round}
 use Rattle.nfcv_poll.proofs.Paths.{mask_by}
 use Rattle.nfcv_poll.proofs.Preorder.{Before}
 use Rattle.nfcv_poll.proofs.Standing.{Fares, IsPlaced, ArePlaced, placed_more}
-
-not_least : (n k : ℕ) → k < n → nat_le n k ≡ false
-not_least n k h = grind (arith, h)
 
 same_number : (n k : ℕ) → nat_eq n k ≡ true → n ≡ k
 same_number n k h = grind arith

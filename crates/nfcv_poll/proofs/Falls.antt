@@ -60,9 +60,6 @@ few n = omega arith
 less_of : (m n : ℕ) → nat_lt m n ≡ true → m < n
 less_of m n h = grind arith
 
-far_of : (m n : ℕ) → nat_lt m n ≡ false → n ≤ m
-far_of m n h = grind arith
-
 below_of : (m n : ℕ) → nat_le m n ≡ false → n < m
 below_of m n h = grind arith
 

@@ -3,7 +3,7 @@ use Rattle.std.proofs.Common.{◌≡◌, ◌⊎◌, inl, inr, ◌≤◌, ◌<◌
 use Rattle.std.specs.List.{list_any}
 use Rattle.std.proofs.lemmas.List.{append-nil, length-append}
 use Rattle.nfc_base.specs.declared.event.Event.{Event}
-use Rattle.nfc_base.specs.declared.event.Event.TheVariants.{Reset, Request}
+use Rattle.nfc_base.specs.declared.event.Event.TheVariants.{Reset}
 use Rattle.nfc_base.specs.declared.event.Fate.{Fate}
 use Rattle.nfc_base.specs.declared.event.Fate.TheVariants.{Pass, Damage, Lose, Break}
 use Rattle.nfc_base.specs.declared.event.Heard.{Heard}
@@ -27,7 +27,7 @@ use Rattle.nfca_poll.proofs.Eaches.{each_map, none_in}
 use Rattle.nfca_poll.proofs.EnquiryEnds.{events_gained}
 use Rattle.nfca_poll.proofs.EnquiryLaws.{Keeps, Ending, comes, loses, ending}
 use Rattle.nfca_poll.proofs.EnquiryWalks.{turn_fresh}
-use Rattle.nfca_poll.proofs.TurnWalks.{turns-append}
+use Rattle.nfca_poll.proofs.TurnWalks.{turns-append, joint_turns}
 use Rattle.t5t_tag.specs.declared.answer.T5Answer.{T5Answer}
 use Rattle.t5t_tag.specs.declared.answer.T5Answer.TheVariants.{Present, Content, Error}
 use Rattle.t5t_tag.specs.Reading.{spelled_answer}
@@ -59,11 +59,6 @@ IsAsking (stages.Hush id next) = ⊥
 IsAsking (stages.WhoIsLeft asked) = Unit {0}
 IsAsking stages.Over = ⊥
 IsAsking (stages.Fails fault) = ⊥
-
-joint_turns : (f : Signal) (x : Fate) (j : Joint) (y : Fate) → turns (Request f x ∷ joint_events j y) ≡ record { request = f; fate = x; back = joint_back j y } ∷ []
-joint_turns f x Nothing y = refl
-joint_turns f x (Single g) y = refl
-joint_turns f x (Clashing g) y = refl
 
 -- what was told of a tag was a whole answer
 told_whole : (h : Heard) (id : List ℕ) → said h ≡ told.Tag id → (g : Signal) × ((h ≡ Whole g) × (spelled_answer g ≡ Some (Present id)))

@@ -11,16 +11,13 @@ use Rattle.t5t_tag.specs.Slots.{slot_of, asks_in_slots}
 use Rattle.t5t_tag.specs.Store.{id_size}
 use Rattle.t5t_tag.proofs.Bytes.{bytes_self, is_at_most}
 use Rattle.nfcv_poll.proofs.Alike.{Eight, eight_of}
-use Rattle.nfcv_poll.proofs.Paths.{IsPath, mask_by, packed, mask_packed, take_none}
+use Rattle.nfcv_poll.proofs.Paths.{IsPath, mask_by, packed, mask_packed}
 use Rattle.nfcv_poll.proofs.Together.{mask_bytes}
+use Rattle.t5t_tag.proofs.Inventories.{take_none}
 
 abbrev pub nibbles : List ℕ → List ℕ
 nibbles [] = []
 nibbles (b ∷ bs) = b % 16 ∷ b / 16 ∷ nibbles bs
-
-pub nibbles_small : (bs : List ℕ) → Each (λ b. b < 256) bs → Each (λ k. k < 16) (nibbles bs)
-nibbles_small [] h = tt
-nibbles_small (b ∷ bs) h = (omega arith, (omega (arith, h.0), nibbles_small bs h.1))
 
 pub length_nibbles : (bs : List ℕ) → length (nibbles bs) ≡ 2 * length bs
 length_nibbles [] = refl

@@ -9,21 +9,11 @@ use Rattle.nfca_poll.specs.Crowd.{Each}
 use Rattle.t5t_tag.specs.Mask.{mask_size}
 use Rattle.nfcv_poll.specs.declared.mask.Mask.{Mask}
 use Rattle.nfcv_poll.specs.Masks.{with_slot, extended}
+use Rattle.t5t_tag.proofs.Inventories.{take_none}
 
 abbrev pub value_of : List ℕ → ℕ
 value_of [] = 0
 value_of (k ∷ p) = k + 16 * value_of p
-
--- of so many slots each has a number of its own
-pub same_path : (p q : List ℕ) → length p ≡ length q → Each (λ k. k < 16) p → Each (λ k. k < 16) q → value_of p ≡ value_of q → p ≡ q
-same_path [] [] n small other e = refl
-same_path [] (y ∷ q) n small other e = absurd (let no_ : 0 ≡ suc (length q) = n in omega (arith, no_))
-same_path (x ∷ p) [] n small other e = absurd (let no_ : suc (length p) ≡ 0 = n in omega (arith, no_))
-same_path (x ∷ p) (y ∷ q) n small other e =
-    let first : x ≡ y = omega (arith, small.0, other.0, e) in
-    let rest : value_of p ≡ value_of q = omega (arith, small.0, other.0, e) in
-    let long : length p ≡ length q = let m : suc (length p) ≡ suc (length q) = n in omega (arith, m) in
-    ap (λ k. k ∷ p) first ∙ ap (λ t. y ∷ t) (same_path p q long small.1 other.1 rest)
 
 -- the mask of some slots
 abbrev pub mask_by : List ℕ → Mask
@@ -124,10 +114,6 @@ byte_above (suc i) n = ap (λ x. x % 256) (ap (λ x. n / x) (pow-succ' 256 (suc 
 bytes_above : (i k n : ℕ) → bytes_low_first (suc i) k n ≡ bytes_low_first i k (n / 256)
 bytes_above i zero n = refl
 bytes_above i (suc k) n = ap (λ b. b ∷ bytes_low_first (suc (suc i)) k n) (byte_above i n) ∙ ap (λ bs. byte_at i (n / 256) ∷ bs) (bytes_above (suc i) k n)
-
-pub take_none : (xs : List ℕ) → take 0 xs ≡ []
-take_none [] = refl
-take_none (x ∷ xs) = refl
 
 packed_bytes : (p : List ℕ) (k : ℕ) → Each (λ s. s < 16) p → mask_size (4 * length p) ≤ k → take (mask_size (4 * length p)) (bytes_low_first 0 k (value_of p)) ≡ packed p
 packed_bytes [] k small fits = take_none (bytes_low_first 0 k 0)

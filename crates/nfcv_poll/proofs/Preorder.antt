@@ -145,7 +145,3 @@ next_mask asked p slot cs ws s h rest e = record {
 
     new : Each (λ a. Before a h) asked
     new = each_map (λ a. (a ≡ p) ⊎ Before a p) (λ a. Before a h) before_it asked s.asked'
-
--- a pass begins with the empty mask
-pub first_mask : IsSoFar ([] ∷ []) [] 0 [] []
-first_mask = record { asked' = (inl refl, tt); ahead = tt; row = tt; children = tt; turned = tt }

@@ -19,7 +19,7 @@ use Rattle.nfca_poll.specs.Crowd.{Each}
 use Rattle.nfca_poll.specs.Muted.{muted}
 use Rattle.nfca_poll.proofs.Eaches.{IfSaid, each_said, said_none}
 use Rattle.t5t_tag.specs.declared.answer.T5Answer.TheVariants.{Present}
-use Rattle.t5t_tag.specs.declared.command.T5Command.TheVariants.{Inventory, Quiet}
+use Rattle.t5t_tag.specs.declared.command.T5Command.TheVariants.{Quiet}
 use Rattle.t5t_tag.specs.Mask.{low_first, asks_for}
 use Rattle.t5t_tag.specs.Spelling.{quiet_code, command_frame}
 use Rattle.t5t_tag.specs.Step.{silent, tells, sent, obeyed, names, out_of_round, t5_turn, t5_answer, t5_after}
@@ -34,10 +34,7 @@ use Rattle.nfcv_poll.proofs.Paths.{IsPath}
 use Rattle.nfcv_poll.proofs.Sought.{Sought, Learns, ToldOf, due_frame, goes_sought}
 use Rattle.nfcv_poll.proofs.Standing.{Fares, ArePlaced, said_tag, said_other, stepped_tag, stepped_other}
 use Rattle.nfcv_poll.proofs.TagSteps.{at_question, at_quiet}
-
--- frames that are found the same are one frame
-signal_of : Tech → List ℕ → ℕ → Signal
-signal_of t bytes tail = record { tech = t; bytes = bytes; tail = tail }
+use Rattle.nfcv_poll.proofs.NoRound.{question_frame}
 
 techs : (t u : Tech) → same_tech t u ≡ true → t ≡ u
 techs A A e = refl
@@ -158,10 +155,6 @@ still_next found n id t eight at (inr p) = by_place (nat_eq n p.0) refl
         let its : t.id ≡ id = cc in
         inl (hush_quiets t id eight (inr its))
     by_place false e = inr (p.0, more n p.0 e p.1, p.2 ∙ ap Some (sym (at_quiet t id eight).id'))
-
--- a question: a quiet tag says nothing, and is quiet still
-abbrev pub question_frame : Signal
-question_frame = command_frame (Inventory 0 (replicate id_size 0))
 
 pub quiet_silent : (t : T5State) → t.quiet ≡ true → t5_answer t question_frame ≡ None
 quiet_silent t q =

@@ -52,7 +52,7 @@ slots_turn t path loud asked =
       round = ap (λ (r : T5Turn). r.after.round) same;
     }
 
-not_least : (n k : ℕ) → k < n → nat_le n k ≡ false
+pub not_least : (n k : ℕ) → k < n → nat_le n k ≡ false
 not_least n k h = grind (arith, h)
 
 next_turn : (t : T5State) (own c : ℕ) → c < 15 → t.round ≡ Some (record { slot = own; current = c }) → InSlot t own (c + 1) (t5_turn t (command_frame NextSlot))

@@ -104,8 +104,3 @@ ends_together t mask = by_asked (not t.quiet && asks_for t.id 0 (take (mask_size
     by_asked : (v : Bool) → (if v then tells u (Present u.id) else silent u).after.round ≡ None
     by_asked true = refl
     by_asked false = refl
-
--- Two that answer together have a common mask, and common next four bits.
-pub answer_together : (n : Mask) (current : ℕ) (t u : T5State) → Answers n current t → Answers n current u
-    → (mask_of t.id n.bits ≡ mask_of u.id n.bits) × (slot_of t.id n.bits ≡ slot_of u.id n.bits)
-answer_together n current t u a b = (sym a.mask ∙ b.mask, a.slot ∙ sym b.slot)

@@ -1,5 +1,5 @@
 -- All jobs of a call, one after the other: what they submit, what they hear, and what is forgotten with them.
-use Rattle.std.proofs.Common.{◌≡◌, ℕ, ◌==◌, ◌||◌, ◌&&◌, eqb, not, Bool, true, false, List, [], ◌∷◌, ◌++◌, Option, Some, None, refl, sym, ap, subst, ◌∙◌, append-nil, append_assoc, if◌then◌else◌}
+use Rattle.std.proofs.Common.{◌≡◌, ℕ, ◌==◌, ◌||◌, ◌&&◌, eqb, not, Bool, true, false, List, [], ◌∷◌, ◌++◌, Option, Some, None, refl, sym, ap, subst, ◌∙◌, append_assoc, if◌then◌else◌}
 use Rattle.std.proofs.lemmas.Bool.{eqb-true}
 use Rattle.std.specs.List.{IsDistinct}
 use Rattle.llcp_link.specs.State.{OwnState}
@@ -9,7 +9,7 @@ use Rattle.llcp_link.proofs.Submitted.{own_with}
 use Rattle.snep_core.specs.declared.job.Awaiting.{Awaiting}
 use Rattle.snep_core.specs.Jobs.{Job, Begins, Waits, Sends, Asks, Collects, Looks, Closes, Over, Done, has_byte, told_in}
 use Rattle.snep_core.specs.Listening.{HearsAll, all_awaiting, all_come, awaited_saps, empties, forgets, gave_here, gave_one}
-use Rattle.snep_core.specs.Talk.{AllReady, EndState, OnSap, Ready, all_emptied, all_forgotten, all_heard, all_readied, all_well, emptied, emptied_by, finished, found_so, gave_any, gave_between, heard, heard_so, heard_with, is_lost, is_there, is_waiting, needs, own_of, readied, ready_so, saps, stands_of, units_of, with_job}
+use Rattle.snep_core.specs.Talk.{AllReady, EndState, OnSap, all_emptied, all_forgotten, all_heard, all_readied, all_well, emptied, emptied_by, finished, found_so, gave_any, gave_between, heard, heard_so, heard_with, is_lost, is_there, is_waiting, needs, own_of, readied, saps, stands_of, units_of}
 use Rattle.snep_core.proofs.CallsEnd.{NotAmong}
 use Rattle.snep_core.proofs.Owned.{forgotten_emptied}
 use Rattle.snep_core.proofs.Readied.{elsewhere}
@@ -20,12 +20,6 @@ all_so l jobs = record { llc = l; jobs = jobs }
 
 abbrev pub behind : List OnSap → AllReady → AllReady
 behind done r = all_so r.llc (done ++ r.jobs)
-
-pub readied_one : (done : List OnSap) (x : OnSap) (more : List OnSap) (l new : EndState) (job : Job) → readied l x.sap x.job ≡ ready_so new job
-    → behind done (all_readied (x ∷ more) l) ≡ behind (done ++ record { sap = x.sap; job = job } ∷ []) (all_readied more new)
-readied_one done x more l new job e =
-    ap (λ (r : Ready). behind done (with_job x.sap r (all_readied more))) e
-    ∙ ap (all_so (all_readied more new).llc) (sym (append_assoc done (record { sap = x.sap; job = job } ∷ []) (all_readied more new).jobs))
 
 pub ready_saps : (xs : List OnSap) (l : EndState) → saps (all_readied xs l).jobs ≡ saps xs
 ready_saps [] l = refl
@@ -176,10 +170,6 @@ pub record Hearing (old : EndState) (all : List Awaiting) (l : EndState) (done :
   pub front : List ℕ
   pub split : awaited_saps all ≡ front ++ awaited_saps left
 
-behind_none : (o : Option (List OnSap)) → o ≡ put_behind [] o
-behind_none None = refl
-behind_none (Some xs) = refl
-
 behind_more : (done : List OnSap) (sap : ℕ) (job : Job) (o : Option (List OnSap))
     → put_behind done (heard_with sap (Some job) o) ≡ put_behind (done ++ record { sap = sap; job = job } ∷ []) o
 behind_more done sap job None = refl
@@ -188,13 +178,6 @@ behind_more done sap job (Some more) = ap Some (sym (append_assoc done (record {
 or_four : (a b c d : Bool) → (a || ((b || c) || d)) ≡ (((a || b) || c) || d)
 or_four true b c d = refl
 or_four false b c d = refl
-
-or_none : (a : Bool) → (a || false) ≡ a
-or_none true = refl
-or_none false = refl
-
-pub hearing_first : (old : EndState) (all : List Awaiting) → IsDistinct eqb (awaited_saps all) → Hearing old all old [] false all
-hearing_first old all d = record { come = behind_none (all_come old all); gave_is = refl; empty = refl; forgot = refl; apart = d; front = []; split = refl }
 
 module _ (old : EndState) (all : List Awaiting) (l : EndState) (done : List OnSap) (gave : Bool) where
   hearing_one : (x : Awaiting) (left : List Awaiting) (job : Job) → Hearing old all l done gave (x ∷ left) → heard x.waiting l x.sap x.job ≡ Some job
@@ -235,8 +218,3 @@ module _ (old : EndState) (all : List Awaiting) (l : EndState) (done : List OnSa
     h.come ∙ ap (λ o. put_behind done (heard_with x.sap o (all_come l left))) e,
     forgets_same (awaited_saps all) h.front x.sap (awaited_saps left) new l h.split f ∙ h.forgot,
   )
-
-  -- all heard what came
-  pub hearing_last : (left : List Awaiting) → left ≡ [] → Hearing old all l done gave left → HearsAll old all (Some (record { jobs = done; gave = gave })) l
-  hearing_last [] e h = (h.come ∙ ap Some (append-nil done), sym (h.gave_is ∙ or_none gave), h.empty)
-  hearing_last (x ∷ xs) e h = absurd cc

@@ -7,10 +7,11 @@ use Rattle.std.proofs.lemmas.List.{append-nil}
 use Rattle.snep_core.specs.declared.message.Answer.TheVariants as answers
 use Rattle.snep_core.specs.declared.message.Request.TheVariants.{Put}
 use Rattle.snep_core.specs.declared.first.First.TheVariants.{Says, Whole, Partly}
-use Rattle.snep_core.specs.Message.{put_code, number}
+use Rattle.snep_core.specs.Message.{put_code}
 use Rattle.snep_core.specs.First.{info_of, by_code, first_of}
 use Rattle.snep_core.specs.Puts.{length_of, IsPut, IsPartly, Reaches, IsGroup, IsUnfinished, GroupPuts, grouped, Groups, Puts, PutsOne}
 use Rattle.snep_core.specs.Cuts.{put_bytes, NoneEmpty, IsCut, PutInUnits, IsJob, AreJobs, units_of_puts, fit, PutsFront, FrontsPut, LastPut}
+use Rattle.snep_core.proofs.RequestPhases.{number_is}
 
 not_lt : (m n : ℕ) → n ≤ m → nat_lt m n ≡ false
 not_lt m n h = grind (arith, nat_tests)
@@ -36,9 +37,6 @@ begins m (a ∷ b ∷ c ∷ d ∷ f ∷ g ∷ info) rest h e =
     let e4 : f ≡ length m / 256 % 256 = cc in
     let e5 : g ≡ length m % 256 = cc in
     record { info = info; is = rw (e0, e1, e2, e3, e4, e5) refl; message = cc }
-
-number_is : (n : ℕ) → n < 2 ^ 32 → number (n / 16777216) (n / 65536 % 256) (n / 256 % 256) (n % 256) ≡ n
-number_is n h = omega arith
 
 pub record FirstOf (limit : ℕ) (m u info : List ℕ) : Type 0 where
   pub is_put : IsPut u

@@ -5,7 +5,6 @@ use Rattle.nfc_base.specs.declared.carrier.LinkEnd.{LinkEnd}
 use Rattle.nfc_base.specs.Links.{CarrierView, FarStep, Stepped, SwapDone, SwapFailed, SwapRefused, Swapped, AskedBy}
 use Rattle.llcp_link.specs.Answering.{Gives}
 use Rattle.llcp_link.specs.Taking.{taken_from}
-use Rattle.llcp_link.specs.Giving.{given}
 use Rattle.snep_core.specs.declared.fault.SnepFault.{SnepFault}
 use Rattle.snep_core.specs.declared.fault.SnepFault.TheVariants.{Memory}
 use Rattle.snep_core.specs.declared.job.Awaiting.{Awaiting}
@@ -16,8 +15,6 @@ use Rattle.snep_core.specs.Talk.{EndState, OnSap, silent}
 module _ {C A : Type 0} (seen : C → CarrierView) (swaps : C → List ℕ → List FarStep → C → Type 0) (steps : A → List ℕ → List ℕ → A → Type 0)
     (stops : A → List ℕ → A → Type 0) (link : C) (far : A) (now : C) (after : A) (llc mid : EndState) (count : ℕ) (out : List ℕ)
     (g : Gives silent count llc out mid) where
-  abbrev sent : List ℕ
-  sent = given silent count llc
 
   pub cut_failed : {V : Type 0} (new : EndState) → new ≡ mid → (e : SnepFault) (why : LinkEnd) (r : Result V LinkEnd) → r ≡ Err why → e ≡ fault_of why.cause
       → ((seen link).over ≡ None → SwapFailed steps stops (seen link) (seen now) out why far after)

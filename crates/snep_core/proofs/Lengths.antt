@@ -1,5 +1,5 @@
 -- How long the unit is that goes out next.
-use Rattle.std.proofs.Common.{◌≡◌, ℕ, suc, ◌==◌, min, Bool, true, false, List, [], ◌∷◌, length, take, if◌then◌else◌, Some, option_map, refl, sym, ◌∙◌, ap, arith}
+use Rattle.std.proofs.Common.{◌≡◌, ℕ, suc, ◌==◌, min, Bool, true, false, List, [], ◌∷◌, length, take, if◌then◌else◌, Some, option_map, refl, ◌∙◌, ap, arith}
 use Rattle.std.proofs.lemmas.List.{length-take}
 use Rattle.snep_core.specs.declared.message.Answer.TheVariants as answers
 use Rattle.snep_core.specs.declared.session.Due.{Due}
@@ -26,15 +26,6 @@ due_cut : (miu : ℕ) (x : Session) (due : List Due) → option_map length (sent
 due_cut miu x [] = refl
 due_cut miu x (Tells word ∷ more) = word_cut miu (record x { due = more }) word
 due_cut miu x (Forgets ∷ more) = due_cut miu (record x { waiting = [] }) more
-
--- a unit of what is being sent, or of what is due
-pub going_cut : (miu : ℕ) (x : Session) → (length x.going == 0) ≡ false → option_map length (sent miu x).unit ≡ Some (min (length x.going) miu)
-going_cut miu x some = by_going x.going refl some
-  where
-    by_going : (going : List ℕ) → x.going ≡ going → (length going == 0) ≡ false → option_map length (sent miu x).unit ≡ Some (min (length x.going) miu)
-    by_going [] is h = absurd cc
-    by_going (b ∷ bs) is h =
-        ap (λ t. option_map length (sent_from miu x t).unit) is ∙ ap Some (cut_len miu (b ∷ bs)) ∙ ap (λ t. Some (min (length t) miu)) (sym is)
 
 not_none : (n : ℕ) → (suc n == 0) ≡ true → ⊥
 not_none n h = grind arith

@@ -5,9 +5,6 @@ use Rattle.snep_core.specs.Links.{Answered, AreToldRight, IsToldRight, IsToldSo,
 use Rattle.snep_core.proofs.Cuts.{last_puts, puts_one}
 
 module _ (limit : ℕ) where
-  fitting_by : (b : Bool) (m : List ℕ) (xs ys : List (List ℕ)) → xs ≡ ys → (if b then xs else m ∷ xs) ≡ (if b then ys else m ∷ ys)
-  fitting_by true m xs ys e = e
-  fitting_by false m xs ys e = ap (λ z. m ∷ z) e
 
   -- one put more
   more_by : (b : Bool) (m : List ℕ) (xs ys zs : List (List ℕ)) → zs ≡ xs ++ ys → (if b then zs else m ∷ zs) ≡ (if b then xs else m ∷ xs) ++ ys

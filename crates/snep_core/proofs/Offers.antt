@@ -3,14 +3,11 @@ use Rattle.std.proofs.Common.{◌≡◌, ◌<◌, ◌^◌, ℕ, zero, suc, List,
 use Rattle.std.specs.Cmp.Lexicographic.{pointwise}
 use Rattle.snep_core.specs.Session.{Offer, AreShort}
 use Rattle.snep_core.specs.Server.{place_of, offered}
+use Rattle.llcp_link.proofs.OwnPlaces.{no_place}
 
 -- the offer with this value
 abbrev pub valued : List ℕ → Offer → Offer
 valued value o = record { key = o.key; value = value }
-
-no_place : (p : Option ℕ) → option_map suc p ≡ None → p ≡ None
-no_place None e = refl
-no_place (Some i) e = absurd cc
 
 -- what a table without the key gets, and one with it
 pub offered_new : (table : List Offer) (key value : List ℕ) → place_of key table ≡ None → offered table key value ≡ table ++ record { key = key; value = value } ∷ []

@@ -8,13 +8,13 @@ use Rattle.snep_core.specs.Accord.{IsClientSap, PeerState}
 use Rattle.snep_core.specs.Jobs.{Done, Job, Over}
 use Rattle.snep_core.specs.Server.{Received}
 use Rattle.snep_core.specs.Session.{Offer, fresh_session}
-use Rattle.snep_core.specs.Talk.{EndState, Step, is_over}
+use Rattle.snep_core.specs.Talk.{EndState, is_over}
 use Rattle.snep_core.proofs.Conversations.{Conversation, Converses}
 use Rattle.snep_core.proofs.Idling.{idle_converses, no_job}
 use Rattle.snep_core.proofs.Meets.{AreUnlike, Keeps, Meets, is_in}
 use Rattle.snep_core.proofs.Places.{Plan}
 use Rattle.snep_core.proofs.Sides.{Sizes}
-use Rattle.snep_core.proofs.Turns.{Rests, StepSo}
+use Rattle.snep_core.proofs.Turns.{Rests}
 
 module _ (limit : ℕ) (table : List Offer) (names : List Bound) (old : List Received) (z : Sizes) (sap : ℕ) (conv : ℕ → ℕ → Conversation) (most : Option ℕ) (bytes : List ℕ)
     (range : IsClientSap sap) (laws : (miu size : ℕ) → IsMiu miu → IsMiu size → Converses sap limit table (conv miu size) miu size) where
@@ -96,6 +96,3 @@ module _ (limit : ℕ) (table : List Offer) (names : List Bound) (old : List Rec
 
   abbrev pub OneRests : (ℕ → Job) → EndState → PeerState → Type 0
   OneRests job l p = Rests limit table names old z plan keeps rests ours unlike ranges mine job l p
-
-  abbrev pub OneStep : Step → PeerState → Type 0
-  OneStep s p = StepSo limit table names old z plan keeps rests ours unlike ranges mine s p

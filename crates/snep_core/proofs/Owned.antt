@@ -4,7 +4,6 @@ use Rattle.std.proofs.lemmas.Bool.Decides.{nat_tests}
 use Rattle.llcp_conn.specs.Conn.{first}
 use Rattle.llcp_link.specs.State.{OwnState, with_own}
 use Rattle.llcp_link.specs.Asking.{forgotten, unit_of, unit_taken_by, without_own}
-use Rattle.llcp_link.specs.Waning.{pending}
 use Rattle.llcp_link.proofs.OwnPlaces.{here_of, with_same}
 use Rattle.llcp_link.proofs.Submitted.{own_with}
 use Rattle.snep_core.specs.Jobs.{Job, has_byte, told, job_told, told_in, told_on}
@@ -100,15 +99,6 @@ module _ (sap : ℕ) (l : EndState) where
 
   pub forgotten_emptied : forgotten (emptied l sap) sap ≡ forgotten l sap
   forgotten_emptied = forgotten_so (own_of sap l) refl
-
-  pending_so : (q : Option OwnState) → own_of sap l ≡ q → pending (own_of sap (emptied_by l q)) ≡ pending q
-  pending_so None e = ap pending e
-  pending_so (Some o) e =
-      ap pending (own_with sap l.own (record o { units = [] }) o e (here_of sap l.own o e))
-
-  -- units that are taken away leave what is still to come
-  pub pending_emptied : pending (own_of sap (emptied l sap)) ≡ pending (own_of sap l)
-  pending_emptied = pending_so (own_of sap l) refl
 
 either_or : (a b c : Bool) → (a || (b || c)) ≡ ((a || b) || c)
 either_or true b c = refl

@@ -1,9 +1,8 @@
 -- The oldest of what is due that says something.
-use Rattle.std.proofs.Common.{◌≡◌, ◌<◌, List, [], ◌∷◌, length, Some, refl, sym, ◌∙◌, ap, arith}
+use Rattle.std.proofs.Common.{◌≡◌, ◌<◌, List, [], ◌∷◌, length, refl, sym, ◌∙◌, ap, arith}
 use Rattle.std.specs.Prelude.{drop, slice_index_or}
 use Rattle.snep_core.specs.declared.session.Due.{Due}
 use Rattle.snep_core.specs.declared.session.Due.TheVariants.{Tells, Forgets}
-use Rattle.snep_core.specs.declared.session.Word.{Word}
 use Rattle.snep_core.specs.Session.{Session, popped}
 
 -- what is due stands in the list that is walked alone
@@ -19,13 +18,6 @@ popped_more x [] rest first some left is e = absurd (omega (arith, some))
 popped_more x (d ∷ due) rest first some left is e =
     ap (λ t. popped (record x { due = t; waiting = [] }) t) left
     ∙ popped_any (record x { waiting = [] }) due due ∙ ap (λ t. popped x (t ∷ due)) (sym e ∙ is)
-
--- one that says something
-pub popped_first : (x : Session) (due rest : List Due) (first : Due) (word : Word) → 0 < length due → rest ≡ drop 1 due → first ≡ slice_index_or due 0 first → first ≡ Tells word
-    → popped x due ≡ record { session = record x { due = rest }; word = Some word }
-popped_first x [] rest first word some left is e = absurd (omega (arith, some))
-popped_first x (d ∷ due) rest first word some left is e =
-    ap (λ t. popped x (t ∷ due)) (sym is ∙ e) ∙ ap (λ t. record { session = record x { due = t }; word = Some word }) (sym left)
 
 -- what is being sent stays
 pub popped_going : (x : Session) (due : List Due) → (popped x due).session.going ≡ x.going

@@ -1,8 +1,8 @@
 -- A slot whose message is put alone.
-use Rattle.std.proofs.Common.{◌≡◌, ℕ, zero, suc, false, List, [], ◌∷◌, get_or, set, Result, Ok, Err, refl}
+use Rattle.std.proofs.Common.{ℕ, zero, suc, List, [], ◌∷◌, get_or, set, Result, Ok, Err}
 use Rattle.snep_core.specs.declared.fault.SnepFault.{SnepFault}
 use Rattle.snep_core.specs.declared.fault.SnepFault.TheVariants as faults
-use Rattle.snep_core.specs.Slots.{AllFit, FitsSlot, Slot, Staged, has_staged, is_staged_at, put_alone, put_left}
+use Rattle.snep_core.specs.Slots.{AllFit, FitsSlot, Slot, put_left}
 
 left_fits : (ended : Result Unit SnepFault) (s : Slot) → FitsSlot s → FitsSlot (put_left ended s)
 left_fits (Ok u) s f = tt
@@ -19,9 +19,3 @@ pub ended_fits : (xs : List Slot) (i : ℕ) (d : Slot) (ended : Result Unit Snep
 ended_fits [] i d ended f = tt
 ended_fits (x ∷ xs) zero d ended f = (left_fits ended x f.0, f.1)
 ended_fits (x ∷ xs) (suc i) d ended f = (f.0, ended_fits xs i d ended f.1)
-
--- Where it was answered, no message waits there.
-pub answered_free : (xs : List Slot) (m : List ℕ) (ended : Result Unit SnepFault) → has_staged (put_left ended (Staged m)) ≡ false
-    → is_staged_at (put_alone ended m xs) 0 ≡ false
-answered_free [] m ended h = refl
-answered_free (x ∷ xs) m ended h = h

@@ -25,15 +25,6 @@ without_length s (j ∷ ks) k e = go (j.there == s) e (without_length s ks k)
     go true e h = omega arith
     go false e h = let i = h e in omega (arith, i)
 
--- one that isn't there
-pub without_none : (s : ℕ) (ks : List ConnState) → conn_from s ks ≡ None → without_conn s ks ≡ ks
-without_none s [] e = refl
-without_none s (j ∷ ks) e = go (j.there == s) e (without_none s ks)
-  where
-    go : (b : Bool) → (if b then Some j else conn_from s ks) ≡ None → (conn_from s ks ≡ None → without_conn s ks ≡ ks) → (if b then ks else j ∷ without_conn s ks) ≡ j ∷ ks
-    go true e h = absurd cc
-    go false e h = ap (λ q. j ∷ q) (h e)
-
 module _ (s : ℕ) (ks : List ConnState) (k : ConnState) (there : conn_from s ks ≡ Some k) (counted : length ks ≡ clients_in ks) where
   pub none_left : conn_from s (without_conn s ks) ≡ None
   none_left = go (conn_from s (without_conn s ks)) refl

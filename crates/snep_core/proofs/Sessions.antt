@@ -1,6 +1,6 @@
 -- The sessions of all SAPs, of which a front is there, and what was accepted.
 use Rattle.std.proofs.Common.{◌≡◌, ◌<◌, ◌≤◌, ℕ, zero, suc, ◌+◌, ◌-◌, List, [], ◌∷◌, ◌++◌, length, replicate, set, get_or, refl, sym, ◌∙◌, ap, append_assoc, arith}
-use Rattle.std.proofs.lemmas.List.{length-append, length-set, set-append_left, set-append_right, get_or_append_left, get_or-append_right, get_or-replicate}
+use Rattle.std.proofs.lemmas.List.{length-append, length-set, set-append_left, set-append_right, get_or_append_left}
 use Rattle.snep_core.specs.Session.{Session, fresh_session}
 use Rattle.snep_core.specs.Server.{padded, from_sources, messages_of, sources_of}
 use Rattle.llcp_pdu.specs.Wire.{sap_count}
@@ -23,12 +23,6 @@ padded_set xs i x there =
 
 pub padded_get : (xs : List Session) (i : ℕ) → i < length xs → get_or (padded xs) i fresh_session ≡ get_or xs i fresh_session
 padded_get xs i there = get_or_append_left xs (replicate (sap_count - length xs) fresh_session) fresh_session i there
-
--- one that isn't there is as at first
-pub padded_past : (xs : List Session) (i : ℕ) → length xs ≤ i → i < sap_count → get_or (padded xs) i fresh_session ≡ fresh_session
-padded_past xs i past few =
-    get_or-append_right xs (replicate (sap_count - length xs) fresh_session) (length xs) i fresh_session refl past
-    ∙ get_or-replicate (sap_count - length xs) (i - length xs) fresh_session fresh_session (omega (arith, past, few))
 
 set_replicate : {X : Type 0} (n i : ℕ) (x : X) → set (replicate n x) i x ≡ replicate n x
 set_replicate zero i x = refl

@@ -4,10 +4,9 @@ use Rattle.std.proofs.lemmas.Bool.Decides.{nat_tests}
 use Rattle.std.specs.List.{AllByRecursion}
 use Rattle.llcp_conn.specs.Conn.{count_end}
 use Rattle.llcp_link.specs.Asking.{acked_of}
-use Rattle.snep_core.specs.Jobs.{Job}
 use Rattle.snep_core.specs.RepliesLeft.{IsBelowCountEnd, task_saps}
 use Rattle.snep_core.specs.Slots.{NoMessage, Rejected, Slot, Staged, Success, put_with, puts_from}
-use Rattle.snep_core.specs.Talk.{AllReady, EndState, OnSap, Puts, Ready, all_opening, opening, own_of, ready_so, with_job}
+use Rattle.snep_core.specs.Talk.{AllReady, EndState, OnSap, Puts, all_opening, opening, own_of}
 use Rattle.snep_core.proofs.AllJobs.{all_so, behind}
 use Rattle.snep_core.proofs.CallsEnd.{one_opens}
 
@@ -34,11 +33,6 @@ opened_elsewhere a (Staged m) l t h = (one_opens l a (Puts m)).others t (is_abov
 opened_elsewhere a NoMessage l t h = refl
 opened_elsewhere a Success l t h = refl
 opened_elsewhere a Rejected l t h = refl
-
--- a message that waits
-pub opened_put : (a : ℕ) (m : List ℕ) (l new : EndState) (job : Job) → opening l a (Puts m) ≡ ready_so new job
-    → opened_slot a (Staged m) l ≡ record { llc = new; jobs = record { sap = a; job = job } ∷ [] }
-opened_put a m l new job e = ap (λ (r : Ready). with_job a r (all_opening [])) e
 
 -- the acknowledgements on them are counted
 abbrev pub AreCounted : EndState → ℕ → List Slot → Type 0

@@ -1,8 +1,6 @@
 -- The messages that wait in slots, as puts from SAPs in ascending order; and slots, as the jobs of their SAPs come to something.
-use Rattle.std.proofs.Common.{◌≡◌, ◌<◌, ◌≤◌, ℕ, zero, suc, ◌+◌, ◌==◌, ◌&&◌, ◌||◌, eqb, Bool, true, false, List, [], ◌∷◌, ◌++◌, append_assoc, drop, length, set, take, Option, Some, None, get_or, refl, sym, ◌∙◌, ap, subst, arith, if◌then◌else◌}
-use Rattle.std.proofs.Math.Seq.{drop-cons}
+use Rattle.std.proofs.Common.{◌≡◌, ◌<◌, ◌≤◌, ℕ, zero, suc, ◌+◌, ◌==◌, ◌&&◌, ◌||◌, eqb, Bool, true, false, List, [], ◌∷◌, length, set, Option, Some, None, refl, sym, ◌∙◌, ap, subst, arith, if◌then◌else◌}
 use Rattle.std.proofs.lemmas.Bool.{eqb-true}
-use Rattle.std.proofs.lemmas.List.{drop-set-lt, take_more_set}
 use Rattle.std.proofs.lemmas.Bool.Decides.{nat_tests}
 use Rattle.std.specs.List.{IsDistinct}
 use Rattle.snep_core.specs.Accord.{is_in}
@@ -354,29 +352,6 @@ all_put (x ∷ xs) (y ∷ ys) f o s = go (is_over y.job) refl o (λ k. all_put x
     go : (b : Bool) → is_over y.job ≡ b → (b && all_over ys) ≡ true → (all_over ys ≡ true → AllPut ys) → AllPut (y ∷ ys)
     go true e k more = (e, f.1 Putting s.0, more k)
     go false e k more = absurd cc
-
--- Slots that are noted one by one.
-pub noted_next : (jobs : List OnSap) (i : ℕ) (xs : List Slot) (a : ℕ) (y d : Slot) → i < length xs → y ≡ marked (job_from a jobs) (get_or xs i d)
-    → take i xs ++ noted_from a jobs (drop i xs) ≡ take (i + 1) (set xs i y) ++ noted_from (a + 1) jobs (drop (i + 1) (set xs i y))
-noted_next jobs i xs a y d l e =
-    let rest = drop (i + 1) xs in
-    let less : i < i + 1 = omega arith in
-    ap (λ zs. take i xs ++ noted_from a jobs zs) (drop-cons xs i d l ∙ ap (λ n. get_or xs i d ∷ drop n xs) (let k : suc i ≡ i + 1 = omega arith in k))
-    ∙ ap (λ z. take i xs ++ z ∷ noted_from (a + 1) jobs rest) (sym e)
-    ∙ sym (append_assoc (take i xs) (y ∷ []) (noted_from (a + 1) jobs rest))
-    ∙ ap (λ zs. zs ++ noted_from (a + 1) jobs rest) (sym (take_more_set xs i y l))
-    ∙ ap (λ zs. take (i + 1) (set xs i y) ++ noted_from (a + 1) jobs zs) (sym (drop-set-lt (i + 1) xs i y less))
-
-pub dropped_next : (i : ℕ) (xs : List Slot) (y d : Slot) → i < length xs → y ≡ dropped_one (get_or xs i d)
-    → take i xs ++ dropped (drop i xs) ≡ take (i + 1) (set xs i y) ++ dropped (drop (i + 1) (set xs i y))
-dropped_next i xs y d l e =
-    let rest = drop (i + 1) xs in
-    let less : i < i + 1 = omega arith in
-    ap (λ zs. take i xs ++ dropped zs) (drop-cons xs i d l ∙ ap (λ n. get_or xs i d ∷ drop n xs) (let k : suc i ≡ i + 1 = omega arith in k))
-    ∙ ap (λ z. take i xs ++ z ∷ dropped rest) (sym e)
-    ∙ sym (append_assoc (take i xs) (y ∷ []) (dropped rest))
-    ∙ ap (λ zs. zs ++ dropped rest) (sym (take_more_set xs i y l))
-    ∙ ap (λ zs. take (i + 1) (set xs i y) ++ dropped zs) (sym (drop-set-lt (i + 1) xs i y less))
 
 -- a message that is staged
 pub fits_set : (xs : List Slot) (i : ℕ) (m : List ℕ) → AllFit xs → length m ≤ most_staged → AllFit (set xs i (Staged m))

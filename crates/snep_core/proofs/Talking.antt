@@ -12,7 +12,7 @@ use Rattle.snep_core.specs.declared.job.Turn.{Turn}
 use Rattle.snep_core.specs.declared.job.Turn.TheVariants.{Ended, Went, GaveUp}
 use Rattle.snep_core.specs.declared.fault.SnepFault.{SnepFault}
 use Rattle.snep_core.specs.declared.fault.SnepFault.TheVariants.{BadPeer, Memory}
-use Rattle.snep_core.specs.Calling.{Breaks, ExchangedOnce, FailsAt, FailsBy, GivesUpThere, IsCut, IsStep, Talks, Turned, TurnedTo, gives_up, last_of, payloads}
+use Rattle.snep_core.specs.Calling.{ExchangedOnce, FailsAt, FailsBy, GivesUpThere, IsCut, IsStep, Talks, Turned, TurnedTo, gives_up, last_of, payloads}
 use Rattle.snep_core.specs.Jobs.{Job, has_byte}
 use Rattle.snep_core.specs.Listening.{HearsAll, all_awaiting, all_come, awaited_saps, empties, forgets, gave_one}
 use Rattle.snep_core.proofs.AllJobs.{awaited_so, come_saps, come_so, empties_so, forgets_so, gave_so, ready_saps}
@@ -123,16 +123,6 @@ module _ {C A : Type 0} (seen : C → CarrierView) (swaps : C → List ℕ → L
         → TalksTo numbers from link far (later_numbers left) to now after
     talks_on to now after u =
         went_on to now after (subst (λ z. TurnedTo seen swaps steps stops (first_number z) w mid mid_far to now after) t.left_is u)
-
-    pub talks_break : (e : SnepFault) (new : EndState) (now : C) (after : A) → IsCut seen swaps steps stops (first_number left) (ready w).llc mid mid_far e new now after
-        → Breaks seen swaps steps stops numbers from link far e new now after
-    talks_break e new now after k = record {
-      at = w;
-      mid = mid;
-      mid_far = mid_far;
-      talks = t.talks;
-      cut = subst (λ z. IsCut seen swaps steps stops (first_number z) (ready w).llc mid mid_far e new now after) t.left_is k;
-    }
 
     pub talks_break_at : (e : SnepFault) (new : EndState) (now : C) (after : A) → IsCut seen swaps steps stops (first_number left) (ready w).llc mid mid_far e new now after
         → FailsAt seen swaps steps stops numbers from link far w.jobs e new now after
@@ -271,12 +261,3 @@ module _ {C A : Type 0} (seen : C → CarrierView) (swaps : C → List ℕ → L
   -- the jobs are on the same connections as before
   pub heard_saps : (h : HeardAll) (left : EndState) → HearsAll heard_end all (Some h) left → saps h.jobs ≡ saps jobs
   heard_saps h left e = come_saps heard_end all h.jobs e.0 ∙ saps_awaited
-
-  -- it was answered, and memory was wanting as the reply was read
-  pub unread : (e : SnepFault) (new : EndState) → e ≡ Memory → IsCut seen swaps steps stops count (ready working).llc link far e new over after
-  unread e new f = subst (λ (z : AllReady). IsCut seen swaps steps stops count z.llc link far e new over after) (sym r) (inr (inr (record {
-    reply = x.reply;
-    fault = f;
-    swap = x.swap;
-    swapped = x.swapped;
-  })))

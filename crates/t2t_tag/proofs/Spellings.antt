@@ -2,13 +2,11 @@
 use Rattle.std.proofs.Common.{◌≡◌, ℕ, List, [], ◌∷◌, length, drop, slice_index, slice_index_or, Bool, true, false, ◌==◌, ◌&&◌, if◌then◌else◌, Option, Some, None, IsNone, ◌↔◌, refl, sym, ◌∙◌, ap, subst, arith}
 use Rattle.nfc_base.specs.declared.frame.Tech.{Tech}
 use Rattle.nfc_base.specs.declared.frame.Tech.TheVariants.{A, V, F}
-use Rattle.nfc_base.specs.Signal.{Signal, signal, whole_a, is_nfc_a, last_byte}
+use Rattle.nfc_base.specs.Signal.{Signal, signal, whole_a, is_nfc_a}
 use Rattle.nfc_base.specs.Headed.{is_headed, t2_read_code, t2_write_code}
 use Rattle.t2t_tag.specs.declared.command.T2Command.{T2Command}
 use Rattle.t2t_tag.specs.declared.command.T2Command.TheVariants.{Read, Write}
-use Rattle.t2t_tag.specs.declared.answer.T2Answer.{T2Answer}
-use Rattle.t2t_tag.specs.declared.answer.T2Answer.TheVariants.{Content, Done, Refused}
-use Rattle.t2t_tag.specs.Spelling.{ack, nak, spelled_command, T2Spelling, T2AnswerSpelling}
+use Rattle.t2t_tag.specs.Spelling.{spelled_command, T2Spelling}
 
 -- Something is spelled, so it isn't so that nothing is.
 pub not_none : {X : Type 0} (Spells : X → Type 0) (x : X) → Spells x → IsNone (Some x) ↔ ((y : X) → ¬ Spells y)
@@ -105,22 +103,3 @@ reads_back f (Write block content) is = ap spelled_command is.1 ∙ write_read b
 -- what is read from a frame is exactly what it spells
 pub exact_by : (f : Signal) (o : Option T2Command) → o ≡ spelled_command f → (c : T2Command) → (o ≡ Some c) ↔ T2Spelling c f
 exact_by f o is c = ((λ e. read_frame f (is_headed 2 t2_read_code f) (is_headed 6 t2_write_code f) refl refl c (sym is ∙ e)), (λ s. is ∙ reads_back f c s))
-
--- no frame spells two commands
-pub one_command : (f : Signal) (c d : T2Command) → T2Spelling c f → T2Spelling d f → c ≡ d
-one_command f c d p q =
-    let a : spelled_command f ≡ Some c = reads_back f c p in
-    let b : spelled_command f ≡ Some d = reads_back f d q in
-    cc
-
--- no frame spells two answers
-pub one_answer : (f : Signal) (a b : T2Answer) → T2AnswerSpelling a f → T2AnswerSpelling b f → a ≡ b
-one_answer f (Content x) (Content y) p q = ap (λ t. Content t) (ap (λ (g : Signal). g.bytes) (sym p.1 ∙ q.1))
-one_answer f (Content x) Done p q = absurd (let e : 0 ≡ 4 = ap (λ (g : Signal). g.tail) (sym p.1 ∙ q) in omega (arith, e))
-one_answer f (Content x) Refused p q = absurd (let e : 0 ≡ 4 = ap (λ (g : Signal). g.tail) (sym p.1 ∙ q) in omega (arith, e))
-one_answer f Done (Content y) p q = absurd (let e : 4 ≡ 0 = ap (λ (g : Signal). g.tail) (sym p ∙ q.1) in omega (arith, e))
-one_answer f Done Done p q = refl
-one_answer f Done Refused p q = absurd (let e : ack ≡ nak = ap (λ (g : Signal). last_byte g.bytes) (sym p ∙ q) in omega (arith, e))
-one_answer f Refused (Content y) p q = absurd (let e : 4 ≡ 0 = ap (λ (g : Signal). g.tail) (sym p ∙ q.1) in omega (arith, e))
-one_answer f Refused Done p q = absurd (let e : nak ≡ ack = ap (λ (g : Signal). last_byte g.bytes) (sym p ∙ q) in omega (arith, e))
-one_answer f Refused Refused p q = refl

@@ -1,49 +1,16 @@
 -- What the steps of a tag give its reader.
-use Rattle.std.proofs.Common.{◌≡◌, ℕ, ◌+◌, ◌*◌, ◌%◌, ◌<◌, ◌≤◌, nat_le, nat_lt, ◌&&◌, not, if◌then◌else◌, List, length, take, drop, Bool, true, false, Option, None, Some, refl, sym, ◌∙◌, ap, arith}
-use Rattle.std.proofs.lemmas.List.{drop-drop, length-drop, length-take-le, length-append}
-use Rattle.std.proofs.Math.Nat.{mod-lt, mod-eq_of_lt}
+use Rattle.std.proofs.Common.{◌≡◌, ℕ, ◌<◌, ◌≤◌, nat_le, nat_lt, ◌&&◌, not, if◌then◌else◌, List, length, Bool, true, false, Option, None, Some, refl, ◌∙◌, ap}
 use Rattle.std.proofs.lemmas.Bool.{and_parts, leb-true, ltb-true}
-use Rattle.nfc_base.specs.Signal.{Signal, last_byte}
-use Rattle.nfc_base.specs.Blocks.{with_block, block_of}
+use Rattle.nfc_base.specs.Signal.{Signal}
+use Rattle.nfc_base.specs.Blocks.{with_block}
 use Rattle.t2t_tag.specs.declared.command.T2Command.{T2Command}
 use Rattle.t2t_tag.specs.declared.command.T2Command.TheVariants.{Read, Write}
-use Rattle.t2t_tag.specs.declared.answer.T2Answer.TheVariants.{Content, Done, Refused}
-use Rattle.t2t_tag.specs.Spelling.{ack, nak, spelled_command, command_frame, answer_frame}
+use Rattle.t2t_tag.specs.declared.answer.T2Answer.TheVariants.{Done, Refused}
+use Rattle.t2t_tag.specs.Spelling.{spelled_command, answer_frame}
 use Rattle.t2t_tag.specs.Store.{T2Memory, IsT2Memory, IsSameTag, block_count, is_locked}
-use Rattle.t2t_tag.specs.Step.{rolled, four_blocks, is_writable, t2_reply, reply_frame, held_after, t2_answer, t2_after}
+use Rattle.t2t_tag.specs.Step.{is_writable, t2_reply, reply_frame, held_after, t2_answer, t2_after}
 use Rattle.t2t_tag.proofs.Spellings.{exact_by}
 use Rattle.t2t_tag.proofs.Stores.{same_with_block, still_store}
-
-length-block : (store : List ℕ) (block : ℕ) → block < block_count store → length (block_of 4 store block) ≡ 4
-length-block store block within =
-    let room : 4 ≤ length (drop (4 * block) store) = rw length-drop (omega arith) in
-    length-take-le 4 (drop (4 * block) store) room
-
-pub length-rolled : (store : List ℕ) (block : ℕ) → 0 < block_count store → length (rolled store block) ≡ 4
-length-rolled store block some = length-block store (block % block_count store) (mod-lt block some)
-
-pub length-four_blocks : (store : List ℕ) (block : ℕ) → 0 < block_count store → length (four_blocks store block) ≡ 16
-length-four_blocks store block some =
-    let a : length (rolled store block) ≡ 4 = length-rolled store block some in
-    let b : length (rolled store (block + 1)) ≡ 4 = length-rolled store (block + 1) some in
-    let c : length (rolled store (block + 2)) ≡ 4 = length-rolled store (block + 2) some in
-    let d : length (rolled store (block + 3)) ≡ 4 = length-rolled store (block + 3) some in
-    simp length-append (omega (arith, a, b, c, d))
-
--- a READ changes nothing
-pub read_keeps : (m : T2Memory) (block : ℕ) → t2_after m (command_frame (Read block)) ≡ m
-read_keeps m block = refl
-
--- a READ of a block that the store has gives four blocks
-pub read_gives : (m : T2Memory) (block : ℕ) → nat_lt block (block_count m.store) ≡ true → t2_answer m (command_frame (Read block)) ≡ Some (answer_frame (Content (four_blocks m.store block)))
-read_gives m block within = rw within refl
-
--- A block that the store has is where its number says.
-inside_block : (store : List ℕ) (block i : ℕ) → block + i < block_count store → rolled store (block + i) ≡ take 4 (drop (4 * i) (drop (4 * block) store))
-inside_block store block i within =
-    ap (λ k. block_of 4 store k) (mod-eq_of_lt within)
-    ∙ ap (λ k. take 4 (drop k store)) (let e : 4 * (block + i) ≡ 4 * block + 4 * i = omega arith in e)
-    ∙ ap (λ xs. take 4 xs) (sym (drop-drop (4 * i) (4 * block) store))
 
 -- What a tag does with a frame: it obeys no command, or a READ, or a WRITE of one of its blocks behind the first four.
 pub record OnFrame (m : T2Memory) (P : Option Signal → T2Memory → Type 0) : Type 0 where
@@ -84,12 +51,3 @@ pub stays_tag : (m : T2Memory) → IsT2Memory m → (f : Signal) → IsT2Memory 
 stays_tag m is f =
     let same = same_tag m f in
     record { store = still_store m.store (t2_after m f).store same.store is.store; locks = ap length same.locked ∙ is.locks }
-
--- a refusal changes nothing
-pub refusal_keeps : (m : T2Memory) (f : Signal) → t2_answer m f ≡ Some (answer_frame Refused) → t2_after m f ≡ m
-refusal_keeps m = on_frame m (λ told n. told ≡ Some (answer_frame Refused) → n ≡ m) (record {
-  none = λ e. refl;
-  read = λ block e. refl;
-  refused = λ e. refl;
-  written = λ block content after within long e. absurd (let clash : ack ≡ nak = (let frames : answer_frame Done ≡ answer_frame Refused = cc in ap (λ (g : Signal). last_byte g.bytes) frames) in omega (arith, clash));
-})

@@ -3,21 +3,17 @@ use Rattle.std.proofs.Common.{◌≡◌, ℕ, suc, inl, inr, ◌*◌, ◌<◌, �
 use Rattle.std.specs.Cmp.Lexicographic.{pointwise}
 use Rattle.nfc_base.specs.Signal.{Signal}
 use Rattle.nfc_base.specs.TagLinks.{LinkView}
-use Rattle.nfc_base.specs.declared.tag_link.AskFault.{AskFault}
 use Rattle.t3t_tag.specs.declared.answer.T3Answer.{T3Answer}
 use Rattle.t3t_tag.specs.declared.answer.T3Answer.TheVariants.{Polled, Content, Done, CheckRefused, UpdateRefused}
 use Rattle.t3t_tag.specs.Attributes.{message_blocks, access_flag}
 use Rattle.t3t_tag.specs.Form.{IsSized}
 use Rattle.t3t_tag.specs.Spelling.{T3AnswerSpelling}
-use Rattle.t3t_tag.proofs.Bytes.{equal_of, other_of, equal_bytes, bytes_self}
+use Rattle.t3t_tag.proofs.Bytes.{equal_of, equal_bytes, bytes_self}
 use Rattle.t3t_access.specs.declared.fault.T3Fault.{T3Fault}
 use Rattle.t3t_access.specs.declared.fault.T3Fault.TheVariants as fault
-use Rattle.t3t_access.specs.Numbers.{of_link}
-use Rattle.t3t_access.specs.Talk.{Fails, AskedNext}
-use Rattle.t3t_access.specs.Answers.{update_of, IsOdd}
-use Rattle.t3t_access.specs.Reading.{Reads, StartTold}
-use Rattle.t3t_access.specs.Writing.{closed, content_at, blocks_of, Put, put_at, all_puts, first_asked, SaysDone, RefusesUpdate, TellsDone, StopsUpdate, TellsUpdate, done_told, Takes, admitted, Writes, Breaks, WriteFaultTold, WriteTold, PartTold}
-use Rattle.t3t_access.proofs.Told.{told_fault, told_answer}
+use Rattle.t3t_access.specs.Answers.{IsOdd}
+use Rattle.t3t_access.specs.Reading.{Reads}
+use Rattle.t3t_access.specs.Writing.{closed, content_at, blocks_of, Put, put_at, all_puts, first_asked, SaysDone, RefusesUpdate, TellsDone, TellsUpdate, done_told, Takes, admitted, Writes, Breaks, WriteFaultTold, WriteTold, PartTold}
 
 module _ (id : List ℕ) (r : Signal) where
   abbrev Exact : Option T3Answer → Type 0
@@ -67,15 +63,6 @@ module _ (id : List ℕ) (r : Signal) where
       id_of (Some (UpdateRefused i c)) = i
       id_of _ = []
 
--- what the link says, and then the answer
-pub update_fault : (id : List ℕ) (a b : LinkView) (cs : List Signal) (c : Signal) (e : AskFault) → Fails a b cs c e → StopsUpdate id a b cs c (of_link e)
-update_fault id a b cs c e h = told_fault (λ x. SaysDone id) (RefusesUpdate id) a b cs c e h
-
-pub update_answer : (id : List ℕ) (block : ℕ) (content : List ℕ) (a b : LinkView) (cs : List Signal) (r : Signal) (result : Result (Unit {0}) T3Fault)
-    → AskedNext a b cs (update_of id block content) (Ok r) → TellsDone id r result → TellsUpdate id block content a b cs result
-update_answer id block content a b cs r (Ok done') asked tells = record { answered = asked.0; reply = r; says = asked.1; holds = tells }
-update_answer id block content a b cs r (Err e) asked tells = told_answer (λ x. SaysDone id) (RefusesUpdate id) a b cs (update_of id block content) r (Err e) asked tells
-
 -- one Update more
 pub does : (id : List ℕ) (a m b : LinkView) (block message : List ℕ) (n : ℕ) (p : Put) (result : Result (Unit {0}) T3Fault) → Writes id a m block message n → n < all_puts message → put_at block message n ≡ p
     → TellsUpdate id p.block p.content a b (first_asked id block message n) result → PartTold id a b block message (suc n) result
@@ -85,7 +72,7 @@ does id a m b block message n p result w due is told = by_result result (subst (
     by_result (Ok done') h = record { begun = w.begun; reads = w.reads; takes = w.takes; answered = h.answered; done' = (w.done', h.reply, h.says, h.holds) }
     by_result (Err e) h = record { block = block; number = n; before = m; writes = w; due = due; told = h }
 
-is_less : (m n : ℕ) → m < n → nat_lt m n ≡ true
+pub is_less : (m n : ℕ) → m < n → nat_lt m n ≡ true
 is_less m n h = grind arith
 
 not_itself : (n : ℕ) → nat_lt n n ≡ false
@@ -101,7 +88,7 @@ put_last block message =
     ap (λ v. if v then record { block = suc n; content = content_at message n } else record { block = 0; content = closed block message }) (not_itself n)
 
 -- a message that is taken is short
-not_less : (m n : ℕ) → (m < n → ⊥) → n ≤ m
+pub not_less : (m n : ℕ) → (m < n → ⊥) → n ≤ m
 not_less m n h = by_value (nat_lt m n) refl
   where
     yes : nat_lt m n ≡ true → m < n
@@ -117,12 +104,6 @@ not_less m n h = by_value (nat_lt m n) refl
 pub named_few : (block : List ℕ) → IsSized block → message_blocks block ≤ 255
 named_few block sized = not_less 255 (message_blocks block) (λ h. sized.sized (inr (inl h)))
 
-pub few_bytes : (block message : List ℕ) → Takes block message → length message ≤ 4080
-few_bytes block message takes =
-    let named : message_blocks block ≤ 255 = named_few block takes.sized in
-    let room : length message ≤ 16 * message_blocks block = takes.room in
-    omega (arith, named, room)
-
 -- what a block that has no fault is told as
 abbrev barring : T3Fault → Result (Unit {0}) T3Fault
 barring e = Err e
@@ -132,28 +113,6 @@ by_room long most = if long then Err (fault.TooLong most) else Ok tt
 
 abbrev by_access : Bool → Result (Unit {0}) T3Fault → Result (Unit {0}) T3Fault
 by_access free rest = if not free then Err fault.ReadOnly else rest
-
-same_fault : (e f : T3Fault) → barring e ≡ barring f → e ≡ f
-same_fault e f h = cc
-
-pub admits : (id : List ℕ) (a b : LinkView) (block message : List ℕ) → Reads id a b block 1 block → IsSized block → (e : T3Fault) → admitted block message ≡ Err e → WriteFaultTold id a b message e
-admits id a b block message reads sized e is = on_access (access_flag block == 1) refl
-  where
-    most : ℕ
-    most = 16 * message_blocks block
-
-    on_room : access_flag block ≡ 1 → (v : Bool) → nat_lt most (length message) ≡ v → by_room v most ≡ barring e → WriteFaultTold id a b message e
-    on_room free true k h =
-        let long : most < length message = grind (arith, k) in
-        subst (WriteFaultTold id a b message) (same_fault (fault.TooLong most) e h) (record { block = block; reads = reads; sized = sized; free = free; most' = refl; long = long })
-    on_room free false k h = cc
-
-    on_access : (v : Bool) → (access_flag block == 1) ≡ v → WriteFaultTold id a b message e
-    on_access true k =
-        on_room (equal_of (access_flag block) 1 k) (nat_lt most (length message)) refl (sym (ap (λ v. by_access v (by_room (nat_lt most (length message)) most)) k) ∙ is)
-    on_access false k =
-        let h : barring fault.ReadOnly ≡ barring e = sym (ap (λ v. by_access v (by_room (nat_lt most (length message)) most)) k) ∙ is in
-        subst (WriteFaultTold id a b message) (same_fault fault.ReadOnly e h) (record { block = block; reads = reads; sized = sized; barred = other_of (access_flag block) 1 k })
 
 pub admits_ok : (block message : List ℕ) → IsSized block → admitted block message ≡ Ok tt → Takes block message
 admits_ok block message sized is = on_access (access_flag block == 1) refl
@@ -191,19 +150,6 @@ broken id a b message fault.ReadOnly h = absurd h.told
 broken id a b message (fault.TooLong most) h = absurd h.told
 broken id a b message fault.Protocol h = inr h
 broken id a b message fault.Unfinished h = absurd h.told
-
-pub begun_not : (id : List ℕ) (a b : LinkView) (message : List ℕ) (e : T3Fault) → StartTold id a b e → WriteFaultTold id a b message e
-begun_not id a b message fault.NotNdef h = inl h
-begun_not id a b message fault.Version h = inl h
-begun_not id a b message fault.BadSize h = inl h
-begun_not id a b message (fault.Refused status) h = inl h
-begun_not id a b message fault.FieldLost h = inl h
-begun_not id a b message fault.SixBad h = inl h
-begun_not id a b message fault.Memory h = inl h
-begun_not id a b message fault.ReadOnly h = absurd h
-begun_not id a b message (fault.TooLong most) h = absurd h
-begun_not id a b message fault.Protocol h = inl h
-begun_not id a b message fault.Unfinished h = absurd h
 
 pub write_told : (id : List ℕ) (a b : LinkView) (block message : List ℕ) (result : Result (Unit {0}) T3Fault) → PartTold id a b block message (all_puts message) result → WriteTold id a b message result
 write_told id a b block message (Ok done') h = record { block = block; writes = h }

@@ -117,15 +117,6 @@ attributes_told id a b (Err e) result next size err ok = subst (AttributesTold i
 attributes_told id a b (Ok x) result next size err ok =
     subst (AttributesTold id a b) (sym ok) (judges id a b x size (begins id a b x.items (whole_of x.items size) (next (Ok x.items) refl)))
 
-pub attributes_size : (told result : Result (ArrayVec ℕ) T3Fault) → IfOk told (λ x. length x.items ≡ 16) → IfErr told (λ e. result ≡ Err e) → IfOk told (λ x. result ≡ judged_as x (judged x.items))
-    → IfOk result (λ x. length x.items ≡ 16)
-attributes_size (Err e) result size err ok = subst (λ (r : Result (ArrayVec ℕ) T3Fault). IfOk r (λ x. length x.items ≡ 16)) (sym err) tt
-attributes_size (Ok x) result size err ok = subst (λ (r : Result (ArrayVec ℕ) T3Fault). IfOk r (λ x. length x.items ≡ 16)) (sym ok) (by_judged (judged x.items))
-  where
-    by_judged : (j : Result (Unit {0}) T3Fault) → IfOk (judged_as x j) (λ x. length x.items ≡ 16)
-    by_judged (Ok done') = size
-    by_judged (Err e) = tt
-
 -- and why there is none
 abbrev IsOfForm : T3Fault → Type 0
 IsOfForm fault.NotNdef = Unit {0}

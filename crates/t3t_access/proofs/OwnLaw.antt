@@ -190,9 +190,6 @@ module _ (id : List ℕ) (locked : List Bool) (a : LinkView) (tag : IsTag3 id lo
   ends : (b : LinkView) (e : T3Fault) → Stays a b × IsReadFault3 a b e × (IsCalm a b → IsToldOrMemory e) → IsRead3 a b (Err e)
   ends b e (stays, cause, calm) = record { stays = stays; ok = tt; err = cause; calm = calm }
 
-  lost : (b : LinkView) (f : AskFault) → (f ≡ ask.Memory → ⊥) → (IsCalm a b → f ≡ ask.Memory) → (P : Type 0) → IsCalm a b → P
-  lost b f other calm P is = absurd (other (calm is))
-
   pub own_fault : (b : LinkView) (e : T3Fault) → FaultTold id a b e → IsRead3 a b (Err e)
   own_fault b fault.NotNdef h = let f = found b NotNdef h (λ m e. cc) in ends b fault.NotNdef (f.1, f.0, λ c. tt)
   own_fault b fault.Version h = let f = found b Version h (λ m e. cc) in ends b fault.Version (f.1, f.0, λ c. tt)

@@ -1,5 +1,5 @@
 -- What the Checks of a reading bring of a Type 3 tag that keeps to its table, and that they change nothing.
-use Rattle.std.proofs.Common.{◌≡◌, ℕ, zero, suc, inl, inr, ◌+◌, ◌-◌, ◌*◌, ◌/◌, ◌<◌, ◌≤◌, List, [], ◌∷◌, ◌++◌, length, take, drop, min, Bool, true, false, not, nat_lt, if◌then◌else◌, Some, refl, sym, ◌∙◌, ap, subst, append_assoc, append-nil, arith}
+use Rattle.std.proofs.Common.{◌≡◌, ℕ, zero, suc, inl, inr, ◌+◌, ◌-◌, ◌*◌, ◌/◌, ◌<◌, ◌≤◌, List, [], ◌∷◌, ◌++◌, length, take, drop, Bool, true, not, nat_lt, if◌then◌else◌, Some, refl, sym, ◌∙◌, ap, subst, append_assoc, append-nil, arith}
 use Rattle.std.proofs.lemmas.List.{length-append, length-take-le, length-drop}
 use Rattle.std.proofs.Math.Seq.{take-add}
 use Rattle.std.proofs.Math.Nat.{le-min, min-le_left, min-le_right, lt_of_not-le}
@@ -20,9 +20,7 @@ use Rattle.t3t_tag.proofs.Steps.{check_turns}
 use Rattle.t3t_access.specs.Answers.{numbers, check_of}
 use Rattle.t3t_access.specs.Reading.{needed, most_at_once, taken_at, count_at, check_at, IsDue}
 use Rattle.t3t_access.specs.Own.{IsTag3}
-
-is_less : (m n : ℕ) → m < n → nat_lt m n ≡ true
-is_less m n h = grind arith
+use Rattle.t3t_access.proofs.Doing.{is_less, not_less}
 
 pub length_numbers : (first n : ℕ) → length (numbers first n) ≡ n
 length_numbers first zero = refl
@@ -118,20 +116,6 @@ same_content id xs ys r p q =
     items_of (Content of content) = content.items
     items_of _ = []
 
--- blocks with a message byte are there
-not_less : (m n : ℕ) → (m < n → ⊥) → n ≤ m
-not_less m n h = by_value (nat_lt m n) refl
-  where
-    yes : nat_lt m n ≡ true → m < n
-    yes e = grind arith
-
-    no : nat_lt m n ≡ false → n ≤ m
-    no e = grind arith
-
-    by_value : (v : Bool) → nat_lt m n ≡ v → n ≤ m
-    by_value true e = absurd (h (yes e))
-    by_value false e = no e
-
 pub reach : (store block : List ℕ) → IsT3Store store → block ≡ attributes store → IsSized block → needed block < block_count store
 reach store block is tie sized = lt_of_not-le (λ short.
     let named : message_blocks block ≤ 255 = not_less 255 (message_blocks block) (λ h. sized.sized (inr (inl h))) in
@@ -139,13 +123,6 @@ reach store block is tie sized = lt_of_not-le (λ short.
     let few : (message_length block + 15) / 16 ≤ message_blocks block = omega (arith, long) in
     let lacking : block_count store ≤ message_blocks block = omega (arith, few, short) in
     is.room (subst (IsOverlong (block_count store)) tie (record { summed = sized.known.summed; named = named; lacking = lacking })))
-
-pub taken_most : (block : List ℕ) (n : ℕ) → taken_at block n ≤ needed block
-taken_most block zero = omega arith
-taken_most block (suc n) =
-    let before : taken_at block n ≤ needed block = taken_most block n in
-    let next : min (most_at_once block) (needed block - taken_at block n) ≤ needed block - taken_at block n = min-le_right (most_at_once block) (needed block - taken_at block n) in
-    omega (arith, before, next)
 
 -- how many blocks the first n Checks bring
 abbrev pub so_far : List ℕ → ℕ → ℕ

@@ -1,49 +1,15 @@
 -- What is told of an answer, behind what is told of the link.
-use Rattle.std.proofs.Common.{◌≡◌, ℕ, inl, inr, List, [], length, Bool, true, false, nat_eq, ◌==◌, ◌&&◌, if◌then◌else◌, Option, Some, None, Result, Ok, Err, IfOk, ◌↔◌, refl, sym, ◌∙◌, ap, subst}
+use Rattle.std.proofs.Common.{◌≡◌, ℕ, List, [], length, Bool, true, false, nat_eq, ◌==◌, ◌&&◌, if◌then◌else◌, Option, Some, None, Result, Ok, Err, IfOk, ◌↔◌, refl, sym, ◌∙◌, ap, subst}
 use Rattle.std.specs.Cmp.Lexicographic.{pointwise}
 use Rattle.arrayvec.specs.ArrayVec.{ArrayVec}
 use Rattle.nfc_base.specs.Signal.{Signal}
-use Rattle.nfc_base.specs.TagLinks.{LinkView}
-use Rattle.nfc_base.specs.declared.tag_link.AskFault.{AskFault}
-use Rattle.nfc_base.specs.declared.tag_link.AskFault.TheVariants as ask
 use Rattle.t3t_tag.specs.declared.answer.T3Answer.{T3Answer}
 use Rattle.t3t_tag.specs.declared.answer.T3Answer.TheVariants.{Polled, Content, Done, CheckRefused, UpdateRefused}
 use Rattle.t3t_tag.specs.Spelling.{T3AnswerSpelling}
 use Rattle.t3t_tag.proofs.Bytes.{equal_of, is_equal, left_of, right_of, both_of, equal_bytes, bytes_self}
 use Rattle.t3t_access.specs.declared.fault.T3Fault.{T3Fault}
 use Rattle.t3t_access.specs.declared.fault.T3Fault.TheVariants as fault
-use Rattle.t3t_access.specs.Numbers.{of_link}
-use Rattle.t3t_access.specs.Talk.{Fails, AskedNext}
-use Rattle.t3t_access.specs.Answers.{Brings, RefusesCheck, IsOdd, TellsFault, Tells, StopsNext, TellsNext, content_told, found}
-
-module _ (Grants : List ℕ → Signal → Type 0) (Refuses : ℕ → Signal → Type 0) where
-  pub told_fault : (a b : LinkView) (cs : List Signal) (c : Signal) (e : AskFault) → Fails a b cs c e → StopsNext Grants Refuses a b cs c (of_link e)
-  told_fault a b cs c ask.FieldLost h = h
-  told_fault a b cs c ask.SixBad h = h
-  told_fault a b cs c ask.Memory h = h
-  told_fault a b cs c ask.Protocol h = inr h
-
-  stops_by : (a b : LinkView) (cs : List Signal) (c r : Signal) (e : T3Fault) → AskedNext a b cs c (Ok r) → TellsFault Grants Refuses r e → StopsNext Grants Refuses a b cs c e
-  stops_by a b cs c r (fault.Refused status) asked tells = record { answered = asked.0; reply = r; says = asked.1; holds = tells }
-  stops_by a b cs c r fault.Protocol asked tells = inl (record { answered = asked.0; reply = r; says = asked.1; holds = tells })
-  stops_by a b cs c r fault.NotNdef asked tells = absurd tells
-  stops_by a b cs c r fault.Version asked tells = absurd tells
-  stops_by a b cs c r fault.BadSize asked tells = absurd tells
-  stops_by a b cs c r fault.FieldLost asked tells = absurd tells
-  stops_by a b cs c r fault.SixBad asked tells = absurd tells
-  stops_by a b cs c r fault.Memory asked tells = absurd tells
-  stops_by a b cs c r fault.ReadOnly asked tells = absurd tells
-  stops_by a b cs c r (fault.TooLong n) asked tells = absurd tells
-  stops_by a b cs c r fault.Unfinished asked tells = absurd tells
-
-  pub told_answer : (a b : LinkView) (cs : List Signal) (c r : Signal) (xs : Result (List ℕ) T3Fault) → AskedNext a b cs c (Ok r) → Tells Grants Refuses r xs → TellsNext Grants Refuses a b cs c xs
-  told_answer a b cs c r (Ok x) asked tells = record { answered = asked.0; reply = r; says = asked.1; holds = tells }
-  told_answer a b cs c r (Err e) asked tells = stops_by a b cs c r e asked tells
-
-  -- of a fault
-  pub told_err : (a b : LinkView) (cs : List Signal) (c : Signal) (e : T3Fault) (xs : Result (List ℕ) T3Fault) → Err e ≡ found xs → StopsNext Grants Refuses a b cs c e → TellsNext Grants Refuses a b cs c xs
-  told_err a b cs c e (Ok x) is h = cc
-  told_err a b cs c e (Err f) is h = subst (StopsNext Grants Refuses a b cs c) (let d : e ≡ f = cc in d) h
+use Rattle.t3t_access.specs.Answers.{Brings, RefusesCheck, IsOdd, Tells, content_told, found}
 
 same_found : (x y : Result (List ℕ) T3Fault) → found x ≡ found y → x ≡ y
 same_found (Ok xs) (Ok ys) e = ap (λ t. Ok t) (items_same e)

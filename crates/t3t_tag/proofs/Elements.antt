@@ -1,6 +1,5 @@
 -- The block elements of a Check, both ways.
 use Rattle.std.proofs.Common.{◌≡◌, ◌≢◌, ℕ, suc, ◌+◌, ◌*◌, ◌<◌, ◌≤◌, slice_index, drop, List, [], ◌∷◌, ◌++◌, length, Bool, true, false, nat_le, ◌==◌, ◌&&◌, if◌then◌else◌, Option, Some, None, refl, sym, ◌∙◌, ap, append_assoc, arith}
-use Rattle.std.proofs.lemmas.List.{append-nil}
 use Rattle.std.proofs.Math.Seq.{drop-cons}
 use Rattle.t3t_tag.specs.Spelling.{element_code, most_elements, elements}
 use Rattle.t3t_tag.specs.Reading.{with_block_number, blocks_named, is_element_count, blocks_asked, found_blocks}
@@ -75,13 +74,6 @@ joined front (Some blocks) = Some (front ++ blocks)
 pub joined_step : (front : List ℕ) (block : ℕ) (behind : Option (List ℕ)) → joined (front ++ block ∷ []) behind ≡ joined front (with_block_number block behind)
 joined_step front block None = refl
 joined_step front block (Some rest) = ap (λ t. Some t) (append_assoc front (block ∷ []) rest)
-
-pub joined_none : (behind : Option (List ℕ)) → joined [] behind ≡ behind
-joined_none None = refl
-joined_none (Some rest) = refl
-
-pub joined_end : (front : List ℕ) → joined front (Some []) ≡ Some front
-joined_end front = ap (λ t. Some t) (append-nil front)
 
 -- the two bytes of one element, and what follows
 element_at : (i : ℕ) (rest : List ℕ) → 2 * i + 1 < length rest

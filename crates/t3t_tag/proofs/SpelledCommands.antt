@@ -166,10 +166,3 @@ exact_command f o small is c = (
   (λ e. frame_told f c small (sym is ∙ e)),
   (λ s. is ∙ ap spelled_command s.frame ∙ command_reads c s.range),
 )
-
--- no frame spells two
-pub one_command : (f : Signal) (x y : T3Command) → T3Spelling x f → T3Spelling y f → x ≡ y
-one_command f x y p q =
-    let a : spelled_command f ≡ Some x = ap spelled_command p.frame ∙ command_reads x p.range in
-    let b : spelled_command f ≡ Some y = ap spelled_command q.frame ∙ command_reads y q.range in
-    cc

@@ -1,5 +1,5 @@
 -- What the steps of a tag give its reader, and what they leave.
-use Rattle.std.proofs.Common.{◌≡◌, ℕ, suc, ◌*◌, ◌/◌, ◌<◌, ◌≤◌, List, [], ◌∷◌, ◌++◌, length, drop, slice_index, take, Bool, ◌==◌, true, false, not, nat_eq, nat_le, if◌then◌else◌, Some, None, IfSome, refl, sym, ◌∙◌, ap, subst, arith}
+use Rattle.std.proofs.Common.{◌≡◌, ℕ, suc, ◌*◌, ◌/◌, ◌<◌, ◌≤◌, List, [], ◌∷◌, ◌++◌, length, drop, take, Bool, ◌==◌, true, false, not, nat_eq, nat_le, if◌then◌else◌, Some, None, IfSome, refl, sym, ◌∙◌, ap, subst, arith}
 use Rattle.std.specs.Cmp.Lexicographic.{pointwise}
 use Rattle.nfc_base.specs.Signal.{Signal, whole_f}
 use Rattle.t3t_tag.specs.declared.answer.T3Answer.{T3Answer}
@@ -10,7 +10,7 @@ use Rattle.t3t_tag.specs.Spelling.{poll_code, check_code, update_code, read_serv
 use Rattle.t3t_tag.specs.Step.{T3Turn, silent, tells, no_block, block_locked, answers, blocks_answer, checked_answer, check_answer, written_turn, update_turn, names, request_turn, poll_turn, IsForAnother, t3_turn, t3_answer, t3_after, content_of, sent}
 use Rattle.t3t_tag.proofs.Bytes.{is_equal, is_other, same_number, equal_bytes, bytes_self, AreBytes, front_of, rest_of}
 use Rattle.t3t_tag.proofs.Elements.{length_elements, asked_read}
-use Rattle.t3t_tag.proofs.Stores.{length_with_block, with_block_again, still_blocks, length_content}
+use Rattle.t3t_tag.proofs.Stores.{length_with_block, with_block_again, length_content}
 use Rattle.t3t_tag.proofs.Turns.{writes, IsUpdate, on_turn}
 
 itself : (t : T3State) → IsSameTag t t
@@ -26,18 +26,6 @@ same_tag t f small = on_turn t f (λ r. IsSameTag t r.after) small (record {
   refused_update = λ status h. itself t;
   written = λ block content is. record { id = refl; size = length_with_block t.store block content is.within is.size; locked = refl };
 })
-
--- So a tag stays one that can be.
-pub still_tag : (t u : T3State) → IsT3State t → IsSameTag t u → IsT3State u
-still_tag t u is same = record {
-  id = ap length same.id ∙ is.id;
-  bytes = λ i. subst (λ id. slice_index id i < 256) (sym same.id) (is.bytes i);
-  store = still_blocks t.store u.store same.size is.store;
-  locks = ap length same.locked ∙ is.locks;
-}
-
-pub stays_tag : (t : T3State) → IsT3State t → (f : Signal) → AreBytes f.bytes → IsT3State (t3_after t f)
-stays_tag t is f small = still_tag t (t3_after t f) is (same_tag t f small)
 
 -- an answer is in range
 pub told_in_range : (t : T3State) → IsT3State t → (f : Signal) → AreBytes f.bytes → IfSome (t3_answer t f) (λ g. (a : T3Answer) × T3AnswerSpelling a g)

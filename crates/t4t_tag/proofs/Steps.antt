@@ -1,5 +1,5 @@
 -- What the steps of a tag answer, and what they leave.
-use Rattle.std.proofs.Common.{◌≡◌, ◌≢◌, ℕ, ◌+◌, ◌-◌, ◌<◌, ◌≤◌, min, List, ◌++◌, length, take, drop, slice_index, Bool, ◌==◌, if◌then◌else◌, refl, ◌∙◌, ap, arith}
+use Rattle.std.proofs.Common.{◌≡◌, ℕ, ◌+◌, ◌-◌, ◌<◌, ◌≤◌, min, List, ◌++◌, length, take, drop, slice_index, Bool, ◌==◌, if◌then◌else◌, refl, ◌∙◌, ap, arith}
 use Rattle.std.proofs.lemmas.List.{length-append, length-take, length-drop, length-take-le}
 use Rattle.t4t_tag.specs.Store.{IsT4State, T4State, IsSameTag}
 use Rattle.t4t_tag.specs.Step.{done, overwritten, asked_count, t4_answer, t4_after}
@@ -42,17 +42,6 @@ stays_tag t is c = on_step t (λ r. IsT4State r.after) c (record {
     size = is.size;
     whole = length_overwritten t.file offset content within ∙ is.whole;
   };
-})
-
--- An answer other than the bare 9000h changes nothing: a refusal leaves the file, the application and the current file,
--- and so does a read.
-pub refusal_keeps : (t : T4State) (c : List ℕ) → t4_answer t c ≢ done → t4_after t c ≡ t
-refusal_keeps t c = on_step t (λ r. r.answer ≢ done → r.after ≡ t) c (record {
-  refused = λ status two not_done. refl;
-  opened = λ not_done. absurd (not_done refl);
-  picked = λ file on not_done. absurd (not_done refl);
-  read = λ bytes offset not_done. refl;
-  written = λ offset content here within not_done. absurd (not_done refl);
 })
 
 length_content : (bytes : List ℕ) (offset count : ℕ) → length (content_of bytes offset count) ≡ min count (length (drop offset bytes)) + 2

@@ -70,7 +70,7 @@ unpicked t is id other = by_mask t.quiet (pointwise nat_eq (low_first id) (mask_
     by_mask false false h = refl
     by_mask false true h = absurd (other (same_id h))
 
-take_none : (xs : List ℕ) → take 0 xs ≡ []
+pub take_none : (xs : List ℕ) → take 0 xs ≡ []
 take_none [] = refl
 take_none (x ∷ xs) = refl
 

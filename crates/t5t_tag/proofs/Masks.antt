@@ -8,10 +8,6 @@ use Rattle.t5t_tag.specs.Store.{id_size}
 use Rattle.t5t_tag.specs.Mask.{kept, mask_size, most_bits}
 use Rattle.t5t_tag.specs.Reading.{filled}
 
-pub length_kept : (bits : ℕ) (bytes : List ℕ) → length (kept bits bytes) ≡ length bytes
-length_kept bits [] = refl
-length_kept bits (b ∷ bytes) = ap suc (length_kept (bits - 8) bytes)
-
 kept_take : (n bits : ℕ) (bytes : List ℕ) → kept bits (take n bytes) ≡ take n (kept bits bytes)
 kept_take zero bits [] = refl
 kept_take zero bits (b ∷ bytes) = refl

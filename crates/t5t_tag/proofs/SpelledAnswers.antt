@@ -125,10 +125,3 @@ exact_answer f o is x = (
   (λ e. frame_told f.tech f.bytes f.tail x (sym is ∙ e)),
   (λ s. is ∙ ap spelled_answer s.frame ∙ answer_reads x s.range),
 )
-
--- no frame spells two answers
-pub one_answer : (f : Signal) (x y : T5Answer) → T5AnswerSpelling x f → T5AnswerSpelling y f → x ≡ y
-one_answer f x y p q =
-    let a : spelled_answer f ≡ Some x = (exact_answer f (spelled_answer f) refl x).1 p in
-    let b : spelled_answer f ≡ Some y = (exact_answer f (spelled_answer f) refl y).1 q in
-    cc

@@ -277,10 +277,3 @@ exact_command f o small is c = (
   (λ e. frame_told f.tech f.bytes f.tail c small (sym is ∙ e)),
   (λ s. is ∙ ap spelled_command s.frame ∙ command_reads c s.range),
 )
-
--- no frame spells two commands
-pub one_command : (f : Signal) (c d : T5Command) → T5Spelling c f → T5Spelling d f → c ≡ d
-one_command f c d p q =
-    let a : spelled_command f ≡ Some c = ap spelled_command p.frame ∙ command_reads c p.range in
-    let b : spelled_command f ≡ Some d = ap spelled_command q.frame ∙ command_reads d q.range in
-    cc

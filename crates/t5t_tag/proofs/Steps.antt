@@ -1,9 +1,7 @@
 -- What the steps of a tag give its reader, and what they leave.
-use Rattle.std.proofs.Common.{◌≡◌, ◌≢◌, ℕ, ◌+◌, ◌*◌, ◌/◌, ◌%◌, ◌<◌, ◌≤◌, List, [], ◌∷◌, ◌++◌, length, take, drop, Bool, true, false, not, nat_eq, nat_le, ◌==◌, ◌&&◌, if◌then◌else◌, Option, Some, None, refl, sym, ◌∙◌, ap, subst, arith}
+use Rattle.std.proofs.Common.{◌≡◌, ◌≢◌, ℕ, ◌+◌, ◌*◌, ◌/◌, ◌%◌, List, [], ◌∷◌, ◌++◌, length, take, drop, Bool, true, false, not, nat_eq, nat_le, ◌==◌, ◌&&◌, if◌then◌else◌, Option, Some, None, refl, sym, ◌∙◌, ap, arith}
 use Rattle.std.specs.Cmp.Lexicographic.{pointwise}
 use Rattle.std.proofs.lemmas.List.{length-append, length-reverse, reverse-reverse}
-use Rattle.std.proofs.lemmas.Nat.{mul-mod_first}
-use Rattle.std.proofs.Math.Nat.{zero-mul}
 use Rattle.std.proofs.Math.Seq.{take-append_seam, drop-append_seam}
 use Rattle.nfc_base.specs.declared.frame.Tech.TheVariants.{V}
 use Rattle.nfc_base.specs.Signal.{Signal, whole_v}
@@ -12,13 +10,12 @@ use Rattle.t5t_tag.specs.declared.command.T5Command.TheVariants.{Read, Write, Re
 use Rattle.t5t_tag.specs.declared.answer.T5Answer.{T5Answer}
 use Rattle.t5t_tag.specs.declared.answer.T5Answer.TheVariants.{Present, Content, Error}
 use Rattle.t5t_tag.specs.declared.round.Round.{Round}
-use Rattle.t5t_tag.specs.Store.{T5State, IsT5Shape, IsT5State, id_size, block_count}
+use Rattle.t5t_tag.specs.Store.{T5State, IsT5Shape, id_size, block_count}
 use Rattle.t5t_tag.specs.Mask.{low_first}
-use Rattle.t5t_tag.specs.Slots.{is_own}
-use Rattle.t5t_tag.specs.Spelling.{quiet_code, read_code, write_code, read_many_code, read_wide_code, write_wide_code, most_content, wide, head, command_frame, answer_frame, IsT5Answer, T5AnswerSpelling}
-use Rattle.t5t_tag.specs.Step.{T5Turn, silent, tells, refuses, not_supported, no_block, blocks_of, read_turn, read_many_turn, write_turn, wide_number, Writes, asked, asked_turn, obeyed, names, addressed, out_of_round, own_answer, t5_turn, sent, t5_answer, t5_after}
+use Rattle.t5t_tag.specs.Spelling.{quiet_code, read_code, write_code, read_many_code, read_wide_code, write_wide_code, most_content, wide, head, command_frame, answer_frame}
+use Rattle.t5t_tag.specs.Step.{T5Turn, silent, tells, refuses, not_supported, no_block, blocks_of, read_turn, read_many_turn, write_turn, wide_number, Writes, asked, asked_turn, obeyed, names, addressed, out_of_round, t5_turn, sent, t5_answer, t5_after}
 use Rattle.t5t_tag.proofs.Bytes.{equal_bytes, bytes_self}
-use Rattle.t5t_tag.proofs.Stores.{length_block, length_blocks, length_with_block, still_store, size_of_block}
+use Rattle.t5t_tag.proofs.Stores.{length_with_block, still_store}
 use Rattle.t5t_tag.proofs.Turns.{hushes, by_test, on_turn}
 
 -- A tag keeps its identifier, and its store is still one that a tag may have.
@@ -75,51 +72,6 @@ same_tag t = on_turn t (λ r. IsSameTag t r.after) (record {
   moves = λ r. itself t;
 })
 
--- So a tag stays one that can be.
-pub stays_tag : (t : T5State) → IsT5State t → (f : Signal) → IsT5State (t5_after t f)
-stays_tag t is f = record { shape = stays_shape t is.shape f; locks = ap length (same_tag t f).locked ∙ is.locks }
-
--- a multiple of a multiple of four is one
-fours : (m n : ℕ) → m % 4 ≡ 0 → (m * n) % 4 ≡ 0
-fours m n h = sym (mul-mod_first m n 4) ∙ ap (λ k. (k * n) % 4) h ∙ ap (λ k. k % 4) (zero-mul n)
-
--- the answer of a turn, where there is one, is in range
-abbrev pub IsTold : Option T5Answer → Type 0
-IsTold None = Unit {0}
-IsTold (Some a) = IsT5Answer a
-
-pub told_in_range : (t : T5State) → IsT5Shape t → (f : Signal) → IsTold (t5_turn t f).answer
-told_in_range t is = on_turn t (λ r. IsTold r.answer) (record {
-  flagged = record {
-    commands = record {
-      error = λ code. tt;
-      read = λ block within.
-          let long : length (block_of t.size t.store block) ≡ t.size = length_block t.size t.store block within in
-          let sized : (t.size ≤ 32) × (t.size % 4 ≡ 0) × (4 ≤ t.size) = size_of_block t.size is.store.sized in
-          (omega (arith, long, sized.0), ap (λ n. n % 4) long ∙ sized.1);
-      many = λ first more within few.
-          let long : length (blocks_of t.size t.store first (more + 1)) ≡ t.size * (more + 1) = length_blocks t.size t.store first (more + 1) (omega (arith, within)) in
-          let sized : (t.size ≤ 32) × (t.size % 4 ≡ 0) × (4 ≤ t.size) = size_of_block t.size is.store.sized in
-          (omega (arith, long, few), ap (λ n. n % 4) long ∙ fours t.size (more + 1) sized.1);
-      written = λ block content within long. (omega arith, refl);
-    };
-    none = tt;
-    hushed = tt;
-    present = is.id;
-    begins = λ r. own_in_range (Some r);
-  };
-  unheard = tt;
-  moves = own_in_range;
-})
-  where
-    told_if : (v : Bool) → IsTold (if v then Some (Present t.id) else None)
-    told_if true = is.id
-    told_if false = tt
-
-    own_in_range : (round : Option Round) → IsTold (own_answer t round)
-    own_in_range None = tt
-    own_in_range (Some r) = told_if (is_own r)
-
 -- What a frame leaves that writes nothing and quiets nobody. It may end a round.
 pub record IsUntouched (t u : T5State) : Type 0 where
   pub id : u.id ≡ t.id
@@ -130,29 +82,6 @@ pub record IsUntouched (t u : T5State) : Type 0 where
 
 untouched : {round : Option Round} (t : T5State) → IsUntouched t (record t { round = round })
 untouched t = record { id = refl; size = refl; store = refl; locked = refl; quiet = refl }
-
--- a refusal leaves that
-pub refusal_keeps : (t : T5State) (f : Signal) (code : ℕ) → (t5_turn t f).answer ≡ Some (Error code) → IsUntouched t (t5_after t f)
-refusal_keeps t f code = on_turn t (λ r. r.answer ≡ Some (Error code) → IsUntouched t r.after) (record {
-  flagged = record {
-    commands = record {
-      error = λ c e. untouched t;
-      read = λ block within e. untouched t;
-      many = λ first more within few e. untouched t;
-      written = λ block content within long e. absurd cc;
-    };
-    none = λ e. untouched t;
-    hushed = λ e. absurd cc;
-    present = λ e. untouched t;
-    begins = λ r e. untouched t;
-  };
-  unheard = λ e. untouched t;
-  moves = λ r e. untouched t;
-}) f
-
-spelled_of : (o : Option T5Answer) (g : Signal) → IsTold o → sent o ≡ Some g → (a : T5Answer) × ((o ≡ Some a) × T5AnswerSpelling a g)
-spelled_of None g is e = absurd cc
-spelled_of (Some a) g is e = (a, (refl, record { range = is; frame = (let d : g ≡ answer_frame a = cc in d) }))
 
 tech_of : (a : T5Answer) → (answer_frame a).tech ≡ V
 tech_of (Present id) = refl
@@ -218,16 +147,6 @@ read_wide_turns t is block = addressed_turn t is read_wide_code (wide block) ∙
 pub write_wide_turns : (t : T5State) → IsT5Shape t → (block : ℕ) (content : List ℕ) → t5_turn t (command_frame (WriteWide (Some t.id) block (record { items = content }))) ≡ write_turn (out_of_round t) block content
 write_wide_turns t is block content = addressed_turn t is write_wide_code (wide block ++ content) ∙ ap (λ n. write_turn (out_of_round t) n content) (number_of_wide block)
 
-is_less : (m n : ℕ) → n < m → nat_le m n ≡ false
-is_less m n h = grind arith
-
--- a block that is there
-pub read_gives : (t : T5State) → IsT5Shape t → (block : ℕ) → block < block_count t
-    → t5_answer t (command_frame (Read (Some t.id) block)) ≡ Some (answer_frame (Content (record { items = block_of t.size t.store block })))
-read_gives t is block within =
-    ap (λ (r : T5Turn). sent r.answer) (read_turns t is block)
-    ∙ ap (λ v. sent (if v then refuses (out_of_round t) no_block else tells (out_of_round t) (Content (record { items = block_of t.size t.store block }))).answer) (is_less (block_count t) block within)
-
 -- a read leaves the tag untouched
 pub read_leaves : (t : T5State) (block : ℕ) → IsUntouched t (read_turn t block).after
 read_leaves t block =
@@ -242,17 +161,6 @@ read_many_leaves t first more =
     by_test (λ r. IsUntouched t r.after) (nat_le (block_count t) (first + more)) (refuses t no_block) (if large then refuses t not_supported else told)
     (λ h. untouched t)
     (λ h. by_test (λ r. IsUntouched t r.after) large (refuses t not_supported) told (λ k. untouched t) (λ k. untouched t))
-
-pub read_keeps : (t : T5State) → IsT5Shape t → (block : ℕ) → IsUntouched t (t5_after t (command_frame (Read (Some t.id) block)))
-read_keeps t is block =
-    let leaves : IsUntouched (out_of_round t) (read_turn (out_of_round t) block).after = read_leaves (out_of_round t) block in
-    subst (λ r. IsUntouched t r.after) (sym (read_turns t is block)) (record {
-      id = leaves.id;
-      size = leaves.size;
-      store = leaves.store;
-      locked = leaves.locked;
-      quiet = leaves.quiet;
-    })
 
 unnamed : (t : T5State) (id : List ℕ) → length id ≡ id_size → id ≢ t.id → (code : ℕ) (rest : List ℕ) → addressed t (code ∷ (low_first id ++ rest)) ≡ silent t
 unnamed t id size other code rest = by_names (names t (low_first id ++ rest)) refl

@@ -1,9 +1,7 @@
 -- How a reading of a Type 5 tag ends.
-use Rattle.std.proofs.Common.{◌≡◌, ℕ, zero, suc, ◌+◌, ◌-◌, ◌*◌, ◌<◌, ◌≤◌, min, inl, inr, List, [], ◌∷◌, ◌++◌, length, take, drop, Bool, true, false, if◌then◌else◌, append_assoc, append-nil, refl, sym, ◌∙◌, ap, subst, arith}
-use Rattle.std.specs.Prelude.{◌&&◌, ◌||◌, nat_lt, Ok, Err}
-use Rattle.std.proofs.lemmas.Bool.{ltb-true, and_parts}
+use Rattle.std.proofs.Common.{◌≡◌, ℕ, zero, suc, ◌+◌, ◌-◌, ◌*◌, ◌<◌, ◌≤◌, min, inl, inr, List, [], ◌∷◌, ◌++◌, length, take, drop, Bool, true, false, append_assoc, append-nil, refl, sym, ◌∙◌, ap, subst, arith}
+use Rattle.std.specs.Prelude.{Ok, Err}
 use Rattle.std.proofs.lemmas.List.{length-append, take_all}
-use Rattle.std.proofs.Math.Nat.{mul-le-mul_right}
 use Rattle.nfc_base.specs.TagLinks.{LinkView}
 use Rattle.tlv_area.specs.declared.space.Space.{Space}
 use Rattle.tlv_area.specs.declared.space.AreaMap.{AreaMap}
@@ -14,8 +12,8 @@ use Rattle.tlv_area.specs.declared.walk.Walk.{Walk}
 use Rattle.tlv_area.specs.declared.walk.Walk.TheVariants as walk
 use Rattle.tlv_area.specs.Layout.{bytes_at, IsArea}
 use Rattle.tlv_area.specs.Form as form
-use Rattle.tlv_area.specs.Containers.{t5_container, t5_front, t5_is_open, is_none, first_fault, t5_head_faults, t5_is_long}
-use Rattle.tlv_area.specs.Stores.{cut, cut_by, named_blocks, t5_reach, t5_area_by, t5_area, IsFormBy, IsT5Form}
+use Rattle.tlv_area.specs.Containers.{t5_container, t5_front, t5_is_open}
+use Rattle.tlv_area.specs.Stores.{cut, cut_by, t5_reach, t5_area_by, t5_area, IsFormBy, IsT5Form}
 use Rattle.tlv_area.specs.Map.{IsWalk, IsSettled, TellsForm, IsPlacedIn, message_cells}
 use Rattle.tlv_area.proofs.Cuts.{cuts_settle}
 use Rattle.tlv_area.proofs.OneNext.{needs_more}
@@ -25,14 +23,14 @@ use Rattle.tag_reader.specs.declared.known.Known.{Known}
 use Rattle.tag_reader.specs.declared.fault.ReadFault.{ReadFault}
 use Rattle.tag_reader.specs.declared.fault.ReadFault.TheVariants as fault
 use Rattle.tag_reader.specs.Blocks.{NeedsBlocks, AreaGoesOn, known_at, progress_at}
-use Rattle.tag_reader.specs.Kinds.{IsTag, IsStoreForm, area_of, first}
+use Rattle.tag_reader.specs.Kinds.{IsStoreForm, area_of, first}
 use Rattle.tag_reader.specs.Asked.{Aim, ToRead, ToWrite, IsNextFor, IsDueFor, IsDue}
 use Rattle.tag_reader.specs.Calls.{HasAskedFor, HasAskedAllFor}
 use Rattle.tag_reader.specs.Reading.{IsReadFault, is_told}
 use Rattle.tag_reader.specs.Heard.{Brings, IsBroughtBy, AreaSays, IsNone, IsFaultBy, joined, first_size}
 use Rattle.tag_reader.specs.HeardSteps.{Under, Sees}
 use Rattle.tag_reader.specs.Steps.{Asks, Reads, IsMapFound, IsCutFault, of_container}
-use Rattle.tag_reader.specs.BlockSteps.{CanAsk, Grows, IsKnown, GainsBlocks, EndsBlocks, Names, IsReading, HasRunOut}
+use Rattle.tag_reader.specs.BlockSteps.{IsKnown, GainsBlocks, EndsBlocks, Names, IsReading, HasRunOut}
 use Rattle.tag_reader.proofs.Bringing.{went_of}
 use Rattle.tag_reader.proofs.Knowing.{store_goes_on}
 use Rattle.tag_reader.proofs.Endings.{container_fault, container_told, bytes_front, cells_below, cut_is_told}
@@ -57,33 +55,8 @@ known_size id a b ps known u is = by_pieces ps u.brought.pieces is
     by_pieces [] brought k = Unread k.size k.bytes
     by_pieces (q ∷ qs) brought k = Sized (omega (arith, k.size, first_block q brought.2)) (omega (arith, k.size, first_most brought.0 q brought.2))
 
--- a container that is open has fewer than eight bytes
-pub open_short : (bytes : List ℕ) → t5_is_open bytes ≡ true → length bytes < 8
-open_short bytes is = by_first (nat_lt (length bytes) 4) refl is
-  where
-    by_first : (v : Bool) → nat_lt (length bytes) 4 ≡ v → (v || (is_none (first_fault (t5_head_faults bytes)) && t5_is_long bytes && nat_lt (length bytes) 8)) ≡ true → length bytes < 8
-    by_first true few e = (let short = ltb-true (length bytes) 4 few in omega (arith, short))
-    by_first false few e = ltb-true (length bytes) 8 (and_parts (is_none (first_fault (t5_head_faults bytes)) && t5_is_long bytes) (nat_lt (length bytes) 8) e).1
-
 pub open_front : (bytes : List ℕ) → t5_is_open bytes ≡ true → t5_front bytes ≡ Ok More
 open_front bytes is = rw is refl
-
-pub open_ask : (known : Known) → KnownSize known → t5_is_open known.bytes.items ≡ true → CanAsk known
-open_ask known (Unread none begun) is = record { small = omega (arith, none); begun = λ e. begun; low = inl none }
-open_ask known (Sized least most) is =
-    (let short = open_short known.bytes.items is in record { small = most; begun = λ e. absurd (omega (arith, e, least)); low = inr (omega (arith, short, least)) })
-
--- the area ends where block numbers do
-named_most : (wide : Bool) → named_blocks wide ≤ 65536
-named_most true = omega arith
-named_most false = omega arith
-
-pub walk_ask : (known : Known) (space : Space) (front : List ℕ) → Names known space → front ≡ take space.end known.bytes.items → length front < space.end → CanAsk known
-walk_ask known space front names e short =
-    let less = known_short known.bytes.items front space.end e short in
-    let end : space.end ≡ min names.area.space.end (named_blocks names.area.wide * known.size) = ap (λ s. s.end) names.reach in
-    let most : named_blocks names.area.wide * known.size ≤ 65536 * known.size = mul-le-mul_right known.size (named_most names.area.wide) in
-    record { small = names.most; begun = λ none. absurd (omega (arith, none, names.least)); low = inr (omega (arith, less, end, most)) }
 
 -- the container and what it names
 module _ (known : Known) (space : Space) (names : Names known space) where
@@ -402,36 +375,6 @@ later id size zero a b known r closed =
     let empty : known.bytes.items ≡ [] = r.bytes ∙ ap (λ m. take m a.state.store) none in
     let clash : true ≡ false = sym (ap (λ xs. t5_is_open xs) empty) ∙ closed in
     absurd (cc)
-
--- nothing is known yet
-pub reading_none : {aim : Aim} (id : List ℕ) (size : ℕ) (a : LinkView) (known : Known) → IsTag (T5 id) size a → known.size ≡ 0 → known.single ≡ false → known.bytes.items ≡ [] → IsReading aim id size a a known 0
-reading_none id size a known is none single empty =
-    let zero' : size * 0 ≡ 0 = omega arith in
-    record {
-      tag = is;
-      reached = refl;
-      state = refl;
-      size' = none;
-      single = single;
-      bytes = empty ∙ sym (ap (λ m. take m a.state.store) zero');
-      within = omega (arith, zero');
-    }
-
--- less is left
-pub less_left : (end : ℕ) (old new : Known) → length old.bytes.items < end → Grows old new →
-    (end - length new.bytes.items) + (end - length new.bytes.items) + (if new.single then 0 else 1) < (end - length old.bytes.items) + (end - length old.bytes.items) + (if old.single then 0 else 1)
-less_left end old new short (inl more) = by_flag old.single new.single more.1
-  where
-    by_flag : (v w : Bool) → w ≡ v → (end - length new.bytes.items) + (end - length new.bytes.items) + (if w then 0 else 1) < (end - length old.bytes.items) + (end - length old.bytes.items) + (if v then 0 else 1)
-    by_flag true true e = omega (arith, short, more.0)
-    by_flag false false e = omega (arith, short, more.0)
-    by_flag true false e = absurd (cc)
-    by_flag false true e = absurd (cc)
-less_left end old new short (inr single) =
-    let same : length new.bytes.items ≡ length old.bytes.items = ap length single.0 in
-    let before : ◌≡◌ {A = ℕ} (if old.single then 0 else 1) 1 = rw single.1 refl in
-    let after : ◌≡◌ {A = ℕ} (if new.single then 0 else 1) 0 = rw single.2 refl in
-    omega (arith, same, before, after)
 
 -- what the pieces say, whatever the tag does
 module _ (id : List ℕ) (a b : LinkView) (ps : List (List ℕ)) (known : Known) (space : Space) (u : Under (T5 id) a b ps) (is : IsKnown ps known) (names : Names known space) where

@@ -190,11 +190,6 @@ no_form how ps r is = record { no_piece = λ p brings. by_kind how is p brings; 
     by_kind (T5 id) none q (inl brings) = none.no_content q brings.content
     by_kind (T5 id) none q (inr falls) = none.no_refusal falls.code (error_refuses id r falls.code falls.error)
 
-pub piece_brings : (how : How) (ps : List (List ℕ)) (r : Signal) (p : List ℕ) → HasContent how r p → IsPiece how ps p → Brings how ps r p
-piece_brings T2 ps r p content piece = record { content = content; piece = piece }
-piece_brings T4 ps r p content piece = record { content = content; piece = piece }
-piece_brings (T5 id) ps r p content piece = inl (record { content = content; piece = piece })
-
 -- an answer brings one piece, and none that does refuses the last command or ends the tag
 pub brings_one : (how : How) (ps : List (List ℕ)) (r : Signal) (p q : List ℕ) → Brings how ps r p → Brings how ps r q → q ≡ p
 brings_one T2 ps r p q is other = content_one T2 r p q is.content other.content

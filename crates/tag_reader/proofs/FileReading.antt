@@ -1,14 +1,14 @@
 -- A reading of a Type 4 tag under way, and how it ends.
 use Rattle.std.proofs.Common.{◌≡◌, ℕ, zero, suc, ◌+◌, ◌-◌, ◌*◌, ◌/◌, ◌%◌, ◌<◌, ◌≤◌, min, inl, inr, true, false, nat_lt, if◌then◌else◌, List, [], ◌∷◌, ◌++◌, length, take, drop, refl, sym, ◌∙◌, ap, subst, append_assoc, arith}
 use Rattle.std.specs.Prelude.{Result, Ok, Err}
-use Rattle.std.proofs.lemmas.List.{length-take-le, length-take, take_all, take-take, drop-take, drop-drop}
+use Rattle.std.proofs.lemmas.List.{length-take, take_all, take-take, drop-take, drop-drop}
 use Rattle.std.proofs.Math.Seq.{take-add}
 use Rattle.std.proofs.Math.Nat.{mul-le-mul_right}
 use Rattle.std.proofs.lemmas.Grind.{div_ceil_times}
 use Rattle.std.proofs.lemmas.Bool.{cases_lt, lt-ltb}
 use Rattle.nfc_base.specs.Signal.{Signal, whole_a}
 use Rattle.nfc_base.specs.TagLinks.{TagState, TagStep, LinkView, MayAsk, Type4}
-use Rattle.t4t_tag.specs.Store.{IsT4Store, file_size}
+use Rattle.t4t_tag.specs.Store.{IsT4Store}
 use Rattle.t4t_tag.specs.declared.command.T4Command.TheVariants.{SelectFile, ReadBinary}
 use Rattle.t4t_tag.specs.Step.{done}
 use Rattle.tlv_area.specs.declared.container.ContainerFault.{ContainerFault}
@@ -45,9 +45,6 @@ head_due ToWrite size store n low due = (due, low)
 leads_to : (aim : Aim) (size n : ℕ) (a b : LinkView) → Reached aim size a b n → (b.step ≡ a.step) × (b.kind ≡ a.kind)
 leads_to aim size zero a b here = (ap (λ v. v.step) here, ap (λ v. v.kind) here)
 leads_to aim size (suc n) a b asks = (asks.stays.leads.step, asks.stays.leads.kind)
-
-pub under_kind : {aim : Aim} (size n : ℕ) (a b : LinkView) → IsUnder aim size a b n → b.kind ≡ Type4
-under_kind size n a b u = (leads_to _ size n a b u.reached).1 ∙ u.tag.kind
 
 -- a tag's code is one that a tag may have
 pub tag_store : (size : ℕ) (a : LinkView) (is : IsTag T4 size a) → IsT4Store is.steps.0 (container_in a.state.store) (file_in a.state.store)
@@ -187,18 +184,6 @@ opens_file size a b head map' u brought is = record { under = u; names = named_b
 -- the file that is selected is the one that the container names
 pub selected_file : (a : LinkView) (map' : FileMap) → NamesFile a.state.store map' → SelectFile map'.id ≡ file_command a.state.store 3
 selected_file a map' names = ap (λ m. SelectFile m.id) (named (container_in a.state.store) map' names).file
-
--- the file has room for the length
-pub file_room : (size : ℕ) (a : LinkView) (is : IsTag T4 size a) (map' : FileMap) → NamesFile a.state.store map' → (length (file_in a.state.store) ≡ map'.size) × (2 ≤ map'.size) × (map'.size ≤ 0x7FFF)
-file_room size a is map' names =
-    let facts = named (container_in a.state.store) map' names in
-    let same : map'.size ≡ file_size (container_in a.state.store) = ap (λ m. m.size) facts.file in
-    (is.store.1.whole ∙ sym same, omega (arith, same, facts.least), omega (arith, same, is.store.1.size))
-
-pub length_long : (size : ℕ) (a : LinkView) (is : IsTag T4 size a) (map' : FileMap) → NamesFile a.state.store map' → (bytes : List ℕ) → bytes ≡ content_at a.state.store 4 → length bytes ≡ 2
-length_long size a is map' names bytes brought =
-    let room = file_room size a is map' names in
-    ap length brought ∙ length-take-le 2 (file_in a.state.store) (omega (arith, room.0, room.1))
 
 front_length : (file : List ℕ) → message_length (take 2 file) ≡ message_length file
 front_length [] = refl

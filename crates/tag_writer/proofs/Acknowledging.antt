@@ -14,9 +14,8 @@ use Rattle.tag_reader.specs.SurveyHeard.{IsLeftBy}
 use Rattle.tag_reader.proofs.Links.{began, began_by}
 use Rattle.tag_writer.specs.declared.fault.WriteFault.{WriteFault}
 use Rattle.tag_writer.specs.declared.fault.WriteFault.TheVariants as fault
-use Rattle.tag_writer.specs.declared.phase.Stopped.{Stopped}
 use Rattle.tag_writer.specs.WriteAsked.{refusal_in}
-use Rattle.tag_writer.specs.WriteHeard.{Acknowledges, IsOddAnswer, AreAcknowledgedBy, AreAcknowledged, IsAnsweredBy, IsUnanswered, IsWhy, StopsAmong, TellsWrites}
+use Rattle.tag_writer.specs.WriteHeard.{Acknowledges, IsOddAnswer, AreAcknowledgedBy, AreAcknowledged, IsAnsweredBy, IsUnanswered, IsWhy, StopsAmong}
 use Rattle.tag_writer.specs.Puttings.{of_link, IsAnswerOf, AnswersAs, Answers, Puts, AnswerTells, PutTells}
 use Rattle.tag_writer.specs.Commands.{command_at}
 use Rattle.tag_writer.proofs.Commanding.{HasCommand}
@@ -28,14 +27,6 @@ by_append how step s (c ∷ cs) ds x y = (x.0, x.1, x.2, by_append how step (ste
 
 by_left : (how : How) (a b : LinkView) (cs ds : List Signal) → IsLeftBy a b cs → AreAcknowledgedBy how b.step b.state ds → AreAcknowledgedBy how a.step (after_all a.step a.state cs) ds
 by_left how a b cs ds l y = subst (λ s. AreAcknowledgedBy how a.step s ds) l.state (subst (λ st. AreAcknowledgedBy how st b.state ds) l.step y)
-
-pub none_yet : (how : How) (a : LinkView) → AreAcknowledged how a a []
-none_yet how a = record {
-  by = tt;
-  answered = sym (append-nil a.answered);
-  left = record { kind = refl; identifier = refl; step = refl; state = refl };
-  link = inl (refl, refl);
-}
 
 state_on : (a b : LinkView) (cs ds : List Signal) → IsLeftBy a b cs → after_all b.step b.state ds ≡ after_all a.step a.state (cs ++ ds)
 state_on a b cs ds l = ap (λ st. after_all st b.state ds) l.step ∙ ap (λ s. after_all a.step s ds) l.state ∙ sym (after_append a.step a.state cs ds)
@@ -142,11 +133,6 @@ stops_at_command how a b c cs k e h x rises why = record {
   by = x.by;
   why = subst (λ f. IsWhy how a c f (command_at cs k) e) (append-nil (take k cs)) (why_behind how a b c (take k cs) [] (command_at cs k) e x rises why);
 }
-
--- what a phase tells behind others
-pub tells_behind : {A : Type 0} (how : How) (a b c : LinkView) (cs ds : List Signal) (r : Result A Stopped) → AreAcknowledged how a b cs → Rises a b → TellsWrites how b c ds r → TellsWrites how a c (cs ++ ds) r
-tells_behind how a b c cs ds (Ok x) acked rises tells = acknowledged_on how a b c cs ds acked tells
-tells_behind how a b c cs ds (Err s) acked rises tells = stops_behind how a b c cs ds s.cause acked rises tells
 
 -- one write
 module _ (how : How) (a b : LinkView) (c r : Signal) (obeys : Obeys a b c) (rises : Rises a b) (last : a.over ≡ None → b.last ≡ Some c) (answer : IsAnswer a b c r) where

@@ -3,12 +3,9 @@ use Rattle.std.proofs.Common.{◌≡◌, ◌≢◌, slice_index, ◌<◌, ℕ, z
 use Rattle.std.specs.List.{AllByRecursion, flat_map}
 use Rattle.std.proofs.lemmas.List.{length-append, map-append, take-map}
 use Rattle.t5t_tag.proofs.Stores.{size_of_block}
-use Rattle.tlv_area.specs.declared.space.Space.{Space}
 use Rattle.tlv_area.specs.declared.space.AreaMap.{AreaMap}
 use Rattle.tlv_area.specs.declared.step.Step.{Step}
 use Rattle.tlv_area.specs.declared.step.Plan.{Plan}
-use Rattle.tlv_area.specs.declared.container.ContainerFault.{ContainerFault}
-use Rattle.tlv_area.specs.Containers.{first_fault, unless, t2_faults, t2_space, t2_container}
 use Rattle.tlv_area.specs.Layout.{Tlv, bytes_at, spelling}
 use Rattle.tlv_area.specs.Map.{IsMap, map_cells}
 use Rattle.tlv_area.specs.Stores.{four_bytes}
@@ -31,6 +28,7 @@ use Rattle.tag_writer.specs.Phases.{WriteJob, Serves, plan_parts}
 use Rattle.tag_writer.proofs.Counting.{first_of_span, blocks_twice, blocks_once, blocks_other}
 use Rattle.tag_writer.proofs.Jobs.{all_front, all_rest}
 use Rattle.tag_writer.proofs.Touching.{blocks_inside, all_both}
+use Rattle.tlv_area.proofs.StoreForms.{t2_start}
 
 -- blocks that are put are the steps
 put_step : (how : How) (size : ℕ) (store : List ℕ) (s : Step) → length s.content.items ≡ block_size how size → put_into store (block_put how size s) ≡ after_step (block_size how size) store s
@@ -60,14 +58,6 @@ block_ok : (how : How) (size least : ℕ) (store : List ℕ) (ss : List Step) �
     AllByRecursion (IsBlockPut how size least store) (block_puts how size ss)
 block_ok how size least store [] all low = tt
 block_ok how size least store (s ∷ ss) all low = (record { step = s; put = refl; behind = low.0; content = all.0.content; within = all.0.room }, block_ok how size least store ss all.1 low.1)
-
--- the area of a Type 2 tag begins behind its container
-t2_start : (b : List ℕ) (space : Space) → t2_container b ≡ Ok space → space.start ≡ 16
-t2_start b space is = by_fault (first_fault (t2_faults b)) is
-  where
-    by_fault : (o : Option ContainerFault) → unless o (t2_space b) ≡ Ok space → space.start ≡ 16
-    by_fault (Some f) e = cc
-    by_fault None e = let same : t2_space b ≡ space = cc in sym (ap (λ s. s.start) same)
 
 -- how many addresses there are behind the type byte
 pub room_is : (m : AreaMap) (memory : List ℕ) (ts : List Tlv) (t : Tlv) (after : List ℕ) → IsMap memory m ts t after → map_room m ≡ 1 + length (message_tail t.at after)

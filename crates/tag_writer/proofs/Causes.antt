@@ -1,5 +1,5 @@
 -- The faults of a survey, and of planning, as those of a write.
-use Rattle.std.proofs.Common.{◌≡◌, inl, inr, ℕ, List, true, None, refl, ap}
+use Rattle.std.proofs.Common.{◌≡◌, inl, inr, ℕ, List, None, refl}
 use Rattle.nfc_base.specs.TagLinks.{LinkView}
 use Rattle.tag_reader.specs.declared.how.How.{How}
 use Rattle.tag_reader.specs.Calls.{HasSurveyed}
@@ -8,7 +8,7 @@ use Rattle.tag_reader.specs.declared.fault.ReadFault.TheVariants as read
 use Rattle.tag_reader.specs.Reading as reading
 use Rattle.tag_writer.specs.declared.fault.WriteFault.{WriteFault}
 use Rattle.tag_writer.specs.declared.fault.WriteFault.TheVariants as fault
-use Rattle.tag_writer.specs.Faults.{IsWriteFault, is_told, IsToldOrMemory}
+use Rattle.tag_writer.specs.Faults.{IsWriteFault, IsToldOrMemory}
 use Rattle.tag_writer.specs.Planning.{of_read, IsDeclined}
 
 pub read_cause : (how : How) (size : ℕ) (message : List ℕ) (a b : LinkView) (e : ReadFault) → HasSurveyed how size a.state.store a b → reading.IsReadFault how size a.state.store a b e → IsWriteFault how size message a b (of_read e)
@@ -25,38 +25,6 @@ read_cause how size message a b read.SixBad asked is = is
 read_cause how size message a b read.Memory asked (inl over) = inl (over, asked)
 read_cause how size message a b read.Memory asked (inr by) = inr by
 read_cause how size message a b read.Protocol asked is = is
-
-pub read_told : (e : ReadFault) → is_told (of_read e) ≡ true → reading.is_told e ≡ true
-read_told read.NotNdef t = refl
-read_told read.Version t = refl
-read_told read.NoRead t = refl
-read_told read.Sectors t = refl
-read_told read.BadSize t = refl
-read_told read.NoMessageTlv t = refl
-read_told read.BadTlv t = refl
-read_told (read.Refused code) t = refl
-read_told read.FieldLost t = absurd cc
-read_told read.SixBad t = absurd cc
-read_told read.Memory t = absurd cc
-read_told read.Protocol t = absurd cc
-
-told_read : (e : ReadFault) → reading.is_told e ≡ true → is_told (of_read e) ≡ true
-told_read read.NotNdef t = refl
-told_read read.Version t = refl
-told_read read.NoRead t = refl
-told_read read.Sectors t = refl
-told_read read.BadSize t = refl
-told_read read.NoMessageTlv t = refl
-told_read read.BadTlv t = refl
-told_read (read.Refused code) t = refl
-told_read read.FieldLost t = absurd cc
-told_read read.SixBad t = absurd cc
-told_read read.Memory t = absurd cc
-told_read read.Protocol t = absurd cc
-
-pub read_calm : (e : ReadFault) → reading.IsToldOrMemory e → IsToldOrMemory (of_read e)
-read_calm e (inl t) = inl (told_read e t)
-read_calm e (inr m) = inr (ap of_read m)
 
 pub declined_cause : (how : How) (size : ℕ) (message : List ℕ) (a b : LinkView) (e : WriteFault) → b.over ≡ None → HasSurveyed how size a.state.store a b → IsDeclined how size a.state.store message e → IsWriteFault how size message a b e
 declined_cause how size message a b fault.ReadOnly over asked is = is

@@ -1,11 +1,10 @@
 -- What a tag of blocks does at a write: it puts the bytes into its store, or refuses and changes nothing.
-use Rattle.std.proofs.Common.{◌≡◌, ℕ, ◌+◌, ◌*◌, ◌/◌, ◌%◌, inl, inr, Bool, true, false, not, nat_le, nat_lt, ◌==◌, if◌then◌else◌, List, ◌∷◌, ◌++◌, length, take, drop, Option, Some, None, refl, sym, ap, subst}
+use Rattle.std.proofs.Common.{◌≡◌, ℕ, ◌+◌, ◌*◌, ◌/◌, ◌%◌, inl, inr, Bool, true, false, not, nat_le, nat_lt, ◌==◌, if◌then◌else◌, List, ◌∷◌, ◌++◌, length, take, drop, Some, None, refl, sym, ap, subst}
 use Rattle.std.proofs.lemmas.Bool.{cases_Bool}
 use Rattle.nfc_base.specs.Signal.{Signal}
 use Rattle.nfc_base.specs.Blocks.{with_block}
 use Rattle.nfc_base.specs.TagLinks.{TagState, TagStep, MayAsk, Type2, Type5}
 use Rattle.t2t_tag.specs.Spelling.{answer_frame}
-use Rattle.t2t_tag.specs.declared.command.T2Command.{T2Command}
 use Rattle.t2t_tag.specs.declared.command.T2Command.TheVariants.{Write}
 use Rattle.t2t_tag.specs.declared.answer.T2Answer.TheVariants.{Done, Refused}
 use Rattle.t2t_tag.specs.Step.{is_writable, reply_frame, held_after}
@@ -14,7 +13,7 @@ use Rattle.t5t_tag.specs.Store.{IsT5Shape, T5State, block_count, is_locked}
 use Rattle.t5t_tag.specs.Spelling as t5
 use Rattle.t5t_tag.specs.declared.command.T5Command.TheVariants as t5_command
 use Rattle.t5t_tag.specs.Step as t5_step
-use Rattle.t5t_tag.specs.Step.{T5Turn, refuses, no_block, not_supported, block_locked, rewritten, write_turn, sent}
+use Rattle.t5t_tag.specs.Step.{T5Turn, refuses, no_block, not_supported, block_locked, write_turn, sent}
 use Rattle.t5t_tag.proofs.Steps.{write_turns, write_wide_turns}
 use Rattle.t5t_tag.proofs.Turns.{by_test, writes}
 use Rattle.tlv_area.specs.declared.step.Step.{Step}
@@ -34,10 +33,6 @@ pub record Does (how : How) (s : TagState) (p : Put) (t : TagStep) : Type 0 wher
 block_in : (size : ℕ) (s : TagState) (block : ℕ) (content : List ℕ) (c : Signal) → length content ≡ size →
     ◌≡◌ {A = TagState} (record s { store = with_block size s.store block content }) (record s { store = put_into s.store (record { at = size * block; bytes = content; command = c }) })
 block_in size s block content c long = ap (λ n. record s { store = take (size * block) s.store ++ content ++ drop (size * block + n) s.store }) (sym long)
-
--- a Type 2 tag
-t2_by : List Bool → TagState → Option T2Command → TagStep
-t2_by locked s o = record { answer = reply_frame (t2_memory locked s) o; after = record s { store = (held_after (t2_memory locked s) o).store } }
 
 t2_told : (locked : List Bool) (s : TagState) (block : ℕ) (content : List ℕ) (c : Signal) → length content ≡ 4 → (w : Bool) →
     Does T2 s (record { at = 4 * block; bytes = content; command = c }) (record {

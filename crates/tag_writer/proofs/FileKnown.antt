@@ -1,5 +1,5 @@
 -- What is known of a file before a message is planned.
-use Rattle.std.proofs.Common.{◌≡◌, ℕ, ◌-◌, ◌<◌, ◌≤◌, ◌==◌, min, nat_lt, not, true, false, List, length, refl, sym, ◌∙◌, ap, subst, arith}
+use Rattle.std.proofs.Common.{◌≡◌, ℕ, ◌-◌, ◌<◌, ◌≤◌, ◌==◌, min, nat_lt, not, true, List, length, refl, sym, ◌∙◌, ap, subst, arith}
 use Rattle.tlv_area.specs.declared.container.FileMap.{FileMap}
 use Rattle.tag_reader.specs.declared.how.How.{How}
 use Rattle.tag_reader.specs.declared.how.How.TheVariants.{T2, T4, T5}
@@ -9,7 +9,7 @@ use Rattle.tag_reader.specs.Survey.{IsKnownFile}
 use Rattle.tag_reader.proofs.Files.{Named, named}
 use Rattle.tag_writer.specs.declared.work.Work.TheVariants.{File}
 use Rattle.tag_writer.specs.Place.{IsFilePlace, file_place}
-use Rattle.tag_writer.specs.Outcome.{IsReadOnly, IsTooLong, IsShort}
+use Rattle.tag_writer.specs.Outcome.{IsTooLong, IsShort}
 use Rattle.tag_writer.specs.Planning.{IsPlannedFor}
 use Rattle.tag_writer.proofs.FileJobs.{IsRoomFor, file_job, file_serves}
 
@@ -20,9 +20,6 @@ file_there store message map' n k =
 
 room_is : (store message : List ℕ) (map' : FileMap) (n : ℕ) → IsKnownFile T4 store map' n → map'.size - 2 ≡ (file_place store message).room
 room_is store message map' n k = ap (λ m. m.size - 2) (named (container_in store) map' k.names).file
-
-pub file_read_only : (size : ℕ) (store message : List ℕ) (map' : FileMap) (n : ℕ) → IsKnownFile T4 store map' n → map'.writable ≡ false → IsReadOnly T4 size store message
-file_read_only size store message map' n k off = ((file_place store message, file_there store message map' n k), (map', k.names, sym off))
 
 pub file_too_long : (size : ℕ) (store message : List ℕ) (map' : FileMap) (n room : ℕ) → IsKnownFile T4 store map' n → map'.writable ≡ true → room ≡ map'.size - 2 → room < length message → IsTooLong T4 size store message room
 file_too_long size store message map' n room k free is long =

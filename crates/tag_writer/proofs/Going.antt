@@ -150,7 +150,7 @@ three_on j a b c puts d s o (New here) =
     }
 
 -- the last of the images is the store that is left
-last_passed : (step : TagState → Signal → TagStep) (s : TagState) (cs : List Signal) → last_store s.store (passed step s cs) ≡ (after_all step s cs).store
+pub last_passed : (step : TagState → Signal → TagStep) (s : TagState) (cs : List Signal) → last_store s.store (passed step s cs) ≡ (after_all step s cs).store
 last_passed step s [] = refl
 last_passed step s (c ∷ cs) = last_passed step (step s c).after cs
 

@@ -1,7 +1,7 @@
 -- The writes of a job behind a phase.
 use Rattle.std.proofs.Common.{◌≡◌, ℕ, ◌+◌, ◌<◌, List, [], ◌∷◌, ◌++◌, length, take, refl, sym, ◌∙◌, subst, append_assoc, append-nil}
 use Rattle.std.specs.List.{AllByRecursion}
-use Rattle.nfc_base.specs.TagLinks.{LinkView, MayAsk}
+use Rattle.nfc_base.specs.TagLinks.{LinkView}
 use Rattle.nfc_base.specs.Signal.{Signal}
 use Rattle.tag_reader.specs.declared.how.How.{How}
 use Rattle.tag_writer.specs.declared.phase.Phase.{Phase}
@@ -62,11 +62,6 @@ pub can_at : (phase : Phase) (j : WriteJob) (work : Work) (a b : LinkView) (k : 
 can_at phase j work a b k at h m =
     let under = under_makes j.how j.size j.store a b (take k (next_at phase j)) (under_at phase j work a at) (front_at phase j k at.serves h) m in
     can_do j.how j.size j.store b h.p under.tag under.near under.like (put_at phase j k at.serves h)
-
-pub may_at : (phase : Phase) (j : WriteJob) (work : Work) (a b : LinkView) (k : ℕ) (c : Signal) → IsAt phase j work a → k < length (next_at phase j) → Makes j.how a (take k (next_at phase j)) b → c ≡ signal_at (next_at phase j) k → MayAsk b.kind b.identifier c
-may_at phase j work a b k c at low m e =
-    let h = nth_at phase j k low in
-    subst (λ f. MayAsk b.kind b.identifier f) (sym (e ∙ h.signal)) (can_at phase j work a b k at h m).may
 
 pub answers_at : (phase : Phase) (j : WriteJob) (work : Work) (a b : LinkView) (k : ℕ) (c : Signal) (how : How) → IsAt phase j work a → k < length (next_at phase j) → Makes j.how a (take k (next_at phase j)) b → c ≡ signal_at (next_at phase j) k → how ≡ j.how → AnswersAs how (b.step b.state c).answer
 answers_at phase j work a b k c how at low m e kind =

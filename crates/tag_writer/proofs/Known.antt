@@ -1,7 +1,6 @@
 -- What is known of an area before a message is planned.
-use Rattle.std.proofs.Common.{◌≡◌, ℕ, ◌*◌, ◌<◌, ◌≤◌, Bool, true, false, List, ◌++◌, length, take, drop, refl, sym, ◌∙◌, ap, subst, arith}
-use Rattle.std.proofs.lemmas.List.{length-take, take-append-drop}
-use Rattle.t5t_tag.proofs.Stores.{size_of_block}
+use Rattle.std.proofs.Common.{◌≡◌, ℕ, ◌*◌, ◌<◌, ◌≤◌, Bool, true, false, List, ◌++◌, length, take, drop, refl, sym, ◌∙◌, ap, subst}
+use Rattle.std.proofs.lemmas.List.{take-append-drop}
 use Rattle.tlv_area.specs.declared.space.AreaMap.{AreaMap}
 use Rattle.tlv_area.specs.declared.step.Plan.{Plan}
 use Rattle.tlv_area.specs.Map.{IsMap}
@@ -19,23 +18,10 @@ use Rattle.tag_writer.specs.Outcome.{IsReadOnly, IsTooLong}
 use Rattle.tag_writer.specs.Planning.{IsPlannedFor}
 use Rattle.tag_writer.proofs.AreaJobs.{IsPlanned, job, serves, room_is}
 
-short_front : (known store : List ℕ) → known ≡ take (length known) store → length known ≤ length store
-short_front known store e = omega (arith, ap length e ∙ length-take (length known) store)
-
 pub record HasBlock (block end : ℕ) : Type 0 where
   pub some : 0 < block
   pub small : block ≤ 32
   pub end' : end ≤ 65536 * block
-
-pub block_facts : (how : How) (size : ℕ) (store known : List ℕ) (block : ℕ) (m : AreaMap) → IsStore how size store → IsKnownArea how size store known block m → HasBlock block m.space.end
-block_facts T2 size store known block m is k =
-    let low = short_front known store k.front in
-    record { some = omega (arith, k.size'); small = omega (arith, k.size'); end' = omega (arith, k.size', k.whole, low, is.1.most) }
-block_facts T4 size store known block m is k = absurd (let off = k.area in cc)
-block_facts (T5 id) size store known block m is k =
-    let low = short_front known store k.front in
-    let sized = size_of_block size is.sized in
-    record { some = omega (arith, k.size', sized.2); small = omega (arith, k.size', sized.0); end' = omega (arith, k.size', k.whole, low, is.most, sized.2) }
 
 joined : (known store : List ℕ) → known ≡ take (length known) store → known ++ drop (length known) store ≡ store
 joined known store e = ap (λ xs. xs ++ drop (length known) store) e ∙ take-append-drop (length known) store

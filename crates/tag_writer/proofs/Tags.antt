@@ -12,7 +12,7 @@ use Rattle.tag_reader.specs.Kinds.{IsTag, IsStore}
 use Rattle.tag_reader.specs.Files.{container_end, t4_link_step}
 use Rattle.tag_reader.proofs.FileReading.{tag_store}
 use Rattle.tag_writer.specs.Puts.{Put, put_into, after_puts, block_put, block_command, update_put}
-use Rattle.tag_writer.specs.Puttings.{IsPutOf, IsBlockPut, IsUpdatePut, Accepts, Makes}
+use Rattle.tag_writer.specs.Puttings.{IsPutOf, IsUpdatePut, Accepts, Makes}
 use Rattle.tag_writer.specs.Phases.{IsNear}
 use Rattle.tag_writer.proofs.Places.{length_put, front_put}
 use Rattle.tag_writer.proofs.Doing.{Does, t2_does, t2_may, t5_does, t5_may}
@@ -54,12 +54,6 @@ t2_still s p behind within is =
       most = omega (arith, count, is.most);
       area = λ has small. (let room = is.area (sym magic ∙ has) (omega (arith, area, small)) in omega (arith, count, area, room));
     }
-
-block_at : (how : How) (size least : ℕ) (base : List ℕ) (p : Put) → (b : IsBlockPut how size least base p) → p ≡ block_put how size b.step
-block_at how size least base p b = b.put
-
-like_block : (s base : List ℕ) (n : ℕ) → length s ≡ length base → n ≤ length base → n ≤ length s
-like_block s base n same low = omega (arith, same, low)
 
 pub like_put : (how : How) (size : ℕ) (base s : List ℕ) (p : Put) → IsPutOf how size base p → IsLike how size base s → IsLike how size base (put_into s p)
 like_put T2 size base s p is like =

@@ -6,24 +6,17 @@ use Rattle.std.proofs.lemmas.List.{length-append, length-map, take_at, drop_at, 
 use Rattle.std.proofs.lemmas.List.Folds.{list_all-append}
 use Rattle.std.proofs.lemmas.Bool.{and_parts, ltb-true}
 use Rattle.tlv_area.specs.declared.space.AreaMap.{AreaMap}
-use Rattle.tlv_area.specs.Layout.{is_known, bytes_at, Tlv, LiesIn, spelling, length_bytes, after_kind, reserved_by}
+use Rattle.tlv_area.specs.Layout.{is_known, bytes_at, Tlv, length_bytes, after_kind, reserved_by}
 use Rattle.tlv_area.specs.Map.{in_ranges, IsMap, IsPlacedIn, map_cells, message_place, message_cells}
 use Rattle.tlv_area.specs.Tail.{map_tail, message_tail}
 use Rattle.tlv_area.proofs.Trails.{free_agree}
+use Rattle.tlv_area.proofs.OneForm.{nonempty}
 
 -- the area's free addresses, by the map
 pub map_parts : (m : AreaMap) (memory : List ℕ) (ts : List Tlv) (t : Tlv) (after : List ℕ) → IsMap memory m ts t after →
     flat_map (λ u. u.at) ts ++ (t.at ++ after) ≡ map_cells m
 map_parts m memory ts t after is = is.layout.addresses
     ∙ sym (free_agree (in_ranges m.reserved.items) (reserved_by m.space.control ts) m.space.start m.space.end (λ a _. is.ranges a))
-
--- a TLV has a first byte
-nonempty : (memory : List ℕ) (t : Tlv) → LiesIn memory t → (x : ℕ) × (front : List ℕ) × (t.at ≡ x ∷ front)
-nonempty memory t lies = first t.at lies.bytes
-  where
-    first : (cells : List ℕ) → bytes_at memory cells ≡ spelling t → (x : ℕ) × (front : List ℕ) × (cells ≡ x ∷ front)
-    first [] e = cc
-    first (x ∷ front) e = (x, front, refl)
 
 -- what lies behind one address more than a list has
 pub drop_past : (front : List ℕ) (x : ℕ) (tail : List ℕ) (n : ℕ) → n ≡ length front → drop (n + 1) (front ++ x ∷ tail) ≡ tail

@@ -12,10 +12,7 @@ use Rattle.tlv_area.specs.Writing.{is_in, IsPut}
 use Rattle.tlv_area.proofs.Runs.{row_bytes}
 use Rattle.tlv_area.proofs.Holding.{in_above}
 use Rattle.tlv_area.proofs.OneForm.{range_above}
-
-or_false : (x y : Bool) → (x || y) ≡ false → (x ≡ false) × (y ≡ false)
-or_false true y e = cc
-or_false false y e = (refl, e)
+use Rattle.tlv_area.proofs.Stepping.{or_false}
 
 -- addresses in a row
 in_row : (at k a : ℕ) → at ≤ a → a < at + k → is_in (range_with_len at k) a ≡ true

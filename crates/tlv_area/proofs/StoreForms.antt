@@ -14,7 +14,7 @@ use Rattle.tlv_area.specs.Tail.{span}
 use Rattle.tlv_area.specs.Writing.{is_in, SameOutside, image, after_steps, steps_of, PlanKeeps, KeepsKind}
 
 -- the area of a Type 2 tag begins behind its container
-t2_start : (b : List ℕ) (space : Space) → t2_container b ≡ Ok space → space.start ≡ 16
+pub t2_start : (b : List ℕ) (space : Space) → t2_container b ≡ Ok space → space.start ≡ 16
 t2_start b space is = by_fault (first_fault (t2_faults b)) is
   where
     by_fault : (o : Option ContainerFault) → unless o (t2_space b) ≡ Ok space → space.start ≡ 16

@@ -1,12 +1,10 @@
 -- Which lines are audited is decided by the lines alone: one more line is where it is in the state that those before it lead to.
-use Rattle.std.proofs.Common.{◌≡◌, ℕ, ◌+◌, List, [], ◌∷◌, ◌++◌, length, refl, sym, ◌∙◌, subst}
+use Rattle.std.proofs.Common.{◌≡◌, ℕ, ◌+◌, List, [], ◌∷◌, ◌++◌, length, refl, sym, ◌∙◌}
 use Rattle.bench_script.specs.declared.command.Command.{Command}
 use Rattle.bench_script.specs.declared.command.Command.TheVariants.{Raw}
 use Rattle.bench_script.specs.Script.{Spells}
-use Rattle.bench_script.proofs.Spelling.{spells_one}
 use Rattle.bench_devices.specs.AnyFrame.{peers_in}
 use Rattle.bench_world.specs.declared.entry.Entry.{Entry}
-use Rattle.bench_world.specs.Following.{MayFollow}
 use Rattle.bench_world.specs.Journal.{LeadsTo}
 use Rattle.bench_world.specs.Legal.{Accepts, Joins, State, changed, first_state}
 use Rattle.bench_world.specs.Showing.{MayShow}
@@ -61,11 +59,3 @@ module _ (ls : List (List ℕ)) (numbers : List Joins) (journal : List Entry) (s
     audited = audited;
     refused = λ is. none (is.0, is.1, (standing.accepts is.0 is.2.0, show_too (standing_of commands) s is.0 standing.peers is.2.1));
   }
-
--- why a line isn't audited: it spells nothing, ...
-pub spells_none : (s : State) (l : List ℕ) → ((c : Command) → Spells l c → ⊥) → IsAudited s l → ⊥
-spells_none s l none is = none is.0 is.1
-
--- ... or a command that isn't accepted, or whose numbers need not show
-pub refuses : (s : State) (l : List ℕ) (c : Command) → Spells l c → (MayFollow s c → ⊥) → IsAudited s l → ⊥
-refuses s l c spelled none is = none (subst (MayFollow s) (spells_one l is.0 c is.1 spelled) is.2)

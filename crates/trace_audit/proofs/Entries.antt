@@ -56,7 +56,7 @@ asking_more n (l ∷ ls) ks =
 pub asking_first : (n : ℕ) (l : List ℕ) (ls : List (List ℕ)) → is_skipped l ≡ false → asking_lines n (l ∷ ls) ≡ record { number = n; text = l } ∷ asking_lines (n + 1) ls
 asking_first n l ls asks = ap (λ v. if v then asking_lines (n + 1) ls else record { number = n; text = l } ∷ asking_lines (n + 1) ls) asks
 
-entries_more : (ls ks : List NumberedLine) (es ds : List Entry) → AreEntriesOf ls es → AreEntriesOf ks ds → AreEntriesOf (ls ++ ks) (es ++ ds)
+pub entries_more : (ls ks : List NumberedLine) (es ds : List Entry) → AreEntriesOf ls es → AreEntriesOf ks ds → AreEntriesOf (ls ++ ks) (es ++ ds)
 entries_more [] ks [] ds p q = q
 entries_more [] ks (e ∷ es) ds p q = absurd p
 entries_more (l ∷ ls) ks [] ds p q = absurd p

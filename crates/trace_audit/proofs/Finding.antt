@@ -1,6 +1,6 @@
 -- What stands in the text of an event, and where it is cut.
 use Rattle.std.proofs.Common.{◌≡◌, ◌≢◌, ℕ, zero, suc, ◌+◌, ◌-◌, ◌*◌, ◌/◌, ◌%◌, ◌<◌, ◌≤◌, ◌^◌, List, [], ◌∷◌, ◌++◌, length, append_assoc, take, drop, get_or, Bool, true, false, ◌==◌, refl, sym, ◌∙◌, ap, subst, arith, Ok, Some, None}
-use Rattle.std.specs.Prelude.{codes, if◌then◌else◌, ◌&&◌, ltb, Result, MatchResult, Err}
+use Rattle.std.specs.Prelude.{codes, if◌then◌else◌, Result, MatchResult, Err}
 use Rattle.std.specs.List.{All}
 use Rattle.std.specs.Fmt.{decimal}
 use Rattle.std.proofs.lemmas.Bool.{ne_eqb}
@@ -17,22 +17,18 @@ use Rattle.nfc_base.specs.declared.frame.Tech.{Tech}
 use Rattle.nfc_base.specs.declared.event.Event.{Event}
 use Rattle.nfc_base.specs.declared.event.Event.TheVariants.{Reset, Request, Answer, Clash}
 use Rattle.nfc_base.specs.declared.event.Fate.{Fate}
-use Rattle.nfc_base.specs.declared.event.Fate.TheVariants.{Pass, Damage, Lose, Break}
 use Rattle.bench_script.specs.Script.{tail_text}
 use Rattle.bench_script.specs.Canonical.{hex_text, frame_text}
 use Rattle.bench_script.proofs.Frames.{first, cut, tail_begins, tail_is}
 use Rattle.bench_world.specs.Report.{fate_text, event_text}
 use Rattle.trace_audit.specs.Finding.{Finds, IsDigitsOf, IsWordOf, IsSentOf, IsTextOf, IsLineOf}
+use Rattle.bench_world.proofs.ReadBack.{all_above}
 
 -- digits stand above the signs, and so does no byte of these texts meet one
 decimal_above : (n : ℕ) → n < 2 ^ 32 → All (λ b. 47 < b) (decimal n)
 decimal_above n small =
     let digits = (decimal_is_IsNumeral n (omega arith)).0.1 in
     All-from_get_or (λ b. 47 < b) (decimal n) 0 (λ i within. let at = digit_at (decimal n) i digits within in omega arith)
-
-abbrev all_above : List ℕ → Bool
-all_above [] = true
-all_above (b ∷ bs) = ltb 47 b && all_above bs
 
 above : (w : List ℕ) → all_above w ≡ true → All (λ b. 47 < b) w
 above [] e = All-nil (λ b. 47 < b)
@@ -134,25 +130,6 @@ sent_parts tech text word name f x split none is =
     (sym split ∙ is.is ∙ append_assoc (frame_text f) (32 ∷ []) (fate_text x)) in
     (record { on_air = is.on_air; technology = is.technology; is = parts.0 }, ap (drop 1) parts.1)
 
--- a fate by its name
-pub fate_tells : (x y : Fate) → fate_text x ≡ fate_text y → x ≡ y
-fate_tells Pass Pass e = refl
-fate_tells Pass Damage e = absurd (omega (arith, ap first e))
-fate_tells Pass Lose e = absurd (omega (arith, ap first e))
-fate_tells Pass Break e = absurd (omega (arith, ap first e))
-fate_tells Damage Pass e = absurd (omega (arith, ap first e))
-fate_tells Damage Damage e = refl
-fate_tells Damage Lose e = absurd (omega (arith, ap first e))
-fate_tells Damage Break e = absurd (omega (arith, ap first e))
-fate_tells Lose Pass e = absurd (omega (arith, ap first e))
-fate_tells Lose Damage e = absurd (omega (arith, ap first e))
-fate_tells Lose Lose e = refl
-fate_tells Lose Break e = absurd (omega (arith, ap first e))
-fate_tells Break Pass e = absurd (omega (arith, ap first e))
-fate_tells Break Damage e = absurd (omega (arith, ap first e))
-fate_tells Break Lose e = absurd (omega (arith, ap first e))
-fate_tells Break Break e = refl
-
 one_some : (x y : Signal × Fate) → Some x ≡ Some y → x ≡ y
 one_some x y e = cc
 
@@ -211,14 +188,6 @@ line_parts tech text number said e split none is =
     let parts = cut 32 number (32 ∷ said) (decimal n) (32 ∷ (body ++ 10 ∷ [])) none (decimal_without 32 n (omega arith) is.small) refl refl
     (sym split ∙ is.is ∙ append_assoc (decimal n ++ 32 ∷ []) body (10 ∷ []) ∙ append_assoc (decimal n) (32 ∷ []) (body ++ 10 ∷ [])) in
     ap (drop 1) parts.1
-
--- what stands before the LF
-pub before_lf : (xs us : List ℕ) → xs ++ 10 ∷ [] ≡ us ++ 10 ∷ [] → xs ≡ us
-before_lf [] [] e = refl
-before_lf [] (u ∷ us) e = absurd (omega (arith, ap length e, length-append us (10 ∷ [])))
-before_lf (x ∷ xs) [] e = absurd (omega (arith, ap length e, length-append xs (10 ∷ [])))
-before_lf (x ∷ xs) (u ∷ us) e =
-    let head : x ≡ u = ap first e in ap (λ b. b ∷ xs) head ∙ ap (λ l. u ∷ l) (before_lf xs us (ap (drop 1) e))
 
 -- ... and what stands before the last byte
 pub front_of : (said body : List ℕ) → said ≡ body ++ 10 ∷ [] → take (length said - 1) said ≡ body

@@ -22,7 +22,7 @@ abbrev pub Stands : List (List ℕ) → List (List ℕ) → Benched → List ℕ
 Stands lines done bench report w = StandsBy w.strayed lines done bench report w.good w.left.now
 
 -- what obeying adds, where it asks for something
-adds_of : (old new : Benched) (n : ℕ) (c : Command) → Obeys old new n c → (c ≡ Skip → ⊥) → Adds old new n c
+pub adds_of : (old new : Benched) (n : ℕ) (c : Command) → Obeys old new n c → (c ≡ Skip → ⊥) → Adds old new n c
 adds_of old new n Skip p other = absurd (other refl)
 adds_of old new n c p other = p
 
@@ -146,11 +146,3 @@ audited_by true lines bench report good left s = (s.commands, s.audited)
 
 pub ends_audited : (lines : List (List ℕ)) (bench : Benched) (report : List ℕ) (w : Walk) → Stands lines lines bench report w → (commands : List Command) × AreAudited lines commands
 ends_audited lines bench report w stands = audited_by w.strayed lines bench report w.good w.left.now stands
-
--- The bench wants no memory.
-sound_by : (v : Bool) (lines done : List (List ℕ)) (bench : Benched) (report : List ℕ) (good : ℕ) (left : List ℕ) → StandsBy v lines done bench report good left → bench.spoiled ≡ false
-sound_by false lines done bench report good left w = w.sound
-sound_by true lines done bench report good left s = s.sound
-
-pub stands_sound : (lines done : List (List ℕ)) (bench : Benched) (report : List ℕ) (w : Walk) → Stands lines done bench report w → bench.spoiled ≡ false
-stands_sound lines done bench report w stands = sound_by w.strayed lines done bench report w.good w.left.now stands

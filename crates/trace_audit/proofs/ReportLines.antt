@@ -1,15 +1,14 @@
 -- The lines of a report: one of each event of an entry, and one of its answer.
 use Rattle.std.proofs.Common.{◌≡◌, ℕ, ◌+◌, List, [], ◌∷◌, ◌++◌, map, length, append_assoc, false, refl, sym, ◌∙◌, ap, arith}
 use Rattle.std.specs.List.{AllByRecursion, flat_map}
-use Rattle.std.proofs.lemmas.List.{length-append, length-map, append-nil}
+use Rattle.std.proofs.lemmas.List.{length-append, length-map}
 use Rattle.nfc_base.proofs.Leading.{all_append}
 use Rattle.nfc_base.specs.declared.event.Event.{Event}
-use Rattle.nfc_io.specs.Lines.{NoLf, joined, whole_lines}
+use Rattle.nfc_io.specs.Lines.{NoLf, joined}
 use Rattle.bench_world.specs.declared.entry.Answer.{Answer as Said}
 use Rattle.bench_world.specs.declared.entry.Entry.{Entry}
 use Rattle.bench_world.specs.Report.{answer_text, entry_text, event_text, events_text, line_text, report_text}
 use Rattle.trace_audit.proofs.CleanLines.{said, event_clean, answer_clean}
-use Rattle.trace_audit.proofs.FirstLines.{whole_joined}
 
 abbrev pub event_lines : ℕ → List Event → List (List ℕ)
 event_lines n es = map (λ e. said n (event_text e)) es
@@ -58,7 +57,3 @@ report_clean (j ∷ js) = all_append NoLf (entry_lines j) (report_lines js) (ent
 pub entry_count : (e : Entry) → length (entry_lines e) ≡ length e.events + 1
 entry_count e =
     omega (arith, length-append (event_lines e.line e.events) (answer_line e.line e.answer), length-map e.events (λ x. said e.line (event_text x)))
-
-pub lines_counted : (ls : List (List ℕ)) → AllByRecursion NoLf ls → length (whole_lines (joined ls)) ≡ length ls
-lines_counted ls clean =
-    ap (λ x. length (whole_lines x)) (sym (append-nil (joined ls))) ∙ ap length (whole_joined ls [] clean) ∙ ap length (append-nil ls)

@@ -132,12 +132,6 @@ air_behind (Request f x) es air = air.1
 air_behind (Answer f x) es air = air.1
 air_behind (Clash f x) es air = air.1
 
-pub air_before : (x : Event) (es : List Event) → AreOnAir (x ∷ []) → AreOnAir es → AreOnAir (x ∷ es)
-air_before Reset es one air = air
-air_before (Request f x) es one air = (one.0, air)
-air_before (Answer f x) es one air = (one.0, air)
-air_before (Clash f x) es one air = (one.0, air)
-
 -- the first of some events have the technologies too, and the air
 pub tech_front : (c : Command) (t : Tech) (xs ys : List Event) → HaveTech c t (xs ++ ys) → HaveTech c t xs
 tech_front c t [] ys p = tt

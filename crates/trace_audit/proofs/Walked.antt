@@ -202,7 +202,3 @@ walk_ends lines bench report at w = record {
   on_air = w.on_air;
   is = w.read ∙ append-nil (report_text false bench.journal);
 }
-
--- so it is a good text
-pub good_report : (lines : List (List ℕ)) (report : List ℕ) (bench : Benched) → IsReportOf lines report bench → IsGoodText lines report
-good_report lines report bench r = record { journal = bench.journal; legal = record { numbers = r.numbers; last = bench.state; leads = r.leads }; on_air = r.on_air; is = r.is }

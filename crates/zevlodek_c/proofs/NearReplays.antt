@@ -1,5 +1,5 @@
 -- A near end behind the calls and the replies of a log, call by call.
-use Rattle.std.proofs.Common.{◌≡◌, ℕ, ◌==◌, if◌then◌else◌, List, [], length, Bool, true, false, Option, Some, None, Result, Ok, Err, ap, ◌∙◌, refl, arith}
+use Rattle.std.proofs.Common.{◌≡◌, ℕ, ◌==◌, if◌then◌else◌, List, [], length, Bool, true, false, Option, Some, None, Result, Ok, Err, ap, ◌∙◌, refl}
 use Rattle.snep_core.specs.declared.fault.SnepFault.{SnepFault}
 use Rattle.snep_core.specs.Talk.{EndState, Step, Working, payload}
 use Rattle.zevlodek_c.specs.declared.far.LogFar.{LogFar}
@@ -10,11 +10,8 @@ use Rattle.zevlodek_c.specs.Near.{NearCall, NearNow, Rests, Under, Came, asked_n
 use Rattle.zevlodek_c.specs.NearReplaying.{IsNearReplay, IsObeyed, IsStanding, IsStopped, Obeys, Reaches, StandsSo, now_of, stand_of, stopped_by}
 use Rattle.zevlodek_c.proofs.Chains.{IsLeft, left_behind, none_begins, nothing_left}
 use Rattle.zevlodek_c.proofs.EntryLogs.{less_entry, none_takes, one_entry}
-use Rattle.zevlodek_c.proofs.NearWalks.{one_on, onward}
+use Rattle.zevlodek_c.proofs.NearWalks.{one_on, onward, is_kind}
 use Rattle.zevlodek_c.proofs.Spelled.{no_bytes}
-
-is_kind : (n m : ℕ) → (n == m) ≡ true → n ≡ m
-is_kind n m h = grind arith
 
 no_call_so : (content : List ℕ) (kind : ℕ) → kind ≡ 4 → call_of (record { kind = kind; content = content }) ≡ None
 no_call_so content kind e = ap (λ (k : ℕ). call_of (record { kind = k; content = content })) e

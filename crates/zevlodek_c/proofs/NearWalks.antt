@@ -160,7 +160,7 @@ cut seen swaps w link now mid g e new fresh (inr (inr u)) = record {
   fault = ap is_cut u.fault;
 }
 
-is_kind : (n m : ℕ) → (n == m) ≡ true → n ≡ m
+pub is_kind : (n m : ℕ) → (n == m) ≡ true → n ≡ m
 is_kind n m h = grind arith
 
 is_short : (n m : ℕ) → nat_le n m ≡ true → n ≤ m

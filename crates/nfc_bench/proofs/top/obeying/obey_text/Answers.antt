@@ -4,8 +4,9 @@ use Rattle.bench_script.specs.Script.{Spells}
 use Rattle.bench_world.specs.Obeying.{Benched, Adds, LacksMemory, Obeys, Spoils}
 use Rattle.bench_world.specs.declared.bench.ObeyFault.TheVariants.{Memory}
 use Rattle.nfc_bench.specs.Stops.{Lost}
-use Rattle.nfc_bench.proofs.Journals.{follows_skipped, follows_entry, asks_something, adds_of}
+use Rattle.nfc_bench.proofs.Journals.{follows_skipped, follows_entry, asks_something}
 use Rattle.nfc_bench.proofs.top.obeying.obey_text.Goals as goal
+use Rattle.trace_audit.proofs.LineSteps.{adds_of}
 
 -- where memory is wanting
 lost_by : (old new : Benched) (l : List ℕ) (c : Command) → Spells l c → LacksMemory old new c → (v : Bool) → old.spoiled ≡ v → Lost old new l
