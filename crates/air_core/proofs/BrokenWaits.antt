@@ -12,8 +12,8 @@ use Rattle.nfc_base.specs.Signal.{Signal}
 use Rattle.nfc_base.specs.Trace.{back_of, heard_by, is_bad_in_wait, breaks}
 use Rattle.air_core.specs.World.{Machine, World, reset_by, requested, quiet_air}
 use Rattle.air_core.specs.Conversation.{AirModel, Moment, Going, Note, Lit, Got, Lost, note, LightUp, Asks, receptions, EachDue, replay}
-use Rattle.air_core.specs.Turning.{receptions-append}
-use Rattle.air_core.specs.Waiting.{stand_on}
+use Rattle.air_core.specs.laws.Turning.{receptions-append}
+use Rattle.air_core.specs.laws.Waiting.{stand_on}
 use Rattle.air_core.specs.Waits.{Standing, Asking, Broken, Astray, stand, due_at, waits_next}
 use Rattle.air_core.proofs.LostField.{HasLost}
 

@@ -10,8 +10,8 @@ use Rattle.air_core.specs.World.{Machine}
 use Rattle.air_core.specs.Turn.{Air, TurnIs, Transmits}
 use Rattle.air_core.specs.Conversation.{Note, Got, Lost, Asks}
 use Rattle.air_core.specs.Waits.{Standing, Asking, Broken, stand, due_at, waits_next}
-use Rattle.air_core.specs.Waiting.{stand_on}
-use Rattle.air_core.specs.PlainWaits.{after_bad}
+use Rattle.air_core.specs.laws.Waiting.{stand_on}
+use Rattle.air_core.specs.private.PlainWaits.{after_bad}
 use Rattle.air_core.specs.Speaking.{Speaks}
 use Rattle.air_core.specs.FirstAnswers.{TellsFirst, BadTurns, EndsWait, AsksFirst, TellsWait}
 use Rattle.air_core.specs.declared.fault.AirFault.TheVariants as air

@@ -9,7 +9,7 @@ use Rattle.nfc_base.specs.declared.event.Fate.{Fate}
 use Rattle.nfc_base.specs.declared.event.Fate.TheVariants.{Pass, Damage, Lose, Break}
 use Rattle.air_core.specs.Joint.{Joint, Nothing, Single, Clashing}
 use Rattle.air_core.specs.Conversation.{AirModel, Note, note, Next, Over, LightUp, Asks, IsDemand, EachDue, joint_events, joint_back, replay, turn_events, turn_heard, Move, Light, Ask, trace_of, Moment, Going, receptions}
-use Rattle.air_core.specs.Turning.{due_weaker}
+use Rattle.air_core.specs.laws.Turning.{due_weaker}
 
 pub no_demand : (n : Next) → n ≡ Over → IsDemand n → ⊥
 no_demand n e d = subst IsDemand e d

@@ -8,7 +8,7 @@ use Rattle.air_core.specs.Joint.{Joint, joint}
 use Rattle.air_core.specs.World.{Machine, hands_over, stepped_by}
 use Rattle.air_core.specs.Listening.{Stop}
 use Rattle.std.specs.List.{cons_option}
-use Rattle.air_core.specs.Joining.{joint_with}
+use Rattle.air_core.specs.private.Joining.{joint_with}
 use Rattle.air_core.specs.Turn.{Meets, HearAll, HearSome}
 use Rattle.air_core.specs.declared.answers.Answers.{Answers}
 

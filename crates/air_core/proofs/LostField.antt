@@ -10,7 +10,7 @@ use Rattle.nfc_base.specs.Trace.{breaks, noise, of_break, other_than_pass, heard
 use Rattle.air_core.specs.Joint.{Joint, Nothing, Single, Clashing}
 use Rattle.air_core.specs.World.{Machine, World, quiet_air, stepped}
 use Rattle.air_core.specs.Conversation.{Note, Lit, Got, Lost, note, Next, Moment, Going, replay, receptions, joint_events, joint_back, turn_events, turn_heard, Move, Light, Ask, trace_of}
-use Rattle.air_core.specs.Turning.{replay-append}
+use Rattle.air_core.specs.laws.Turning.{replay-append}
 use Rattle.air_core.proofs.Following.{trace_first, turn_known}
 
 -- whether a field is lit, by what is known since

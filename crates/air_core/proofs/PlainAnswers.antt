@@ -12,7 +12,7 @@ use Rattle.air_core.specs.Turn.{Air}
 use Rattle.air_core.specs.Waits.{Standing, Asking, Broken, stand}
 use Rattle.air_core.specs.PlainTags.{plain_kind, heard_times, tag_step, IsAlone, IsPlainTag, MayTell}
 use Rattle.air_core.specs.PlainLinks.{PlainSeen, at_place, counts_of, unanswered, StandsAt, answered_by_link, asked_on, plain_view, MayAskAt, IsPlainReady, PlainMoves}
-use Rattle.air_core.specs.PlainWaits.{after_bad, Waited, EndsBy, HasWaited}
+use Rattle.air_core.specs.private.PlainWaits.{after_bad, Waited, EndsBy, HasWaited}
 use Rattle.air_core.specs.declared.listener.Listener.{Ghosts}
 use Rattle.air_core.proofs.PlainAside.{Laws}
 use Rattle.air_core.proofs.PlainTurns.{asking_bad}

@@ -12,11 +12,11 @@ use Rattle.nfc_base.specs.TagLinks.{MayAsk}
 use Rattle.air_core.specs.World.{quiet_air}
 use Rattle.air_core.specs.Turn.{Air, moment, TurnIs, Transmits}
 use Rattle.air_core.specs.declared.fault.AirFault.TheVariants.{FieldLost, Memory}
-use Rattle.air_core.specs.Turning.{going_start}
+use Rattle.air_core.specs.laws.Turning.{going_start}
 use Rattle.air_core.specs.Waits.{waits_next}
 use Rattle.air_core.specs.PlainTags.{plain_kind, HasPlainTag, MayTell}
 use Rattle.air_core.specs.PlainLinks.{at_place, MayAskAt}
-use Rattle.air_core.specs.PlainWaits.{GoesOn, GoesFrom, Answered, Darkened, HasWaited}
+use Rattle.air_core.specs.private.PlainWaits.{GoesOn, GoesFrom, Answered, Darkened, HasWaited}
 use Rattle.air_core.specs.FirstAnswers.{EndsWait, AsksFirst}
 use Rattle.air_core.specs.declared.listener.Listener.{Ghosts}
 use Rattle.air_core.proofs.Quiet.{quiet_turn, quiet_goes_on}

@@ -21,7 +21,7 @@ use Rattle.air_core.specs.Quiet.{EachQuiet, QuietTurn}
 use Rattle.air_core.specs.Waits.{Asking, Broken, stand}
 use Rattle.air_core.specs.PlainTags.{heard_times, tag_step, IsAside, IsAlone, MayTell}
 use Rattle.air_core.specs.PlainLinks.{obeyed_in, answered_in, Follows, stores_after}
-use Rattle.air_core.specs.PlainWaits.{after_bad, times, Waited, GoesOn, Answered, Darkened}
+use Rattle.air_core.specs.private.PlainWaits.{after_bad, times, Waited, GoesOn, Answered, Darkened}
 use Rattle.air_core.specs.declared.listener.Listener.{Ghosts}
 use Rattle.air_core.proofs.FirstAnswers.{ByHeard}
 use Rattle.air_core.proofs.OneAir.{same_itself}

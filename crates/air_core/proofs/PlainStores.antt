@@ -9,7 +9,7 @@ use Rattle.nfc_base.proofs.Leading.{after_append, passed_append}
 use Rattle.air_core.specs.World.{World, stepped_by}
 use Rattle.air_core.specs.PlainTags.{heard_times, IsAlone}
 use Rattle.air_core.specs.PlainLinks.{at_place, Follows, stores_after}
-use Rattle.air_core.specs.PlainWaits.{times}
+use Rattle.air_core.specs.private.PlainWaits.{times}
 use Rattle.air_core.specs.declared.listener.Listener.{Ghosts}
 use Rattle.air_core.proofs.PlainAside.{Laws, alone_dark}
 use Rattle.air_core.proofs.PlainTagging.{IsSteady}

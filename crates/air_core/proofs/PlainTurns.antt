@@ -17,15 +17,15 @@ use Rattle.nfc_base.specs.Trace as backs
 use Rattle.air_core.specs.Joint.{Joint, Nothing, Single, joint, same_tech}
 use Rattle.air_core.specs.World.{World, answered_by, quiet_air}
 use Rattle.nfc_base.specs.TagLinks.{TagState, plain_state, after_all, passed}
-use Rattle.air_core.specs.Following.{last_passed, follows_on, stores_append}
+use Rattle.air_core.specs.laws.Following.{last_passed, follows_on, stores_append}
 use Rattle.air_core.specs.Conversation.{Moment, note, joint_events, joint_back, replay, turn_events, TurnsTo}
 use Rattle.air_core.specs.Turn.{Air, moment, world}
-use Rattle.air_core.specs.Turning.{going_turn, back_of-append}
+use Rattle.air_core.specs.laws.Turning.{going_turn, back_of-append}
 use Rattle.air_core.specs.Waits.{Standing, Asking, Broken, stand, due_at, waits_next}
-use Rattle.air_core.specs.Waiting.{stand_on}
+use Rattle.air_core.specs.laws.Waiting.{stand_on}
 use Rattle.air_core.specs.PlainTags.{IsAlone}
 use Rattle.air_core.specs.PlainLinks.{has_reached, obeyed_in, answered_in, Follows, stores_after}
-use Rattle.air_core.specs.PlainWaits.{after_bad, times, Waited}
+use Rattle.air_core.specs.private.PlainWaits.{after_bad, times, Waited}
 use Rattle.air_core.specs.declared.listener.Listener.{Ghosts}
 
 -- the tag's answer as what comes back

@@ -14,7 +14,7 @@ use Rattle.air_core.specs.Turn.{Air, world}
 use Rattle.air_core.specs.Waits.{Standing}
 use Rattle.air_core.specs.PlainTags.{plain_kind, heard_times, tag_step, HasPlainTag, MayTell}
 use Rattle.air_core.specs.PlainLinks.{PlainSeen, at_place, obeyed_in, answered_in, Follows, stores_after, between, plain_view}
-use Rattle.air_core.specs.PlainWaits.{times, Waited}
+use Rattle.air_core.specs.private.PlainWaits.{times, Waited}
 use Rattle.air_core.specs.declared.listener.Listener.{Ghosts}
 use Rattle.air_core.proofs.PlainAside.{Laws}
 use Rattle.air_core.proofs.PlainTagging.{IsSteady}

@@ -12,7 +12,7 @@ use Rattle.air_core.specs.Joint.{Joint, Nothing, Single, Clashing, joint}
 use Rattle.air_core.specs.World.{Machine, World}
 use Rattle.air_core.specs.Turn.{Air, after_event, brought, TurnBy, TurnIs, HearSome, Stops, Transmits}
 use Rattle.air_core.specs.Conversation.{Note, Lit, Got, Lost, note, Next, Asks, receptions, EachDue, first_fate, later_fates, queue_after, FatesFrom, joint_back}
-use Rattle.air_core.specs.Turning.{queue_after-append, fates-append, due-append, back_of-append, receptions-append}
+use Rattle.air_core.specs.laws.Turning.{queue_after-append, fates-append, due-append, back_of-append, receptions-append}
 use Rattle.air_core.specs.declared.fault.AirFault.TheVariants as air
 use Rattle.air_core.specs.Speaking.{lit_after, DueTurns, Speaks, LeavesOff, TellsWhy}
 

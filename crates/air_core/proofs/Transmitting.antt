@@ -11,7 +11,7 @@ use Rattle.nfc_base.specs.declared.event.Heard.TheVariants.{Whole, Collided, Dam
 use Rattle.air_core.specs.Joint.{Joint, Nothing, Single, Clashing, joint}
 use Rattle.air_core.specs.World.{Machine, World, came_back}
 use Rattle.air_core.specs.Conversation.{first_fate, later_fates, joint_back, joint_events}
-use Rattle.air_core.specs.Settling.{settled}
+use Rattle.air_core.specs.private.Settling.{settled}
 use Rattle.air_core.specs.Turn.{Air, world, after_event, brought, HearAll, HearSome, Passes, TurnBy, TurnIs, Transmits}
 use Rattle.air_core.specs.declared.fault.AirFault.{AirFault}
 use Rattle.air_core.specs.declared.fault.AirFault.TheVariants.{Memory}

@@ -6,7 +6,7 @@ ghost use Rattle.nfc_base.specs.Signal.{Signal};
 ghost use Rattle.nfc_base.specs.Bits.{bits, bits_of};
 ghost use Rattle.air_core.specs.Joint.{common};
 ghost use Rattle.air_core.specs.Listening.{said_at};
-ghost use Rattle.air_core.specs.Joining.{IsJoined, joint_with};
+ghost use Rattle.air_core.specs.private.Joining.{IsJoined, joint_with};
 ghost use Rattle.air_core.specs.declared.answers.Joined.TheVariants.{Nothing};
 
 use crate::bits::{bit_len, shared};

@@ -7,7 +7,7 @@ ghost use Rattle.nfc_base.specs.declared.event.Fate.TheVariants.{Pass};
 ghost use Rattle.air_core.specs.World.{reset_by, dark, came_back};
 ghost use Rattle.air_core.specs.Turn.{Air, world, after_event, Transmits};
 ghost use Rattle.air_core.specs.Lends.{lends_listener};
-ghost use Rattle.air_core.specs.Settling.{settled};
+ghost use Rattle.air_core.specs.private.Settling.{settled};
 ghost use Rattle.air_core.specs.declared.fault.AirFault.TheVariants.{FieldLost, Memory};
 
 use crate::answers::{Answers, Joined};

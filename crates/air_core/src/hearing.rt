@@ -5,7 +5,7 @@ ghost use Rattle.nfc_base.specs.Signal.{Signal};
 ghost use Rattle.air_core.specs.World.{Machine, hands_over, stepped_by};
 ghost use Rattle.air_core.specs.Listening.{Stop, said_at};
 ghost use Rattle.air_core.specs.Turn.{Meets, HearAll, HearSome};
-ghost use Rattle.air_core.specs.Joining.{IsJoined, joint_with};
+ghost use Rattle.air_core.specs.private.Joining.{IsJoined, joint_with};
 ghost use Rattle.air_core.specs.Joint.{joint};
 ghost use Rattle.air_core.specs.declared.answers.Joined.TheVariants.{Nothing};
 

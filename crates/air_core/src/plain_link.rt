@@ -3,7 +3,7 @@
 ghost use Rattle.std.specs.Prelude.{◌≡◌, ◌∷◌, [], length, None};
 ghost use Rattle.air_core.specs.PlainLinks.{MayAskAt};
 ghost use Rattle.air_core.specs.PlainTags.{HasPlainTag};
-ghost use Rattle.air_core.specs.PlainWaits.{HasWaited};
+ghost use Rattle.air_core.specs.private.PlainWaits.{HasWaited};
 
 use crate::field::Field;
 use crate::first_answer::ask_first;
@@ -54,7 +54,7 @@ fn wait<L: Listener>(field: &mut Field<L>, place: usize, command: &Frame) -> Res
 impl<'a, L: Listener> TagLink for PlainLink<'a, L> {
     ghost use Rattle.std.specs.Prelude.{◌≡◌, [], ◌∷◌, None};
     ghost use Rattle.air_core.specs.PlainLinks.{plain_seen, plain_view, IsPlainReady, PlainMoves};
-    ghost use Rattle.air_core.specs.PlainMoving.{moves_again, moves_on};
+    ghost use Rattle.air_core.specs.laws.PlainMoving.{moves_again, moves_on};
 
     ghost seen = { λ p. plain_view L.Listener (plain_seen p.field.now p.place p.start p.last p.over) };
 

@@ -2,12 +2,9 @@ pub mod Powered
 pub mod Lights
 pub mod Cards
 pub mod Peers
-pub mod PeerUpper
+pub mod laws
 pub mod Kinds
 pub mod Device
-pub mod LinkCalls
-pub mod Uppers
-pub mod Standing
 pub mod Polling
 pub mod Placed
 pub mod CardAsking
@@ -20,7 +17,7 @@ pub mod Crowded
 pub mod Noise
 pub mod Answering
 pub mod Phases
-pub mod Linking
+pub mod private
 pub mod Choosing
 pub mod Calm
 pub mod Beside

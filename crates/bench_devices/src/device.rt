@@ -61,7 +61,7 @@ impl T2Upper {
 
 impl Upper for T2Upper {
     ghost use Rattle.bench_devices.specs.Device.{t2_machine};
-    ghost use Rattle.bench_devices.specs.Uppers.{t2_commands, t2_upper};
+    ghost use Rattle.bench_devices.specs.laws.Uppers.{t2_commands, t2_upper};
 
     ghost machine = { t2_machine };
 
@@ -183,7 +183,7 @@ impl T4Upper {
 impl Upper for T4Upper {
     ghost use Rattle.t4t_tag.specs.Store.{store_of};
     ghost use Rattle.bench_devices.specs.Device.{t4_machine};
-    ghost use Rattle.bench_devices.specs.Uppers.{t4_commands, is_linked, t4_upper};
+    ghost use Rattle.bench_devices.specs.laws.Uppers.{t4_commands, is_linked, t4_upper};
 
     ghost machine = { t4_machine };
 
@@ -247,7 +247,7 @@ pub enum Device {
 
 impl Listener for Device {
     ghost use Rattle.bench_devices.specs.Device.{devices, device_id, device_store, device_ready, device_selected, device_commands};
-    ghost use Rattle.bench_devices.specs.Standing.{bounded, own_tech, step_keeps, light_keeps, dark_keeps, light_selects, stays_selected, dark_rests, at_rest, ignores};
+    ghost use Rattle.bench_devices.specs.laws.Standing.{bounded, own_tech, step_keeps, light_keeps, dark_keeps, light_selects, stays_selected, dark_rests, at_rest, ignores};
 
     ghost machine = { devices };
 
@@ -346,7 +346,7 @@ impl Listener for Device {
 
 impl CardListener for Device {
     ghost use Rattle.bench_devices.specs.Device.{device_card, device_tag};
-    ghost use Rattle.bench_devices.specs.Standing.{tag_holds};
+    ghost use Rattle.bench_devices.specs.laws.Standing.{tag_holds};
 
     ghost card = { device_card };
 

@@ -140,7 +140,7 @@ impl Upper for PeerUpper {
     ghost use Rattle.std.specs.Prelude.{List, []};
     ghost use Rattle.dep_link.specs.Frames.{is_atr_req};
     ghost use Rattle.bench_devices.specs.Peers.{peer_machine};
-    ghost use Rattle.bench_devices.specs.PeerUpper.{peer_commands, is_peer_linked, peer_upper};
+    ghost use Rattle.bench_devices.specs.laws.PeerUpper.{peer_commands, is_peer_linked, peer_upper};
 
     ghost machine = { peer_machine };
 

@@ -3,7 +3,7 @@
 ghost use Rattle.std.specs.Prelude.{◌≡◌};
 ghost use Rattle.air_core.specs.Turn.{moment};
 ghost use Rattle.bench_devices.specs.declared.device.Device.{Device as Placed};
-ghost use Rattle.bench_devices.specs.Linking.{seen_plain, IsNew};
+ghost use Rattle.bench_devices.specs.private.Linking.{seen_plain, IsNew};
 ghost use Rattle.bench_devices.specs.Phases.{Stands};
 ghost use Rattle.bench_devices.specs.Sensing.{IsThree};
 ghost use Rattle.bench_devices.specs.Threes.{ReadsThreeAt, CutThreeAt, WritesThreeAt, CutThreeWriteAt};

@@ -6,7 +6,7 @@ ghost use Rattle.bench_devices.specs.declared.device.Device.{Device as Placed};
 ghost use Rattle.bench_devices.specs.Device.{how_of, may_be_read};
 ghost use Rattle.bench_devices.specs.Phases.{Stands, WritesAt, CutAtWrite};
 ghost use Rattle.isodep_link.specs.IsoLinks.{seen_link};
-ghost use Rattle.bench_devices.specs.Linking.{seen_plain, StandsPlain, IsNew, IsNewLink, Linked, WritesLinked, CutLinkedWrite};
+ghost use Rattle.bench_devices.specs.private.Linking.{seen_plain, StandsPlain, IsNew, IsNewLink, Linked, WritesLinked, CutLinkedWrite};
 
 use crate::device::Device;
 use air_core::{Field, PlainLink};

@@ -12,7 +12,7 @@ use Rattle.hex.specs.Hex.{is_hex_digit}
 use Rattle.hex.proofs.HexLemmas.{decode_of-ok}
 use Rattle.nfc_base.specs.Signal.{Signal, signal, IsSignal, IsBadTail, last_byte}
 use Rattle.nfc_base.specs.declared.frame.Tech.{Tech}
-use Rattle.bench_script.specs.Words.{CutsTail, SpellsNoHex}
+use Rattle.bench_script.specs.private.Words.{CutsTail, SpellsNoHex}
 use Rattle.bench_script.specs.Script.{SpellsHex, tail_text, SpellsFrame}
 use Rattle.bench_script.proofs.Messages.{hex_one}
 

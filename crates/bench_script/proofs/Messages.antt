@@ -13,7 +13,7 @@ use Rattle.hex.proofs.HexLemmas.{decode_of-ok, decode_of-same}
 use Rattle.bench_script.specs.declared.message.Msg.{Msg}
 use Rattle.bench_script.specs.declared.message.Msg.TheVariants.{Hex, Gen}
 use Rattle.bench_script.specs.Script.{SpellsHex, SpellsWithin, SpellsCounted, SpellsMsg}
-use Rattle.bench_script.specs.Words.{HasNoColon, SpellsNoCount, SpellsNoHex}
+use Rattle.bench_script.specs.private.Words.{HasNoColon, SpellsNoCount, SpellsNoHex}
 
 -- the bytes from the one at a place on
 abbrev counted_from : ℕ → ℕ → ℕ → List ℕ

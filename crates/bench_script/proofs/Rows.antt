@@ -2,7 +2,7 @@
 use Rattle.std.proofs.Common.{◌≡◌, ◌≢◌, ℕ, suc, ◌+◌, ◌<◌, ◌≤◌, ◌++◌, List, [], ◌∷◌, length, refl, sym, ◌∙◌, ap, subst, arith}
 use Rattle.std.specs.Prelude.{Option, Some, None}
 use Rattle.std.proofs.lemmas.List.{length-append}
-use Rattle.bench_script.specs.Words.{CutsWord}
+use Rattle.bench_script.specs.private.Words.{CutsWord}
 use Rattle.bench_script.specs.Script.{words_of, SpellEach, SpellRow}
 use Rattle.bench_script.proofs.Words.{words_not_nil}
 

@@ -7,7 +7,7 @@ use Rattle.bench_script.specs.declared.message.Msg.{Msg}
 use Rattle.bench_script.specs.Script.{SpellsMsg, SpellsWithin, SpellsSlotPut, SpellRow, SpellPuts, least_slot, most_slot, least_puts, most_puts}
 use Rattle.bench_script.specs.Slots.{have_own_slots}
 use Rattle.bench_script.proofs.Rows.{each_one}
-use Rattle.bench_script.specs.Words.{HasNoColon}
+use Rattle.bench_script.specs.private.Words.{HasNoColon}
 use Rattle.bench_script.proofs.Messages.{one_cut, colon_after, digits_without, message_one}
 
 -- no digit of the slot's number is a colon

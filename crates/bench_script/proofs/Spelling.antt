@@ -14,7 +14,7 @@ use Rattle.nfc_base.specs.declared.frame.Tech.{Tech}
 use Rattle.bench_script.specs.DeviceIds.{tech_for}
 use Rattle.bench_script.specs.declared.script.words.CommandName.{CommandName}
 use Rattle.bench_script.specs.declared.script.words.CommandName.TheVariants as names
-use Rattle.bench_script.specs.Words.{SpellsNoHex, name_text}
+use Rattle.bench_script.specs.private.Words.{SpellsNoHex, name_text}
 use Rattle.bench_script.specs.Script.{words_of, is_skipped, SpellsHex, SpellsIdent, SpellsIdV, SpellsId, SpellsWithin, SpellsSize, SpellsCode, SpellsBlock, fate_letter, SpellsFates, SpellsMsg, SpellsPayload, SpellEach, SpellsFrame, SpellsSlotPut, SpelledBy, Spells, least_blocks, most_blocks, least_blocks_f, most_blocks_f, least_blocks_v, most_blocks_v, least_lr, most_lr, most_miu, least_rw, most_rw, least_limit, most_limit, least_busy, most_busy, least_times, most_times, least_acceptable, most_acceptable, least_named_slot, most_slot}
 use Rattle.llcp_pdu.specs.Wire.{least_miu}
 use Rattle.nfca_poll.specs.Ident.{IsIdent}

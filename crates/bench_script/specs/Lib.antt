@@ -4,4 +4,4 @@ pub mod Limits
 pub mod Messages
 pub mod Script
 pub mod Slots
-pub mod Words
+pub mod private

@@ -1,7 +1,7 @@
 //! Reading the lines of a script.
 
 ghost use Rattle.std.specs.Prelude.{◌≡◌, [], ◌∷◌, IfOk, IsErrOf, codes};
-ghost use Rattle.bench_script.specs.Words.{SpellsNone};
+ghost use Rattle.bench_script.specs.private.Words.{SpellsNone};
 ghost use Rattle.bench_script.specs.Script.{words_of, is_skipped, SpelledBy, Spells, line_fault_number};
 ghost use Rattle.bench_script.specs.declared.command.Command.{Command};
 ghost use Rattle.bench_script.specs.declared.script.LineFault.TheVariants.{Memory};

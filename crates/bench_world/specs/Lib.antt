@@ -20,10 +20,7 @@ pub mod Cutting
 pub mod Halting
 pub mod Unfinished
 pub mod Obeying
-pub mod LinkTaken
-pub mod LinkedAt
-pub mod ForgedAt
-pub mod RawAt
+pub mod private
 pub mod Behind
 pub mod Completing
 pub mod Quiet
@@ -35,15 +32,12 @@ pub mod CompletingRaws
 pub mod CompletingThrees
 pub mod QuietHearing
 pub mod Taking
-pub mod SameCommands
 pub mod Report
 pub mod Listing
 pub mod ReadBack
-pub mod Digits
 pub mod Stories
 pub mod ByPayloads
 pub mod LinkLaw
-pub mod Gains
 pub mod Alike
 pub mod Showing
 pub mod ShownForged

@@ -10,7 +10,7 @@ ghost use Rattle.bench_script.specs.Messages.{message_of};
 ghost use Rattle.bench_script.specs.Script.{SpellsName, longest_message};
 ghost use Rattle.bench_world.specs.Asked.{asked_on_link};
 ghost use Rattle.bench_world.specs.Legal.{Accepts};
-ghost use Rattle.bench_world.specs.LinkTaken.{TakesLink, put_back, put_down};
+ghost use Rattle.bench_world.specs.private.LinkTaken.{TakesLink, put_back, put_down};
 ghost use Rattle.bench_world.specs.Obeying.{IsSettled, ObeyedBy, IsCutOffBy, RefusedOnly, state_at};
 
 use crate::bench::ObeyFault;
@@ -216,7 +216,7 @@ fn is_graphic(name: &[u8]) -> bool
 }
 
 /// The name of a service that these bytes are, if they are one.
-#[tactic(auto, using(crate::proofs::Names::name_utf8))]
+#[tactic(auto, using(crate::proofs::lines::Names::name_utf8))]
 fn service_name(bytes: &[u8]) -> Option<&str>
     ensures { MatchOption result (SpellsName bytes.now bytes.now → ⊥)
         (λ name. (name.now ≡ bytes.now) × SpellsName bytes.now bytes.now) }

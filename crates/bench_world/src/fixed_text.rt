@@ -4,7 +4,7 @@ ghost use Rattle.std.specs.Prelude.{◌≡◌, ◌+◌, ◌*◌, ◌≤◌, ◌+
 ghost use Rattle.std.specs.Fmt.{decimal};
 ghost use Rattle.hex.specs.Hex.{encode_upper};
 ghost use Rattle.bench_script.specs.Canonical.{hex_text};
-ghost use Rattle.bench_world.specs.Digits.{all_pairs};
+ghost use Rattle.bench_world.specs.private.Digits.{all_pairs};
 
 use arrayvec::ArrayVec;
 

@@ -6,7 +6,7 @@ ghost use Rattle.air_core.specs.Turn.{moment};
 ghost use Rattle.bench_devices.specs.Device.{is_tag};
 ghost use Rattle.bench_devices.specs.Phases.{Stands};
 ghost use Rattle.link_calls.specs.Exchanging.{AreCarriable};
-ghost use Rattle.bench_world.specs.ForgedAt.{ForgeStops, SendsAll, SendsTo, told_cause, told_sent};
+ghost use Rattle.bench_world.specs.private.ForgedAt.{ForgeStops, SendsAll, SendsTo, told_cause, told_sent};
 ghost use Rattle.bench_world.specs.Legal.{IsPayload, MayForge, joins_for};
 ghost use Rattle.bench_world.specs.Obeying.{IsCutOffBy, IsSettled, ObeyedBy, RefusedOnly, state_at};
 ghost use Rattle.bench_world.specs.Opened.{IsServed};

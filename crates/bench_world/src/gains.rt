@@ -34,7 +34,7 @@ impl Machines {
     ghost use Rattle.std.specs.Prelude.{option_copied, length};
     ghost use Rattle.snep_core.specs.Server.{messages_of, sources_of};
     ghost use Rattle.bench_world.specs.Links.{end_numbered};
-    ghost use Rattle.bench_world.specs.Gains.{accepted_above, gained_above};
+    ghost use Rattle.bench_world.specs.private.Gains.{accepted_above, gained_above};
     ghost use Rattle.bench_world.specs.Stories.{accepted_of};
 
     /// The far end of the peer with a number, also of one that was taken away.

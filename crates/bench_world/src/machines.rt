@@ -3,7 +3,7 @@
 ghost use Rattle.std.specs.Prelude.{◌≡◌, ◌≢◌, ◌<◌, List, Option, None, false, length, get_or, IfSome};
 ghost use Rattle.llcp_conn.specs.Conn.{IsWindow};
 ghost use Rattle.llcp_pdu.specs.General.{IsMiu};
-ghost use Rattle.bench_world.specs.LinkedAt.{NotOpened, machines_at_start, OpensAt};
+ghost use Rattle.bench_world.specs.private.LinkedAt.{NotOpened, machines_at_start, OpensAt};
 ghost use Rattle.bench_world.specs.Linking.{own_params, new_client};
 ghost use Rattle.bench_world.specs.Links.{accepted_by, end_numbered, is_number, last_ended};
 ghost use Rattle.bench_world.specs.Peers.{set_under};

@@ -8,7 +8,7 @@ ghost use Rattle.bench_devices.specs.Phases.{Stands};
 ghost use Rattle.bench_world.specs.Legal.{MayRaw, joins_for};
 ghost use Rattle.bench_world.specs.Obeying.{IsCutOffBy, IsSettled, ObeyedBy, RefusedOnly, state_at};
 ghost use Rattle.bench_world.specs.Opened.{IsServed};
-ghost use Rattle.bench_world.specs.RawAt.{RawAlone, RawBeside, RawSendsAll, RawSendsTo, RawStops, SendsEach, told_each, told_raw};
+ghost use Rattle.bench_world.specs.private.RawAt.{RawAlone, RawBeside, RawSendsAll, RawSendsTo, RawStops, SendsEach, told_each, told_raw};
 ghost use Rattle.bench_world.specs.Rawing.{raw_heard};
 ghost use Rattle.bench_world.specs.World.{FarEnd};
 

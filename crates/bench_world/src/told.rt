@@ -6,7 +6,7 @@ ghost use Rattle.snep_core.specs.Slots.{slot_count};
 ghost use Rattle.link_calls.specs.Asking.{MayAsk};
 ghost use Rattle.link_calls.specs.AtOnce.{AreApart};
 ghost use Rattle.bench_world.specs.Calls.{told_ending};
-ghost use Rattle.bench_world.specs.LinkTaken.{HasRoom, fault_told, is_success, marked_done, not_yet, told_request, told_slots};
+ghost use Rattle.bench_world.specs.private.LinkTaken.{HasRoom, fault_told, is_success, marked_done, not_yet, told_request, told_slots};
 
 use crate::bench::ObeyFault;
 use crate::entry::{Answer, Loss, SlotDone};

@@ -15,7 +15,7 @@ use Rattle.dep_link.specs.declared.brought.Taking.TheVariants.{Passed, Taken, Wh
 use Rattle.dep_link.specs.Frames.{spelled, after}
 use Rattle.dep_link.specs.Payloads.{Cut, joined, taken, cut_by, is_some}
 use Rattle.dep_link.specs.Exchange.{frames_of, before_frames}
-use Rattle.dep_link.specs.Taking.{taking_frame, taken_as, taken_in}
+use Rattle.dep_link.specs.private.Taking.{taking_frame, taken_as, taken_in}
 
 abbrev cut : ℕ → List ℕ → List (List ℕ) → Cut
 cut n chain ps = record { next = n; chain = chain; payloads = ps }

@@ -14,7 +14,7 @@ use Rattle.nfc_base.specs.declared.event.Event.{Event}
 use Rattle.nfc_base.specs.declared.carrier.EndCause.{EndCause}
 use Rattle.nfc_base.specs.declared.carrier.EndCause.TheVariants.{FieldLost, SixBad, Protocol, Memory}
 use Rattle.air_core.specs.Turn.{Air, moment}
-use Rattle.air_core.specs.Turning.{going_start}
+use Rattle.air_core.specs.laws.Turning.{going_start}
 use Rattle.air_core.specs.declared.listener.Listener.{Ghosts}
 use Rattle.air_core.proofs.PlainTurns.{noise_append}
 use Rattle.air_core.proofs.LostField.{breaks-append, breaks_noise}

@@ -19,7 +19,7 @@ use Rattle.nfc_base.proofs.ExactlyOnce.{Keeps, IsReady, more_of, kept_once}
 use Rattle.nfc_base.proofs.LinkTurns.{J, bads_append, given_after, Along, Onward, goes_along, next_asking, next_stage, counted_later, positive, says_some, turned_lost, starts_along}
 use Rattle.nfc_base.proofs.Leading.{all_append}
 use Rattle.air_core.specs.Turn.{Air, moment, TurnIs}
-use Rattle.air_core.specs.Turning.{going_start, going_turn}
+use Rattle.air_core.specs.laws.Turning.{going_start, going_turn}
 use Rattle.air_core.specs.Conversation.{Note, note, Going, Asks}
 use Rattle.air_core.specs.Quiet.{QuietTurn}
 use Rattle.air_core.specs.PlainTags.{IsAlone}

@@ -11,11 +11,9 @@ pub mod Stopping
 pub mod Asking
 pub mod DepLinks
 pub mod AnyPeer
-pub mod Taking
+pub mod private
 pub mod Replies
 pub mod Activating
 pub mod AnyTarget
 pub mod Releasing
-pub mod Moves
-pub mod Delivering
-pub mod Peering
+pub mod laws

@@ -5,7 +5,7 @@ ghost use Rattle.nfc_base.specs.LinkTurns.{arrived};
 ghost use Rattle.dep_link.specs.Frames.{spelled};
 ghost use Rattle.dep_link.specs.Payloads.{brings_payload};
 ghost use Rattle.dep_link.specs.Exchange.{frames_of};
-ghost use Rattle.dep_link.specs.Taking.{taken_as, taken_in};
+ghost use Rattle.dep_link.specs.private.Taking.{taken_as, taken_in};
 
 use crate::frames::{after, spelled};
 use dep_pdu::DepFrame;

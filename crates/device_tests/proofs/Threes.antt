@@ -9,7 +9,7 @@ use Rattle.bench_devices.specs.declared.device.Device.{Device}
 use Rattle.bench_devices.specs.declared.device.Device.TheVariants.{T3}
 use Rattle.bench_devices.specs.Device.{device_tech, device_id}
 use Rattle.bench_devices.specs.Keeping.{ghosts}
-use Rattle.bench_devices.proofs.TagThree.{plain_three}
+use Rattle.bench_devices.proofs.kinds.TagThree.{plain_three}
 use Rattle.device_tests.specs.Threes.{own_id, HasThree}
 
 pub has_three : (a : Air Device) → HasThree a → HasPlainTag ghosts a 0

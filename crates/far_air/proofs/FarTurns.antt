@@ -10,7 +10,7 @@ use Rattle.air_core.specs.Joint.{Joint, Nothing, Single, Clashing, joint}
 use Rattle.air_core.specs.World.{Machine, World, reset_by, dark}
 use Rattle.air_core.specs.Conversation.{Moment, Note, Next, first_fate, later_fates, joint_events, joint_back, turn_events, turn_heard, with_events}
 use Rattle.air_core.specs.Turn.{Air, world, moment, after_event, brought, Passes, TurnBy, TurnIs}
-use Rattle.air_core.specs.Turning.{events-append, going_start, going_turn, going_then}
+use Rattle.air_core.specs.laws.Turning.{events-append, going_start, going_turn, going_then}
 use Rattle.air_core.specs.Speaking.{DueTurns}
 use Rattle.nfc_base.specs.Choosing.{Choosing}
 use Rattle.far_air.specs.FarEnds.{FarTable}

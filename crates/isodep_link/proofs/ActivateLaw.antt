@@ -17,12 +17,12 @@ use Rattle.air_core.specs.Joint.{same_tech}
 use Rattle.air_core.specs.World.{World, hears, quiet_air}
 use Rattle.air_core.specs.Conversation.{Note, Got, note, replay, first_fate, later_fates}
 use Rattle.air_core.specs.Turn.{Air, world, moment, TurnIs, Transmits}
-use Rattle.air_core.specs.Turning.{going_start, going_turn}
+use Rattle.air_core.specs.laws.Turning.{going_start, going_turn}
 use Rattle.air_core.specs.Quiet.{EachQuiet, QuietTurn}
 use Rattle.air_core.specs.Waits.{Standing, Asking, Broken, stand, due_at, waits_next}
-use Rattle.air_core.specs.Waiting.{stand_on}
+use Rattle.air_core.specs.laws.Waiting.{stand_on}
 use Rattle.air_core.specs.PlainTags.{heard_times, IsAside, IsAlone}
-use Rattle.air_core.specs.PlainWaits.{after_bad}
+use Rattle.air_core.specs.private.PlainWaits.{after_bad}
 use Rattle.air_core.specs.FirstAnswers.{EndsWait, AsksFirst}
 use Rattle.air_core.specs.declared.listener.Listener.{Ghosts}
 use Rattle.air_core.proofs.FirstAnswers.{ByHeard, by_bad, told_as, on_bads, six_at_most}

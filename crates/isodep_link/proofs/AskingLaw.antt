@@ -25,9 +25,9 @@ use Rattle.nfc_base.proofs.LinkTurns.{arrived_append, counted_later, positive, s
 use Rattle.air_core.specs.World.{quiet_air}
 use Rattle.air_core.specs.World as worlds
 use Rattle.air_core.specs.PlainLinks.{Follows, stores_after}
-use Rattle.air_core.specs.Following.{stores_append}
+use Rattle.air_core.specs.laws.Following.{stores_append}
 use Rattle.air_core.specs.Turn.{Air, world, moment, TurnIs, Transmits}
-use Rattle.air_core.specs.Turning.{going_start, going_turn}
+use Rattle.air_core.specs.laws.Turning.{going_start, going_turn}
 use Rattle.air_core.specs.Conversation.{Note, note, Going, Asks, Moment, replay}
 use Rattle.air_core.specs.Quiet.{EachQuiet, QuietTurn}
 use Rattle.air_core.specs.Listening.{StaysSame}

@@ -5,7 +5,7 @@ use Rattle.std.specs.List.{AllByRecursion}
 use Rattle.nfc_base.specs.Signal.{Signal}
 use Rattle.nfc_base.specs.StopAndWait.{delivered_of}
 use Rattle.air_core.specs.PlainLinks.{Follows}
-use Rattle.air_core.specs.Following.{follows_on}
+use Rattle.air_core.specs.laws.Following.{follows_on}
 use Rattle.isodep_link.specs.declared.block.Block.{Block}
 use Rattle.isodep_link.specs.declared.block.Block.TheVariants.{Info, Ack, Nak, Deselect, Extend}
 use Rattle.isodep_link.specs.Commands.{Cut, taken, cut_by, iso_commands}

@@ -11,7 +11,7 @@ use Rattle.nfc_base.specs.declared.tag_link.AskFault.{AskFault}
 use Rattle.nfc_base.specs.declared.tag_link.AskFault.TheVariants.{FieldLost, SixBad, Memory, Protocol}
 use Rattle.air_core.specs.World.{quiet_air}
 use Rattle.air_core.specs.Turn.{Air, world, moment}
-use Rattle.air_core.specs.Turning.{going_start}
+use Rattle.air_core.specs.laws.Turning.{going_start}
 use Rattle.air_core.specs.Conversation.{Note, Going}
 use Rattle.air_core.specs.PlainTags.{reached}
 use Rattle.air_core.specs.PlainLinks.{counts_of, Follows, stores_after}
@@ -27,7 +27,7 @@ use Rattle.isodep_link.specs.Commands.{iso_commands}
 use Rattle.isodep_link.specs.Exchange.{blocks_of, IsCut, backs_of}
 use Rattle.isodep_link.specs.Asking.{IsoStanding, Rests, asks, stand, iso_next, HasCardTag, CommandTurns, EndsBy, Exchanges}
 use Rattle.isodep_link.specs.IsoLinks.{IsoSeen, commands_of, IsoStandsAt, most_sent, since, card_backs, iso_view, IsIsoReady, EachOnce, IsoAsks, IsoObeys, IsoMoves, link_after, CommandExchanged}
-use Rattle.isodep_link.specs.IsoMoving.{none_between, moves_again}
+use Rattle.isodep_link.specs.laws.IsoMoving.{none_between, moves_again}
 use Rattle.nfc_base.proofs.Leading.{leads_again, rises_again}
 use Rattle.isodep_link.proofs.CardTurns.{Holds}
 use Rattle.isodep_link.proofs.CutSizes.{rests_cut, reached_cuts}

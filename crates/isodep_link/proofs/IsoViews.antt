@@ -13,7 +13,7 @@ use Rattle.air_core.specs.World.{Machine}
 use Rattle.air_core.specs.Turn.{Air, world}
 use Rattle.air_core.specs.PlainTags.{reached}
 use Rattle.air_core.specs.PlainLinks.{at_place, Follows, stores_after}
-use Rattle.air_core.specs.PlainMoving.{events_between}
+use Rattle.air_core.specs.laws.PlainMoving.{events_between}
 use Rattle.std.proofs.Math.Seq.{drop-append_seam}
 use Rattle.air_core.specs.declared.listener.Listener.{Ghosts}
 use Rattle.air_core.proofs.PlainAside.{Laws}

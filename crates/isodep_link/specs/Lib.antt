@@ -9,6 +9,6 @@ pub mod CardTags
 pub mod Muted
 pub mod Asking
 pub mod IsoLinks
-pub mod IsoMoving
+pub mod laws
 pub mod Activating
 pub mod Lends

@@ -92,7 +92,7 @@ impl<'a, L: CardListener> IsoLink<'a, L> {
 impl<'a, L: CardListener> TagLink for IsoLink<'a, L> {
     ghost use Rattle.std.specs.Prelude.{◌≡◌, [], ◌∷◌, None};
     ghost use Rattle.isodep_link.specs.IsoLinks.{seen_link, iso_view, IsIsoReady, IsoMoves};
-    ghost use Rattle.isodep_link.specs.IsoMoving.{moves_again, moves_on};
+    ghost use Rattle.isodep_link.specs.laws.IsoMoving.{moves_again, moves_on};
 
     ghost seen = { λ p. iso_view L.Listener L.card L.tag (seen_link p) };
 

@@ -20,7 +20,7 @@ use Rattle.snep_core.specs.declared.slot.Slot.TheVariants.{NoMessage, Rejected, 
 use Rattle.snep_core.specs.Slots.{NoneStaged, all_puts, answered_as, fresh_slots, has_staged, is_staged_at, job_from, marked, noted, noted_from, put_with, puts_from, slot_at, slot_count, staged_on, outcome_told, put_alone}
 use Rattle.snep_core.specs.declared.job.OnSap.{OnSap}
 use Rattle.snep_core.specs.Talk.{EndState, Puts, TaskOn, client_sap, one_on, sap_of_slot}
-use Rattle.snep_core.proofs.SlotPuts.{noted_length, noted_there, slot_there}
+use Rattle.snep_core.proofs.jobs.SlotPuts.{noted_length, noted_there, slot_there}
 use Rattle.link_calls.specs.AtOnce.{AllPut, AreApart, EachOf, IsAtRest, PutSo, ServedAtOnce, all_staged, is_from, puts_at_once, told_on}
 use Rattle.link_calls.specs.Called.{SlotsTold, came_to}
 use Rattle.link_calls.specs.declared.request.SlotMessage.{SlotMessage}

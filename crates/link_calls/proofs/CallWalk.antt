@@ -16,7 +16,7 @@ use Rattle.snep_core.specs.Talk.{EndState, Step, Goes, Ends, GivesUp, ComesTo, n
 use Rattle.snep_core.specs.Calling.{Breaks, IsCut, Talks, fault_of}
 use Rattle.link_calls.specs.Walk.{Underway}
 use Rattle.link_calls.specs.WalkTurns.{WalkCut}
-use Rattle.link_calls.specs.Walking.{ToldSo, Walks, WalkBreaks}
+use Rattle.link_calls.specs.private.Walking.{ToldSo, Walks, WalkBreaks}
 use Rattle.link_calls.specs.CallDue.{by_client, next_of}
 use Rattle.link_calls.specs.CallTurns.{CutBy, TalksFar, BreaksBy, BreaksFar, HaltsSo, sees, swaps}
 use Rattle.link_calls.proofs.Walk.{walked, cut}

@@ -5,7 +5,7 @@ use Rattle.nfc_base.specs.Choosing.{Choosing}
 use Rattle.nfc_base.specs.declared.event.Heard.{Heard}
 use Rattle.air_core.specs.Conversation.{Note, Next, IsDemand, note}
 use Rattle.air_core.specs.Turn.{Air, moment, TurnIs}
-use Rattle.air_core.specs.Turning.{going_start}
+use Rattle.air_core.specs.laws.Turning.{going_start}
 use Rattle.air_core.specs.PlainTags.{IsAside, IsAlone}
 use Rattle.air_core.specs.declared.listener.Listener.{Ghosts}
 use Rattle.air_core.proofs.PlainAside.{Laws}

@@ -22,7 +22,7 @@ use Rattle.snep_core.specs.declared.job.Job.TheVariants.{Over}
 use Rattle.snep_core.specs.declared.job.Ending.TheVariants.{Refused}
 use Rattle.snep_core.specs.Talk.{EndState, Step, Ends, numbers_behind, one_on}
 use Rattle.link_calls.specs.Walk.{Course, Through}
-use Rattle.link_calls.specs.Walking.{Walks}
+use Rattle.link_calls.specs.private.Walking.{Walks}
 use Rattle.link_calls.specs.CallDue.{Comes, OnCall, by_client, next_of}
 use Rattle.link_calls.specs.CallTurns.{CallTurns, sees, swaps}
 use Rattle.link_calls.specs.Carrying.{IsWalkCut}

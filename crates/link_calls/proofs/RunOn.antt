@@ -15,7 +15,7 @@ use Rattle.snep_core.specs.Calling.{RunFailsAt, RunsTo}
 use Rattle.snep_core.specs.declared.slot.Slot.{Slot}
 use Rattle.snep_core.specs.Slots.{all_puts}
 use Rattle.snep_core.specs.Talk.{EndState, Ends, TaskOn, begins_all}
-use Rattle.snep_core.proofs.Talking.{fails_by}
+use Rattle.snep_core.proofs.jobs.Talking.{fails_by}
 use Rattle.link_calls.specs.AtOnce.{AreApart, IsAtRest, all_staged}
 use Rattle.link_calls.specs.CallTurns.{sees, swaps}
 use Rattle.link_calls.specs.Called.{AllCalled, AllFailed}

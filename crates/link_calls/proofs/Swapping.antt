@@ -4,7 +4,7 @@ use Rattle.nfc_base.specs.Links.{AskedBy, BySwaps, CarrierView, FarMoved, FarSte
 use Rattle.nfc_base.specs.declared.carrier.LinkEnd.{LinkEnd}
 use Rattle.nfc_base.specs.declared.carrier.EndCause.TheVariants.{Memory}
 use Rattle.link_calls.specs.Walk.{Course, Giver, Underway, Through}
-use Rattle.link_calls.specs.Walking.{ToldSo, Walks, WalkBreaks}
+use Rattle.link_calls.specs.private.Walking.{ToldSo, Walks, WalkBreaks}
 
 module _ {W E : Type 0} (g : Giver W E) {C A : Type 0} (seen : C → CarrierView) (swaps : C → List ℕ → List FarStep → C → Type 0)
     (steps : A → List ℕ → List ℕ → A → Type 0) (stops : A → List ℕ → A → Type 0) where

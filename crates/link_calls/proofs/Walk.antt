@@ -5,7 +5,7 @@ use Rattle.nfc_base.specs.declared.carrier.EndCause.{EndCause}
 use Rattle.nfc_base.specs.declared.carrier.EndCause.TheVariants as cause
 use Rattle.air_core.specs.Conversation.{Note, Next, Asks, IsDemand}
 use Rattle.air_core.specs.Turn.{Air, moment}
-use Rattle.air_core.specs.Turning.{going_start}
+use Rattle.air_core.specs.laws.Turning.{going_start}
 use Rattle.air_core.specs.declared.listener.Listener.{Ghosts}
 use Rattle.dep_link.specs.Target.{TargetState}
 use Rattle.dep_link.specs.Initiator.{InitState}
@@ -20,7 +20,7 @@ use Rattle.far_air.proofs.FarTurns.{far_goes_then}
 use Rattle.peer_air.specs.SwapTurns.{Stands, SwapTurn, SwapFront, SwapsFar, StopsFar, did_with}
 use Rattle.link_calls.specs.Walk.{Course, Giver, Underway, Through, Walk, Carries, BrokenBy, Strays, walk_at, walk_carried, walk_noted, walk_on, walk_stand, walk_due, walk_due_at}
 use Rattle.link_calls.specs.WalkTurns.{WalkTurns, WalkFront, WalkCut}
-use Rattle.link_calls.specs.Walking.{ToldSo, WalkRests, WalkFails, WalkUnread}
+use Rattle.link_calls.specs.private.Walking.{ToldSo, WalkRests, WalkFails, WalkUnread}
 
 -- where something was heard that belongs to no exchange, it stays so
 astray : (ns : List Note) → stand Astray ns ≡ Astray

@@ -25,7 +25,7 @@ use Rattle.snep_core.specs.Calling.{payloads}
 use Rattle.link_calls.specs.Arriving.{Arrives, ArrivesCut}
 use Rattle.link_calls.specs.Walk.{Course, Giver, Underway, Through, Comes, walk_at}
 use Rattle.link_calls.specs.WalkTurns.{WalkTurns, WalkCut}
-use Rattle.link_calls.specs.Walking.{ToldSo, Walks, WalkBreaks, WalkRests, WalkFails, WalkUnread}
+use Rattle.link_calls.specs.private.Walking.{ToldSo, Walks, WalkBreaks, WalkRests, WalkFails, WalkUnread}
 use Rattle.link_calls.specs.Carrying.{IsOpen, IsCarried, IsWalked, IsWalkCut}
 use Rattle.link_calls.specs.Staying.{setting_of}
 use Rattle.link_calls.proofs.Arriving.{AreWhole, Ran, arrives_so, counted_so, none_yet, ran, ran_then, stops_so}

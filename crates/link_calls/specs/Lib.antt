@@ -2,7 +2,7 @@ pub mod Staying
 pub mod Arriving
 pub mod Walk
 pub mod WalkTurns
-pub mod Walking
+pub mod private
 pub mod Carrying
 pub mod Exchanging
 pub mod CallDue

@@ -5,7 +5,7 @@ ghost use Rattle.link_calls.specs.Calls.{IsOpen};
 ghost use Rattle.link_calls.specs.Carrying.{IsWalked, IsWalkCut};
 ghost use Rattle.link_calls.specs.Exchanging.{AreCarriable, by_hand, sending};
 ghost use Rattle.link_calls.specs.Walk.{Through};
-ghost use Rattle.link_calls.specs.Walking.{Walks, WalkBreaks};
+ghost use Rattle.link_calls.specs.private.Walking.{Walks, WalkBreaks};
 
 use air_core::Field;
 use dep_link::{DepPair, Initiator, PeerListener};

@@ -19,7 +19,7 @@ pub struct Shown {
 /// it's how many PDUs its AGF has, by their lengths alone, else one. Of one that was cut off it is 0 where that
 /// begins as an AGF, else one; and so it is where an AGF isn't one of several PDUs. It goes over the events once,
 /// and takes memory for the numbers alone.
-#[tactic(auto, using(crate::proofs::Counting::laws))]
+#[tactic(auto, using(crate::proofs::payloads::Counting::laws))]
 pub fn numbers_shown(alloc: Global, first: u8, events: &[Event]) -> Result<Shown, AllocError>
     ensures own { IfOk result (λ s. s.own.items ≡ own_shown first events.now) }
     ensures far { IfOk result (λ s. s.far.items ≡ far_shown first events.now) }

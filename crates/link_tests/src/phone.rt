@@ -22,7 +22,7 @@ impl Listener for Phone {
     ghost use Rattle.std.proofs.Common.{rules};
     ghost use Rattle.nfc_base.specs.declared.frame.Tech.TheVariants as techs;
     ghost use Rattle.dep_link.specs.Target.{darkened};
-    ghost use Rattle.dep_link.specs.Delivering.{asked_in, answered_in, left_in, asked_short, told_tech};
+    ghost use Rattle.dep_link.specs.laws.Delivering.{asked_in, answered_in, left_in, asked_short, told_tech};
 
     ghost machine = { record {
       tech = λ l. techs.A;

@@ -13,7 +13,7 @@ use Rattle.llcp_link.specs.State.{LlcState, Holder, Nobody, Served, Asked, OwnSt
 use Rattle.llcp_link.specs.Kept.{IsServed}
 use Rattle.llcp_link.specs.Own.{closed_on}
 use Rattle.llcp_link.specs.Places.{ClosedBy, IsHeld, IsNowhere, StandsAt}
-use Rattle.llcp_link.specs.Closing.{AreNumbers, ClosesHeld, ClosesOwn, Holds, IsConnBetween, KeepsOwn, TakesOwn}
+use Rattle.llcp_link.specs.private.Closing.{AreNumbers, ClosesHeld, ClosesOwn, Holds, IsConnBetween, KeepsOwn, TakesOwn}
 use Rattle.llcp_link.specs.declared.own.Heard.TheVariants as heard
 use Rattle.llcp_link.specs.Taking.{answered, asked_so, breaks, disconnected, ends, flag_w, leaves, not_connected, numbered}
 

@@ -8,7 +8,7 @@ use Rattle.llcp_pdu.specs.Writing.{inner_bytes, part_bytes, pdu_bytes}
 use Rattle.llcp_link.specs.Serving.{Serving}
 use Rattle.llcp_link.specs.State.{LlcState}
 use Rattle.llcp_link.specs.Giving.{gave, gave_none, gave_first, joined, given_so, given_parts, others, IsAllowed, payload_of}
-use Rattle.llcp_link.specs.Joining.{AreSent, Joins, HaltsJoining}
+use Rattle.llcp_link.specs.private.Joining.{AreSent, Joins, HaltsJoining}
 use Rattle.llcp_link.specs.Answering.{Gives, HaltsGiving}
 use Rattle.llcp_link.specs.Offering.{LeavesNext}
 use Rattle.llcp_link.proofs.MostGiven.{as_many}

@@ -7,7 +7,7 @@ use Rattle.llcp_link.specs.Serving.{Serving}
 use Rattle.llcp_link.specs.State.{LlcState}
 use Rattle.llcp_link.specs.Giving.{Gave, GaveAll, gave, gave_none, gave_first, joined, joined_so}
 use Rattle.llcp_link.specs.Kept.{IsSent}
-use Rattle.llcp_link.specs.Joining.{AreSent, Joins, HaltsJoining}
+use Rattle.llcp_link.specs.private.Joining.{AreSent, Joins, HaltsJoining}
 use Rattle.llcp_link.specs.Offering.{IsLonger, LeavesNext, part_of}
 
 -- these PDUs were given before

@@ -10,7 +10,7 @@ use Rattle.llcp_pdu.specs.Writing.{tlv_of, params_bytes}
 use Rattle.llcp_link.specs.State.{LlcState}
 use Rattle.llcp_link.specs.Names.{answers_to, lookups_told}
 use Rattle.llcp_link.specs.Taking.{answered, tells, discovers}
-use Rattle.llcp_link.specs.Answers.{IsAnswer, AreAnswers, put_one}
+use Rattle.llcp_link.specs.private.Answers.{IsAnswer, AreAnswers, put_one}
 
 params_more : (ps : List Param) (p : Param) → AreParams ps → IsParam p → AreParams (ps ++ p ∷ [])
 params_more [] p h k = (k, tt)

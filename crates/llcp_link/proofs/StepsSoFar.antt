@@ -7,7 +7,7 @@ use Rattle.llcp_pdu.specs.declared.pdu.Pdu.TheVariants.{One}
 use Rattle.llcp_link.specs.Serving.{Serving}
 use Rattle.llcp_link.specs.State.{LlcState}
 use Rattle.llcp_link.specs.Taking.{Item, Good, step, steps, steps_part}
-use Rattle.llcp_link.specs.Stepping.{stepped}
+use Rattle.llcp_link.specs.private.Stepping.{stepped}
 use Rattle.llcp_link.specs.Halting.{IsSame, Halts}
 
 pub steps_more : {S : Type 0} (m : Serving S) (l : LlcState S) (xs ys : List Item) → steps m l (xs ++ ys) ≡ steps m (steps m l xs) ys

@@ -6,7 +6,7 @@ ghost use Rattle.llcp_pdu.specs.Views.{HoldsParams, params_in, shown_param};
 ghost use Rattle.llcp_pdu.specs.Writing.{params_bytes};
 ghost use Rattle.llcp_link.specs.Halting.{IsSame};
 ghost use Rattle.llcp_link.specs.Names.{answer_to as answer_of, answers_to as answers_of};
-ghost use Rattle.llcp_link.specs.Answers.{IsAnswer, AreAnswers, put_one};
+ghost use Rattle.llcp_link.specs.private.Answers.{IsAnswer, AreAnswers, put_one};
 ghost use Rattle.llcp_link.specs.Taking.{discovers};
 
 use crate::llc::Llc;

@@ -2,7 +2,7 @@
 
 ghost use Rattle.std.specs.Prelude.{◌≤◌, IfOk, OnErr};
 ghost use Rattle.llcp_link.specs.Halting.{IsSame};
-ghost use Rattle.llcp_link.specs.Joining.{HaltsJoining, Joins};
+ghost use Rattle.llcp_link.specs.private.Joining.{HaltsJoining, Joins};
 
 use crate::giving::Next;
 use crate::llc::Llc;

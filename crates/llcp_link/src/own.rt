@@ -6,7 +6,7 @@ ghost use Rattle.llcp_pdu.specs.Wire.{rw_end};
 ghost use Rattle.llcp_conn.specs.Conn.{IsSap, IsWindow, first};
 ghost use Rattle.llcp_conn.specs.declared.fault.ConnFault.{ConnFault};
 ghost use Rattle.llcp_link.specs.Asking.{asked_from, is_there, is_open, acked_on as acked_of, has_waiting_on, refusal_on, standing_on, unit_taken_on, SubmitsOn};
-ghost use Rattle.llcp_link.specs.Closing.{ClosesOwn, TakesOwn};
+ghost use Rattle.llcp_link.specs.private.Closing.{ClosesOwn, TakesOwn};
 ghost use Rattle.llcp_link.specs.Own.{cc_on, dm_on, if_there};
 ghost use Rattle.llcp_link.specs.Places.{IsNumbered};
 ghost use Rattle.llcp_link.specs.Kept.{IsSent};

@@ -7,7 +7,7 @@ ghost use Rattle.llcp_pdu.specs.Ranges.{IsPdu, AreParts};
 ghost use Rattle.llcp_pdu.specs.Views.{HoldsParts, IsChecked, IsOne, parts_in, shown};
 ghost use Rattle.llcp_link.specs.Halting.{IsSame, LeavesService, Halts};
 ghost use Rattle.llcp_link.specs.Taking.{Good, broken, items, steps};
-ghost use Rattle.llcp_link.specs.Stepping.{stepped};
+ghost use Rattle.llcp_link.specs.private.Stepping.{stepped};
 
 use crate::llc::Llc;
 use crate::service::Service;

@@ -5,7 +5,7 @@ ghost use Rattle.llcp_conn.specs.Conn.{IsSap, takes_view};
 ghost use Rattle.llcp_link.specs.Halting.{IsSame, LeavesService};
 ghost use Rattle.llcp_link.specs.Kept.{IsSent};
 ghost use Rattle.llcp_link.specs.Places.{IsNumbered};
-ghost use Rattle.llcp_link.specs.Closing.{ClosesHeld};
+ghost use Rattle.llcp_link.specs.private.Closing.{ClosesHeld};
 ghost use Rattle.llcp_link.specs.Own.{dm_on};
 ghost use Rattle.llcp_link.specs.State.{holder, own_from, own_holder};
 ghost use Rattle.llcp_link.specs.Taking.{answered, breaks, ends, heard_own, is_full as has_all_answers, leaves, numbered};

@@ -6,7 +6,7 @@ ghost use Rattle.llcp_link.specs.Answering.{Gives, HaltsGiving, IsStuckGiving, M
 ghost use Rattle.llcp_link.specs.Fronts.{AloneLaw, FrontLaw};
 ghost use Rattle.llcp_link.specs.Giving.{gave, others, payload_of};
 ghost use Rattle.llcp_link.specs.Halting.{IsSame};
-ghost use Rattle.llcp_link.specs.Joining.{AreSent, HaltsJoining, Joins};
+ghost use Rattle.llcp_link.specs.private.Joining.{AreSent, HaltsJoining, Joins};
 ghost use Rattle.llcp_link.specs.Kept.{IsSent};
 
 use crate::giving::Next;

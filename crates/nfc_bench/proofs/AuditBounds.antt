@@ -12,7 +12,7 @@ use Rattle.nfc_io.proofs.Moves.{read_on}
 use Rattle.nfc_io.proofs.InOrder.{in_order}
 use Rattle.bench_script.specs.Limits.{AreWithinLimits}
 use Rattle.nfc_bench.specs.AuditInput.{most_report}
-use Rattle.nfc_bench.specs.AuditReading.{AreLines, HasGathered, WentOn, most_ahead}
+use Rattle.nfc_bench.specs.private.AuditReading.{AreLines, HasGathered, WentOn, most_ahead}
 use Rattle.nfc_bench.specs.Limits.{chunk_size, longest_script}
 use Rattle.nfc_bench.specs.Run.{ReadsAtMost}
 use Rattle.nfc_bench.proofs.AuditReading.{lines_again}

@@ -9,7 +9,7 @@ use Rattle.trace_audit.specs.Auditing.{IsUnauditedAt}
 use Rattle.trace_audit.proofs.Settled.{none_unaudited}
 use Rattle.nfc_bench.specs.Audit.{IsAudited, IsUnaudited}
 use Rattle.nfc_bench.specs.AuditInput.{mark, most_report, HaveNoMark, HasReport, LacksReport, IsScriptOf}
-use Rattle.nfc_bench.specs.AuditStops.{RefusesAudit}
+use Rattle.nfc_bench.specs.private.AuditStops.{RefusesAudit}
 use Rattle.nfc_bench.proofs.Limits.{all_at}
 
 -- none is the mark but the first, nor behind that

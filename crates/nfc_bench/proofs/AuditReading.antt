@@ -18,7 +18,7 @@ use Rattle.nfc_io.proofs.InOrder.{in_order}
 use Rattle.nfc_io.proofs.Behind.{gives_all}
 use Rattle.bench_script.specs.Limits.{most_lines, longest_line}
 use Rattle.nfc_bench.specs.AuditInput.{mark, most_report, HaveNoMark, HasReport, ends_in}
-use Rattle.nfc_bench.specs.AuditReading.{AreLines, GoesTo, HasGathered, ComesToMark, ComesToNone, HandsReport, ReadsInput}
+use Rattle.nfc_bench.specs.private.AuditReading.{AreLines, GoesTo, HasGathered, ComesToMark, ComesToNone, HandsReport, ReadsInput}
 use Rattle.nfc_bench.specs.declared.top.audit_input.Behind.{Behind}
 use Rattle.nfc_bench.specs.declared.top.audit_input.Behind.TheVariants.{Report, NoReport}
 use Rattle.nfc_bench.specs.declared.top.audit_input.Next.TheVariants.{Nothing}

@@ -9,7 +9,7 @@ use Rattle.nfc_io.specs.Moves.{with_end, GainsFront}
 use Rattle.nfc_io.proofs.Moves.{write_on, GainsFront-more}
 use Rattle.snep_core.specs.Server.{Received as Accepted, messages_of, sources_of}
 use Rattle.bench_world.specs.Legal.{State}
-use Rattle.bench_world.proofs.Joined.{upper_nil, upper_split}
+use Rattle.bench_world.proofs.lines.Joined.{upper_nil, upper_split}
 use Rattle.nfc_bench.specs.AuditText.{accepted_line, link_text, links_text, messages_text}
 use Rattle.nfc_bench.specs.Gathering.{IsWritten}
 use Rattle.nfc_bench.proofs.Writing.{both_written, then_cut}

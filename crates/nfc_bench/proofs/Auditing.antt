@@ -12,8 +12,8 @@ use Rattle.nfc_bench.specs.declared.top.audit.Unaudited.TheVariants.{Refused, Re
 use Rattle.nfc_bench.specs.declared.top.audit_input.Behind.{Behind}
 use Rattle.nfc_bench.specs.declared.top.audit_input.Behind.TheVariants.{Report, NoReport}
 use Rattle.nfc_bench.specs.AuditInput.{HaveNoMark, HasReport, LacksReport, HasNone, IsScriptOf}
-use Rattle.nfc_bench.specs.AuditReading.{IsRead, ReadsInput, StandsBehind}
-use Rattle.nfc_bench.specs.AuditStops.{HasJudged, RefusesAudit, LinesStop, AuditStops}
+use Rattle.nfc_bench.specs.private.AuditReading.{IsRead, ReadsInput, StandsBehind}
+use Rattle.nfc_bench.specs.private.AuditStops.{HasJudged, RefusesAudit, LinesStop, AuditStops}
 use Rattle.nfc_bench.proofs.Counting.{numbered_few}
 
 -- The input is the source's.

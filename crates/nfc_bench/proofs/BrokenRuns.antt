@@ -9,7 +9,7 @@ use Rattle.std.proofs.lemmas.List.Elements.{All-head, All-tail}
 use Rattle.std.proofs.lemmas.Option.{slice_get-get_or}
 use Rattle.nfc_base.specs.declared.event.Fate.{Fate}
 use Rattle.air_core.specs.Conversation.{Over, queue_after, receptions}
-use Rattle.nfca_poll.proofs.OneLevel.{pointwise_self}
+use Rattle.nfca_poll.proofs.quiet.OneLevel.{pointwise_self}
 use Rattle.tlv_area.specs.Form.{Form, Message}
 use Rattle.tag_reader.specs.Kinds.{IsStoreForm}
 use Rattle.tag_writer.proofs.OneOutcome.{held_there}
@@ -31,12 +31,12 @@ use Rattle.bench_world.specs.Behind.{breaking, BreaksThenReads, TellsOneOfThree}
 use Rattle.bench_world.specs.Journal.{NumberedLine, asking_lines, AreEntriesOf}
 use Rattle.bench_world.specs.Legal.{State, Given, Joins, no_joins, FrontOf, AnswerLaw, LegalStep, EachLegal, world_at_start, changed, due, state_after, first_state}
 use Rattle.bench_world.specs.Taking.{AreSpelled}
-use Rattle.bench_world.proofs.BrokenRead.{broken_is_read, first_broken_is_read, none_left}
-use Rattle.bench_world.proofs.HeldOn.{nothing_sent}
-use Rattle.bench_world.proofs.OneForm.{one_store_form}
-use Rattle.bench_world.proofs.OneJournal.{same_answers, same_state}
-use Rattle.bench_world.proofs.Reached.{first_ready, ready_behind}
-use Rattle.bench_world.proofs.WriteBehind.{Done, tag_behind}
+use Rattle.bench_world.proofs.calm.BrokenRead.{broken_is_read, first_broken_is_read, none_left}
+use Rattle.bench_world.proofs.devices.HeldOn.{nothing_sent}
+use Rattle.bench_world.proofs.lines.OneForm.{one_store_form}
+use Rattle.bench_world.proofs.lines.OneJournal.{same_answers, same_state}
+use Rattle.bench_world.proofs.devices.Reached.{first_ready, ready_behind}
+use Rattle.bench_world.proofs.calm.WriteBehind.{Done, tag_behind}
 use Rattle.nfc_bench.specs.Run.{IsFates, HaveNoFates, IsRunOf, AreRuns}
 use Rattle.nfc_bench.specs.Sweep.{sweep_lines, break_lines, read_line, last_entry, all_transmissions, told_in, told_if, told_by_run, message_told, message_written, written_if, written_in, first_told, is_neither}
 use Rattle.nfc_bench.specs.SweptReads.{HeldBehind, TellsThree, SweptIsRead, NeitherIsEmpty}

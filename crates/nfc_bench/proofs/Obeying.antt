@@ -6,7 +6,7 @@ use Rattle.bench_script.specs.declared.command.Command.{Command}
 use Rattle.bench_world.specs.Legal.{first_state}
 use Rattle.bench_world.specs.Obeying.{Benched}
 use Rattle.bench_world.specs.Taking.{AreSpelled, AreTaken, IsTaken}
-use Rattle.bench_world.proofs.Shapes.{taken_at}
+use Rattle.bench_world.proofs.devices.Shapes.{taken_at}
 use Rattle.nfc_bench.specs.Run.{FirstAreObeyed}
 use Rattle.nfc_bench.specs.Stops.{FirstUntaken, Follows, Lost, ObeyedBy}
 use Rattle.nfc_bench.proofs.Progress.{obeyed_lost, obeyed_more, stops_lost}

@@ -20,8 +20,8 @@ use Rattle.bench_world.specs.Halting.{CutOff}
 use Rattle.bench_world.specs.Unfinished.{Unfinished}
 use Rattle.bench_world.specs.Obeying.{Benched, Spoils, begun_anew, new_bench}
 use Rattle.bench_world.specs.Report.{report_text}
-use Rattle.bench_world.proofs.LinksAccepted.{link_law}
-use Rattle.bench_world.proofs.OneJournal.{one_legal}
+use Rattle.bench_world.proofs.link_law.LinksAccepted.{link_law}
+use Rattle.bench_world.proofs.lines.OneJournal.{one_legal}
 use Rattle.bench_script.specs.Limits.{most_lines, longest_line, AreWithinLimits}
 use Rattle.nfc_bench.specs.Run.{AreObeyed, IsCutAt, IsRunOf, ReadsInTime, StopsAt}
 use Rattle.nfc_bench.specs.declared.top.lines.Stop.{Stop}

@@ -16,7 +16,7 @@ use Rattle.bench_world.specs.declared.entry.Entry.{Entry}
 use Rattle.bench_world.specs.Legal.{State, first_state}
 use Rattle.bench_world.specs.Obeying.{Benched, begun_anew, new_bench}
 use Rattle.bench_world.specs.Taking.{AreSpelled}
-use Rattle.bench_world.proofs.Shapes.{taken_at}
+use Rattle.bench_world.proofs.devices.Shapes.{taken_at}
 use Rattle.nfc_bench.specs.declared.top.sweeping.Cut.{Cut}
 use Rattle.nfc_bench.specs.declared.top.sweeping.Cut.TheVariants.{Refused, ReadFault, Memory}
 use Rattle.nfc_bench.specs.Reading.{Scripted, AreLinesOf, ReadsScript}

@@ -23,11 +23,11 @@ use Rattle.bench_world.specs.declared.entry.Entry.{Entry}
 use Rattle.bench_world.specs.Answering.{TagEnds, TagTells, TellsFault}
 use Rattle.bench_world.specs.Legal.{State, Given, LegalStep, AnswerLaw, WritingLaw}
 use Rattle.bench_world.specs.Writing.{TellsWrite}
-use Rattle.bench_world.proofs.Placing.{with_sound}
-use Rattle.bench_world.proofs.Reached.{IsReady}
-use Rattle.bench_world.proofs.Telling.{tells_either}
-use Rattle.bench_world.proofs.WriteBehind.{written_polled, written_failed}
-use Rattle.bench_world.proofs.WriteLegality.{found_named}
+use Rattle.bench_world.proofs.devices.Placing.{with_sound}
+use Rattle.bench_world.proofs.devices.Reached.{IsReady}
+use Rattle.bench_world.proofs.tags.Telling.{tells_either}
+use Rattle.bench_world.proofs.calm.WriteBehind.{written_polled, written_failed}
+use Rattle.bench_world.proofs.tags.WriteLegality.{found_named}
 
 -- It was placed, since a write of nobody isn't a success.
 pub written_placed : (id : DeviceId) (m : Msg) (s t : State) (g : Given) (e : Entry) → LegalStep s g e t → e.command ≡ Write id m → e.answer ≡ answers.Written

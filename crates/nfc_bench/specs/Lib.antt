@@ -8,7 +8,6 @@ pub mod SweepStops
 pub mod SweptReads
 pub mod Gathering
 pub mod AuditInput
-pub mod AuditReading
+pub mod private
 pub mod AuditText
 pub mod Audit
-pub mod AuditStops

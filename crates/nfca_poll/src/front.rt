@@ -120,7 +120,7 @@ impl<U: Upper> Front<U> {
 impl<U: Upper> Listener for Front<U> {
     ghost use Rattle.nfca_poll.specs.Fronted.{fronts};
     ghost use Rattle.nfca_poll.specs.Front.{is_ready, is_active};
-    ghost use Rattle.nfca_poll.specs.FrontLaws.{bounded, own_tech, step_keeps, light_keeps, dark_keeps, light_selects, stays_selected, dark_rests, at_rest, ignores};
+    ghost use Rattle.nfca_poll.specs.laws.FrontLaws.{bounded, own_tech, step_keeps, light_keeps, dark_keeps, light_selects, stays_selected, dark_rests, at_rest, ignores};
 
     ghost machine = { fronts U.machine };
 
@@ -243,7 +243,7 @@ impl Step {
 }
 
 /// The step of a front at a frame that isn't of the machine above it.
-#[tactic(auto, using(crate::proofs::Unwoken::idle_stays, crate::proofs::Unwoken::idle_silent, crate::proofs::Unwoken::sleep_stays, crate::proofs::Unwoken::sleep_silent))]
+#[tactic(auto, using(crate::proofs::noise::Unwoken::idle_stays, crate::proofs::noise::Unwoken::idle_silent, crate::proofs::noise::Unwoken::sleep_stays, crate::proofs::noise::Unwoken::sleep_silent))]
 fn step_at(id: &Ident, kind: Kind, state: FrontState, frame: &Frame, answer: &mut Frame) -> Step
     requires { HasLevel (length (levels id.now)) (front_of state) }
     ensures state { front_of result.state ≡ front_next (levels id.now) (front_of state) (call_of frame.now) }

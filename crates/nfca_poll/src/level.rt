@@ -73,7 +73,7 @@ impl Level {
     }
 
     /// How many levels an identifier has.
-    #[tactic(auto, using(crate::proofs::LevelParts::levels_count))]
+    #[tactic(auto, using(crate::proofs::identifiers::LevelParts::levels_count))]
     pub fn count(id: &Ident) -> u8
         ensures count { result ≡ length (levels id.now) }
         ensures low { 1 ≤ result }
@@ -101,7 +101,7 @@ impl Level {
     }
 
     /// Whether the known bits of SDD_REQ begin it.
-    #[tactic(auto, using(crate::proofs::KnownBits::asks_is))]
+    #[tactic(auto, using(crate::proofs::identifiers::KnownBits::asks_is))]
     pub fn begins_with(&self, frame: &Frame) -> bool
         requires { is_sdd frame.now ≡ Bool.true }
         ensures { result ≡ begins (known_bits frame.now) (bits_of self.now) }
@@ -111,7 +111,7 @@ impl Level {
     }
 
     /// The frame of its bits that SDD_REQ doesn't know.
-    #[tactic(auto, using(crate::proofs::KnownBits::rest_is))]
+    #[tactic(auto, using(crate::proofs::identifiers::KnownBits::rest_is))]
     pub fn rest(&self, frame: &Frame) -> Frame
         requires { is_sdd frame.now ≡ Bool.true }
         ensures { result ≡ of_bits Tech.A (drop (length (known_bits frame.now)) (bits_of self.now)) }
@@ -130,7 +130,7 @@ impl Level {
 }
 
 /// How many bits SDD_REQ knows.
-#[tactic(auto, using(crate::proofs::KnownBits::sdd_facts, crate::proofs::KnownBits::known_at))]
+#[tactic(auto, using(crate::proofs::identifiers::KnownBits::sdd_facts, crate::proofs::identifiers::KnownBits::known_at))]
 fn known_len(frame: &Frame) -> usize
     requires { is_sdd frame.now ≡ Bool.true }
     ensures bits { known_bits frame.now ≡ take result (bits_of (drop 2 frame.now.bytes)) }

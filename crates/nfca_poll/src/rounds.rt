@@ -5,7 +5,7 @@ ghost use Rattle.std.specs.Option.{option_copied};
 ghost use Rattle.nfc_base.specs.Trace.{breaks};
 ghost use Rattle.nfca_poll.specs.Enquiry.{Enquires};
 ghost use Rattle.nfca_poll.specs.Rounds.{finding, picking, listed, has_found, most_rounds, LeavesLit};
-ghost use Rattle.nfca_poll.specs.OneRound.{one_round, is_wanted};
+ghost use Rattle.nfca_poll.specs.private.OneRound.{one_round, is_wanted};
 ghost use Rattle.nfca_poll.specs.RoundTrace.{rounds};
 ghost use Rattle.nfca_poll.specs.ByHeard.{turns_since, TellsFound, TellsPicked};
 ghost use Rattle.nfca_poll.specs.Twice.{AllGivenUp};

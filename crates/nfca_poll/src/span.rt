@@ -9,7 +9,7 @@ use arrayvec::ArrayVec;
 use nfc_base::{Frame, Tech};
 
 /// The number of at most eight bits.
-#[tactic(auto, using(crate::proofs::Spans::number_more, crate::proofs::Spans::span_none, nfc_base::proofs::Packing::length_of_bits))]
+#[tactic(auto, using(crate::proofs::identifiers::Spans::number_more, crate::proofs::identifiers::Spans::span_none, nfc_base::proofs::Packing::length_of_bits))]
 fn number(bytes: &[u8], from: usize, to: usize) -> u8
     requires order { from ≤ to }
     requires few { to ≤ from + 8 }
@@ -27,7 +27,7 @@ fn number(bytes: &[u8], from: usize, to: usize) -> u8
 }
 
 /// The bits from one place to another, packed into bytes: at most 64.
-#[tactic(auto, using(crate::proofs::Spans::pack_whole, crate::proofs::Spans::pack_part, crate::proofs::Spans::pack_end, nfc_base::proofs::Packing::length_of_bits))]
+#[tactic(auto, using(crate::proofs::identifiers::Spans::pack_whole, crate::proofs::identifiers::Spans::pack_part, crate::proofs::identifiers::Spans::pack_end, nfc_base::proofs::Packing::length_of_bits))]
 fn pack(bytes: &[u8], from: usize, to: usize) -> ArrayVec<u8, 8>
     requires order { from ≤ to }
     requires few { to ≤ from + 64 }

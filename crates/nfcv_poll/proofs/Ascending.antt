@@ -6,7 +6,7 @@ use Rattle.air_core.specs.Turn.{Air}
 use Rattle.nfca_poll.specs.Enquiry.{Enquires, or_memory}
 use Rattle.nfca_poll.specs.declared.fault.PollFault.{PollFault}
 use Rattle.nfca_poll.specs.declared.fault.PollFault.TheVariants as faults
-use Rattle.nfca_poll.proofs.EnquiryEnds.{Ends, ends}
+use Rattle.nfca_poll.proofs.enquiries.EnquiryEnds.{Ends, ends}
 use Rattle.t5t_tag.specs.Slots.{id_number}
 use Rattle.nfcv_poll.specs.Search.{most_passes, with_id, takes, said, begins_pass, fails, is_silence, answers_left, hears_at, over_at, Course, Begins, Runs, course_step, finding_all}
 use Rattle.nfcv_poll.specs.Finding.{IsAscending, AreAscending}

@@ -14,9 +14,9 @@ use Rattle.nfca_poll.specs.Enquiry.{Progress, Reaches, Loses, progress, or_memor
 use Rattle.nfca_poll.specs.Inventory.{inventory_all}
 use Rattle.nfca_poll.specs.declared.fault.PollFault.{PollFault}
 use Rattle.nfca_poll.specs.declared.fault.PollFault.TheVariants as faults
-use Rattle.nfca_poll.proofs.EnquiryWalks.{after}
-use Rattle.nfca_poll.proofs.TellingInventory.{count_more, any_one}
-use Rattle.nfca_poll.proofs.TurnWalks.{turns_hold}
+use Rattle.nfca_poll.proofs.enquiries.EnquiryWalks.{after}
+use Rattle.nfca_poll.proofs.enquiries.TellingInventory.{count_more, any_one}
+use Rattle.nfca_poll.proofs.enquiries.TurnWalks.{turns_hold}
 use Rattle.t5t_tag.specs.Reading.{spelled_answer}
 use Rattle.t5t_tag.specs.Spelling.{slots_flags, command_frame}
 use Rattle.t5t_tag.specs.declared.command.T5Command.TheVariants.{NextSlot, Quiet}

@@ -7,7 +7,7 @@ use Rattle.nfc_base.specs.Trace.{Turn, heard}
 use Rattle.air_core.specs.Joint.{same_signal}
 use Rattle.nfca_poll.specs.Crowd.{Each}
 use Rattle.nfca_poll.specs.Inventory.{inventory_all}
-use Rattle.nfca_poll.proofs.TellingInventory.{count_more}
+use Rattle.nfca_poll.proofs.enquiries.TellingInventory.{count_more}
 use Rattle.t5t_tag.specs.declared.command.T5Command.TheVariants.{NextSlot}
 use Rattle.t5t_tag.specs.Slots.{id_number, slot_of}
 use Rattle.t5t_tag.specs.Spelling.{slots_flags, command_frame}

@@ -17,13 +17,13 @@ use Rattle.air_core.specs.World.{Machine, World, answered_by, stepped, reset_by}
 use Rattle.nfca_poll.specs.Crowd.{Each}
 use Rattle.nfca_poll.specs.Enquiry.{Progress, Reaches, Loses, Enquires, or_memory, progress, enquiring, answer_of}
 use Rattle.nfca_poll.specs.Inventory.{inventory_all}
-use Rattle.nfca_poll.proofs.Eaches.{each_map}
-use Rattle.nfca_poll.proofs.TurnWalks.{turns-append}
+use Rattle.nfca_poll.proofs.quiet.Eaches.{each_map}
+use Rattle.nfca_poll.proofs.enquiries.TurnWalks.{turns-append}
 use Rattle.nfca_poll.specs.Muted.{muted, mute_air}
 use Rattle.nfca_poll.specs.declared.fault.PollFault.{PollFault}
 use Rattle.nfca_poll.specs.declared.fault.PollFault.TheVariants as faults
-use Rattle.nfca_poll.proofs.EnquiryEnds.{events_gained}
-use Rattle.nfca_poll.proofs.EnquiryWalks.{after as after_note, holds}
+use Rattle.nfca_poll.proofs.enquiries.EnquiryEnds.{events_gained}
+use Rattle.nfca_poll.proofs.enquiries.EnquiryWalks.{after as after_note, holds}
 use Rattle.air_core.proofs.Turns.{replay-append}
 use Rattle.t5t_tag.specs.declared.command.T5Command.TheVariants.{NextSlot, Quiet}
 use Rattle.t5t_tag.specs.Reading.{spelled_answer}

@@ -23,11 +23,11 @@ use Rattle.nfca_poll.specs.Inventory.{inventory_all}
 use Rattle.nfca_poll.specs.Muted.{muted, mute_air}
 use Rattle.nfca_poll.specs.declared.fault.PollFault.{PollFault}
 use Rattle.nfca_poll.specs.declared.fault.PollFault.TheVariants as faults
-use Rattle.nfca_poll.proofs.Eaches.{each_map, none_in}
-use Rattle.nfca_poll.proofs.EnquiryEnds.{events_gained}
-use Rattle.nfca_poll.proofs.EnquiryLaws.{Keeps, Ending, comes, loses, ending}
-use Rattle.nfca_poll.proofs.EnquiryWalks.{turn_fresh}
-use Rattle.nfca_poll.proofs.TurnWalks.{turns-append, joint_turns}
+use Rattle.nfca_poll.proofs.quiet.Eaches.{each_map, none_in}
+use Rattle.nfca_poll.proofs.enquiries.EnquiryEnds.{events_gained}
+use Rattle.nfca_poll.proofs.enquiries.EnquiryLaws.{Keeps, Ending, comes, loses, ending}
+use Rattle.nfca_poll.proofs.enquiries.EnquiryWalks.{turn_fresh}
+use Rattle.nfca_poll.proofs.enquiries.TurnWalks.{turns-append, joint_turns}
 use Rattle.t5t_tag.specs.declared.answer.T5Answer.{T5Answer}
 use Rattle.t5t_tag.specs.declared.answer.T5Answer.TheVariants.{Present, Content, Error}
 use Rattle.t5t_tag.specs.Reading.{spelled_answer}

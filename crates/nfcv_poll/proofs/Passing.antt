@@ -14,7 +14,7 @@ use Rattle.air_core.specs.Joint.{Joint, Nothing, Single, Clashing}
 use Rattle.air_core.specs.World.{Machine, World, stepped}
 use Rattle.nfca_poll.specs.Crowd.{Each}
 use Rattle.nfca_poll.specs.Muted.{muted, mute_air}
-use Rattle.nfca_poll.proofs.Eaches.{each_map}
+use Rattle.nfca_poll.proofs.quiet.Eaches.{each_map}
 use Rattle.t5t_tag.specs.declared.answer.T5Answer.{T5Answer}
 use Rattle.t5t_tag.specs.declared.answer.T5Answer.TheVariants.{Present, Content, Error}
 use Rattle.t5t_tag.specs.declared.command.T5Command.TheVariants.{NextSlot}

@@ -3,7 +3,7 @@
 use Rattle.std.proofs.Common.{◌≡◌, ◌⊎◌, inl, inr, ◌<◌, ℕ, ◌+◌, List, [], ◌∷◌, ◌++◌, reverse, append_assoc, refl, sym, ◌∙◌, ap, subst, arith}
 use Rattle.std.proofs.lemmas.List.{reverse-append}
 use Rattle.nfca_poll.specs.Crowd.{Each}
-use Rattle.nfca_poll.proofs.Eaches.{each_map}
+use Rattle.nfca_poll.proofs.quiet.Eaches.{each_map}
 
 -- at the first slot in which they differ the one is lower, and none goes on where the other ends
 abbrev pub Left : List ℕ → List ℕ → Type 0

@@ -17,7 +17,7 @@ use Rattle.air_core.specs.Joint.{Single, Clashing, joint, all_same, same_signal,
 use Rattle.air_core.specs.World.{Machine, answered_by, stepped_by}
 use Rattle.nfca_poll.specs.Crowd.{Each}
 use Rattle.nfca_poll.specs.Muted.{muted}
-use Rattle.nfca_poll.proofs.Eaches.{IfSaid, each_said, said_none}
+use Rattle.nfca_poll.proofs.quiet.Eaches.{IfSaid, each_said, said_none}
 use Rattle.t5t_tag.specs.declared.answer.T5Answer.TheVariants.{Present}
 use Rattle.t5t_tag.specs.declared.command.T5Command.TheVariants.{Quiet}
 use Rattle.t5t_tag.specs.Mask.{low_first, asks_for}

@@ -4,7 +4,7 @@ use Rattle.nfc_base.specs.declared.event.Heard.{Heard}
 use Rattle.nfc_base.specs.declared.event.Heard.TheVariants.{Whole}
 use Rattle.nfc_base.specs.Signal.{Signal}
 use Rattle.nfca_poll.specs.Crowd.{Each}
-use Rattle.nfca_poll.proofs.Eaches.{IfSaid}
+use Rattle.nfca_poll.proofs.quiet.Eaches.{IfSaid}
 use Rattle.t5t_tag.specs.declared.answer.T5Answer.TheVariants.{Present}
 use Rattle.t5t_tag.specs.declared.command.T5Command.TheVariants.{NextSlot}
 use Rattle.t5t_tag.specs.declared.round.Round.{Round}

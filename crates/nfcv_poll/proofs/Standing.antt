@@ -8,7 +8,7 @@ use Rattle.air_core.specs.Joint.{same_tech}
 use Rattle.air_core.specs.World.{hears, Machine, answered_by, stepped_by}
 use Rattle.nfca_poll.specs.Crowd.{Each}
 use Rattle.nfca_poll.specs.Muted.{mute_reply, muted}
-use Rattle.nfca_poll.proofs.Eaches.{each_map, IfSaid, said_each}
+use Rattle.nfca_poll.proofs.quiet.Eaches.{each_map, IfSaid, said_each}
 use Rattle.t5t_tag.specs.declared.answer.T5Answer.TheVariants.{Present}
 use Rattle.t5t_tag.specs.Spelling.{answer_frame}
 use Rattle.t5t_tag.specs.Step.{sent, t5_turn, t5_answer, t5_after}

@@ -11,7 +11,7 @@ use Rattle.air_core.specs.Joint.{Joint, Nothing, Single, Clashing, joint}
 use Rattle.air_core.specs.World.{Machine, hears, hands_over, answered_by, stepped_by, requested}
 use Rattle.air_core.specs.Conversation.{first_fate, later_fates, joint_events, turn_events, turn_heard, with_events}
 use Rattle.air_core.specs.Turn.{Air, world, moment, after_event, brought, Meets, HearAll, TurnBy, TurnIs}
-use Rattle.air_core.specs.Turning.{events-append}
+use Rattle.air_core.specs.laws.Turning.{events-append}
 use Rattle.air_core.specs.Quiet.{EachQuiet}
 use Rattle.dep_link.specs.Answering.{reply_for, answering, answering_air}
 use Rattle.dep_link.proofs.Answered.{DidBy}

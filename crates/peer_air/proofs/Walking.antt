@@ -18,7 +18,7 @@ use Rattle.air_core.specs.Joint.{Joint, Nothing, Single, Clashing}
 use Rattle.air_core.specs.World.{World, hands_over}
 use Rattle.air_core.specs.Conversation.{AirModel, Note, note, Next, Over, LightUp, Asks, receptions, EachDue, FatesFrom, queue_after, first_fate, later_fates, joint_events, joint_back, replay, turn_events, turn_heard, Move, Light, Ask, trace_of, Moment, with_events}
 use Rattle.air_core.specs.Turn.{Air, world, moment, TurnIs}
-use Rattle.air_core.specs.Turning.{receptions-append, events-append}
+use Rattle.air_core.specs.laws.Turning.{receptions-append, events-append}
 use Rattle.air_core.specs.Quiet.{EachQuiet}
 use Rattle.air_core.specs.PlainTags.{IsAlone}
 use Rattle.air_core.specs.declared.listener.Listener.{Ghosts}

@@ -10,7 +10,7 @@ use Rattle.nfc_base.specs.declared.event.Event.{Event}
 use Rattle.air_core.specs.World.{World}
 use Rattle.air_core.specs.Conversation.{Note, Going, Moment, with_events, receptions}
 use Rattle.air_core.specs.Turn.{Air, world, moment}
-use Rattle.air_core.specs.Turning.{going_start}
+use Rattle.air_core.specs.laws.Turning.{going_start}
 use Rattle.std.specs.List.{AllByRecursion}
 use Rattle.air_core.specs.PlainTags.{IsAside, IsAlone}
 use Rattle.air_core.specs.declared.listener.Listener.{Ghosts}

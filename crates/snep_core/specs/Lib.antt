@@ -14,5 +14,5 @@ pub mod Listening
 pub mod Calling
 pub mod Numbers
 pub mod RepliesLeft
-pub mod Waning
+pub mod private
 pub mod Accord

@@ -7,7 +7,7 @@ ghost use Rattle.snep_core.specs.Calling.{FailsBy, RequestFails, Talks, is_memor
 ghost use Rattle.snep_core.specs.Jobs.{Done, Over, Refused, Sap, Value};
 ghost use Rattle.snep_core.specs.Slots.{fresh_slots, is_staged_at, put_alone};
 ghost use Rattle.snep_core.specs.Talk.{Ends, Finds, Gets, Puts, all_closed, alone, begins, begins_from, begun, client_sap, closes, connected, gave_between as gave, is_waiting as awaits, one_on, own_of, sap_of_slot, stands_of};
-ghost use Rattle.snep_core.specs.Waning.{Getting, IsOf, aim_by};
+ghost use Rattle.snep_core.specs.private.Waning.{Getting, IsOf, aim_by};
 ghost use Rattle.snep_core.specs.declared.fault.SnepFault.{SnepFault};
 ghost use Rattle.snep_core.specs.declared.job.Job.{Job};
 ghost use Rattle.snep_core.specs.declared.job.Refusal.{Refusal as Refusal_};

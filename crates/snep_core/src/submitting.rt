@@ -4,7 +4,7 @@ ghost use Rattle.std.specs.Prelude.{◌≡◌, ◌≤◌, ◌<◌, true, take, d
 ghost use Rattle.llcp_link.specs.Asking.{standing_of};
 ghost use Rattle.snep_core.specs.Listening.{Offered};
 ghost use Rattle.snep_core.specs.Talk.{all_readied, asks_on, begins_on, miu_of, own_of, readied, ready_so, sends_on};
-ghost use Rattle.snep_core.specs.Waning.{Aim, Serves};
+ghost use Rattle.snep_core.specs.private.Waning.{Aim, Serves};
 ghost use Rattle.snep_core.specs.declared.fault.SnepFault.{SnepFault};
 ghost use Rattle.snep_core.specs.declared.job.Job.{Job};
 

@@ -7,7 +7,7 @@ ghost use Rattle.snep_core.specs.Listening.{all_awaiting, forgets};
 ghost use Rattle.snep_core.specs.RepliesLeft.{IsUnderWay};
 ghost use Rattle.snep_core.specs.Slots.{noted};
 ghost use Rattle.snep_core.specs.Talk.{AreApart, Ends, OnSap, all_over as over_by, begun, idle_after, most_idle, one_on, ready, saps as saps_by, settled};
-ghost use Rattle.snep_core.specs.Waning.{IsOf, aim_of};
+ghost use Rattle.snep_core.specs.private.Waning.{IsOf, aim_of};
 ghost use Rattle.snep_core.specs.declared.fault.SnepFault.{SnepFault};
 ghost use Rattle.snep_core.specs.declared.job.Ending.{Ending as Ending_};
 

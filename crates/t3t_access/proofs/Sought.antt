@@ -7,8 +7,8 @@ use Rattle.nfca_poll.specs.declared.fault.PollFault.{PollFault}
 use Rattle.nfca_poll.specs.declared.fault.PollFault.TheVariants as faults
 use Rattle.nfca_poll.specs.Crowd.{Each}
 use Rattle.nfca_poll.specs.Inventory.{NoneAnswers}
-use Rattle.nfca_poll.proofs.Eaches.{each_map}
-use Rattle.nfca_poll.proofs.Steady.{AnswersThat}
+use Rattle.nfca_poll.proofs.quiet.Eaches.{each_map}
+use Rattle.nfca_poll.proofs.quiet.Steady.{AnswersThat}
 use Rattle.t3t_access.specs.Polling.{sensf_req, is_sensf_res, is_of, judged_res, IsNotOf}
 
 by_other : (v w : Bool) → ◌≡◌ {A = Result (Unit {0}) PollFault} (if v then (if w then Ok tt else Err faults.NotFound) else Err faults.BadAnswer) (Err faults.NotFound) → w ≡ false

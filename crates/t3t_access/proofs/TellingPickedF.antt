@@ -11,9 +11,9 @@ use Rattle.nfca_poll.specs.declared.fault.PollFault.TheVariants as faults
 use Rattle.nfca_poll.specs.Enquiry.{Progress, Reaches, Loses, progress, or_memory, answer_of, Enquires}
 use Rattle.nfca_poll.specs.Inventory.{Inventory, Tries, Told, tries}
 use Rattle.nfca_poll.specs.ByHeard.{is_strange, silences, has_strange, turns_since}
-use Rattle.nfca_poll.proofs.EnquiryWalks.{after}
-use Rattle.nfca_poll.proofs.TurnWalks.{turns_hold}
-use Rattle.nfca_poll.proofs.TellingInventory.{one_if, not_both, less_of, far_of, few_left, count_more, any_none, any_one}
+use Rattle.nfca_poll.proofs.enquiries.EnquiryWalks.{after}
+use Rattle.nfca_poll.proofs.enquiries.TurnWalks.{turns_hold}
+use Rattle.nfca_poll.proofs.enquiries.TellingInventory.{one_if, not_both, less_of, far_of, few_left, count_more, any_none, any_one}
 use Rattle.t3t_access.specs.Polling.{is_sensf_res, is_of, picking_f, is_shown, is_another, has_shown, has_another, TellsPickedF}
 
 module _ (id : List ℕ) where

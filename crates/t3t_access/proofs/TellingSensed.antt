@@ -13,10 +13,10 @@ use Rattle.nfca_poll.specs.declared.fault.PollFault.TheVariants as faults
 use Rattle.nfca_poll.specs.Enquiry.{Progress, Reaches, Loses, progress, or_memory, answer_of, Enquires}
 use Rattle.nfca_poll.specs.Inventory.{Inventory, Tries, Told, tries}
 use Rattle.nfca_poll.specs.ByHeard.{turns_since}
-use Rattle.nfca_poll.proofs.EnquiryWalks.{after}
-use Rattle.nfca_poll.proofs.HeardBits.{pointwise_same, pointwise_path}
-use Rattle.nfca_poll.proofs.TurnWalks.{turns_hold}
-use Rattle.nfca_poll.proofs.TellingInventory.{IsApart, tells_presence, not_both, any_none, any_one}
+use Rattle.nfca_poll.proofs.enquiries.EnquiryWalks.{after}
+use Rattle.nfca_poll.proofs.identifiers.HeardBits.{pointwise_same, pointwise_path}
+use Rattle.nfca_poll.proofs.enquiries.TurnWalks.{turns_hold}
+use Rattle.nfca_poll.proofs.enquiries.TellingInventory.{IsApart, tells_presence, not_both, any_none, any_one}
 use Rattle.t3t_access.specs.declared.polling.Fcrowd.{Fcrowd}
 use Rattle.t3t_access.specs.declared.polling.Fcrowd.TheVariants.{Nobody, One, Crowd}
 use Rattle.t3t_access.specs.Polling.{is_sensf_res, nfcid2, is_of, all_sensed, polling_f, is_res_of, has_res_of, TellsPolledF}

@@ -14,10 +14,10 @@ use Rattle.tag_reader.specs.Blocks.{AreaGoesOn, progress_at}
 use Rattle.tag_reader.specs.Asked.{ToWrite, IsLeft, IsSurveyed}
 use Rattle.tag_reader.specs.Kinds.{IsTag, IsStore}
 use Rattle.tag_reader.specs.Steps.{IsInReach, Learns, Walks}
-use Rattle.tag_reader.specs.BlockSteps.{Names, IsReading, HasRunOut}
+use Rattle.tag_reader.specs.private.BlockSteps.{Names, IsReading, HasRunOut}
 use Rattle.tag_reader.specs.Heard.{IsOf}
 use Rattle.tag_reader.specs.HeardSteps.{Under}
-use Rattle.tag_reader.specs.SurveySteps.{IsAllKnown}
+use Rattle.tag_reader.specs.private.SurveySteps.{IsAllKnown}
 use Rattle.tag_reader.proofs.Areas.{left_reach}
 use Rattle.tag_reader.proofs.Knowing.{knows_more, walks_at, store_goes_on}
 use Rattle.tag_reader.proofs.BlockEndings.{ready_here, names_store}

@@ -18,7 +18,7 @@ use Rattle.tag_reader.specs.declared.told.BlocksTold.TheVariants.{Single, Ended}
 use Rattle.tag_reader.specs.Blocks.{ask_frame, ask_count, next_ask, IsMany}
 use Rattle.tag_reader.specs.Heard.{next_command, ask_behind, HasContent, IsBlocks, Brings, IsFaultBy, joined, first_size, is_single}
 use Rattle.tag_reader.specs.HeardSteps.{Under}
-use Rattle.tag_reader.specs.BlockSteps.{TellsBlocks, IsKnown, GainsBlocks, EndsBlocks, Grows}
+use Rattle.tag_reader.specs.private.BlockSteps.{TellsBlocks, IsKnown, GainsBlocks, EndsBlocks, Grows}
 use Rattle.tag_reader.proofs.Bringing.{under_brings, under_stops, memory_ends, under_left}
 use Rattle.tag_reader.proofs.OneForm.{five_least}
 use Rattle.tag_reader.proofs.Refusals.{error_refuses, refuses_t5}

@@ -30,7 +30,7 @@ use Rattle.tag_reader.specs.Reading.{IsReadFault, is_told}
 use Rattle.tag_reader.specs.Heard.{Brings, IsBroughtBy, AreaSays, IsNone, IsFaultBy, joined, first_size}
 use Rattle.tag_reader.specs.HeardSteps.{Under, Sees}
 use Rattle.tag_reader.specs.Steps.{Asks, Reads, IsMapFound, IsCutFault, of_container}
-use Rattle.tag_reader.specs.BlockSteps.{IsKnown, GainsBlocks, EndsBlocks, Names, IsReading, HasRunOut}
+use Rattle.tag_reader.specs.private.BlockSteps.{IsKnown, GainsBlocks, EndsBlocks, Names, IsReading, HasRunOut}
 use Rattle.tag_reader.proofs.Bringing.{went_of}
 use Rattle.tag_reader.proofs.Knowing.{store_goes_on}
 use Rattle.tag_reader.proofs.Endings.{container_fault, container_told, bytes_front, cells_below, cut_is_told}

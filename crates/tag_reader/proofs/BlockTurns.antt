@@ -31,7 +31,7 @@ use Rattle.tag_reader.specs.Kinds.{IsTag, command, first, t5_memory}
 use Rattle.tag_reader.specs.Asked.{Aim, ToRead, ToWrite, IsNextFor, IsDueFor, AreDueFor}
 use Rattle.tag_reader.specs.Heard.{HasContent, IsBlocks}
 use Rattle.tag_reader.specs.Steps.{Answers, Fails, Asks, Reads}
-use Rattle.tag_reader.specs.BlockSteps.{TellsBlocks, Reached, size_at, IsReading, HasRunOut}
+use Rattle.tag_reader.specs.private.BlockSteps.{TellsBlocks, Reached, size_at, IsReading, HasRunOut}
 use Rattle.tag_reader.proofs.Links.{Keeps}
 use Rattle.tag_reader.proofs.Knowing.{due_more_for, after_more, stays_on, goes_on_on}
 use Rattle.tag_reader.proofs.Endings.{ends_first, ends_asks}

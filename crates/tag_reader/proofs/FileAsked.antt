@@ -10,7 +10,7 @@ use Rattle.tlv_area.specs.Containers.{t4_container}
 use Rattle.tag_reader.specs.declared.how.How.TheVariants.{T4}
 use Rattle.tag_reader.specs.Files.{container_in, file_in, message_length, most_asked, NamesFile, IsFileDue}
 use Rattle.tag_reader.specs.Asked.{IsDue, IsAsked}
-use Rattle.tag_reader.specs.FileSteps.{piece_at}
+use Rattle.tag_reader.specs.private.FileSteps.{piece_at}
 use Rattle.tag_reader.proofs.Lists.{asked_all}
 use Rattle.tag_reader.proofs.Files.{named}
 use Rattle.tag_reader.proofs.FileReading.{low_piece}

@@ -26,7 +26,7 @@ use Rattle.tag_reader.specs.Asked.{Aim, ToRead, ToWrite, IsNextFor, IsDueFor, Ar
 use Rattle.tag_reader.specs.Calls.{HasAskedFor, HasAskedAllFor}
 use Rattle.tag_reader.specs.Reading.{IsReadFault, is_told}
 use Rattle.tag_reader.specs.Steps.{Answers, Fails, Asks, Reads, Concludes, IsRead, of_container}
-use Rattle.tag_reader.specs.FileSteps.{state_at, content_at, piece_at, Reached, IsUnder, EndsBy, IsOpen, IsMeasured, IsWhole, HasPieces}
+use Rattle.tag_reader.specs.private.FileSteps.{state_at, content_at, piece_at, Reached, IsUnder, EndsBy, IsOpen, IsMeasured, IsWhole, HasPieces}
 use Rattle.tag_reader.proofs.Links.{Keeps}
 use Rattle.tag_reader.proofs.Knowing.{due_more_for, after_more, stays_on, goes_on_on}
 use Rattle.tag_reader.proofs.Endings.{ends_first, ends_asks, container_fault, container_told, read_ended}

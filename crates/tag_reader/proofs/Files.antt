@@ -17,7 +17,7 @@ use Rattle.tlv_area.specs.declared.container.FileMap.{FileMap}
 use Rattle.tlv_area.specs.declared.container.ContainerFault.TheVariants as container
 use Rattle.tlv_area.specs.Containers.{first_fault, unless, t4_file, t4_container}
 use Rattle.tag_reader.specs.Files.{container_end, container_in, file_in, most_asked, piece_size, file_command, file_frame, HasPiece, IsFileDue, t4_memory, t4_link_step, shown}
-use Rattle.tag_reader.specs.FileSteps.{state_at, content_at}
+use Rattle.tag_reader.specs.private.FileSteps.{state_at, content_at}
 
 -- the first fifteen bytes of a container say all of it
 pub t4_front : (c : List ℕ) → t4_container (take 15 c) ≡ t4_container c

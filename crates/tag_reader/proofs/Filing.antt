@@ -18,7 +18,7 @@ use Rattle.tag_reader.specs.declared.found.Found.{Found}
 use Rattle.tag_reader.specs.declared.found.Site.TheVariants.{File}
 use Rattle.tag_reader.specs.Files.{container_in, file_in, message_length, most_of, most_asked, file_command, IsFileDue}
 use Rattle.tag_reader.specs.Asked.{Aim}
-use Rattle.tag_reader.specs.FileSteps.{content_at, EndsBy, OrEnds}
+use Rattle.tag_reader.specs.private.FileSteps.{content_at, EndsBy, OrEnds}
 use Rattle.tag_reader.specs.Steps.{of_container}
 use Rattle.tag_reader.specs.Heard.{HasSize, HasFile, IsFaultBy, IsFoundBy, file_next, joined}
 use Rattle.tag_reader.specs.HeardSteps.{Under, OrFault, Opened, HasParts, Measured, HasRead, ReadAll}

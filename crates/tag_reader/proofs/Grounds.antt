@@ -24,8 +24,8 @@ use Rattle.tag_reader.specs.Kinds.{IsStoreForm, IsTag}
 use Rattle.tag_reader.specs.Asked.{ToWrite, IsSurveyed}
 use Rattle.tag_reader.specs.Calls.{Stays, HasSurveyed, HasSurveyedAll, GoesOn}
 use Rattle.tag_reader.specs.Survey.{block_size, written_area, IsKnownArea, surveyed}
-use Rattle.tag_reader.specs.FileSteps.{IsMeasured}
-use Rattle.tag_reader.specs.SurveySteps.{IsSettledOver, GroundIn, IsAllRead, IsAllKnown, IsSurveyMade}
+use Rattle.tag_reader.specs.private.FileSteps.{IsMeasured}
+use Rattle.tag_reader.specs.private.SurveySteps.{IsSettledOver, GroundIn, IsAllRead, IsAllKnown, IsSurveyMade}
 use Rattle.tag_reader.proofs.Areas.{t2_area}
 use Rattle.tag_reader.proofs.Knowing.{walk_front, store_goes_on}
 use Rattle.tag_reader.proofs.Endings.{knows_asked, knows_all, bytes_front, cells_below}

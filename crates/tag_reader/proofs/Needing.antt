@@ -17,7 +17,7 @@ use Rattle.tag_reader.specs.declared.known.Known.{Known}
 use Rattle.tag_reader.specs.Kinds.{area_of}
 use Rattle.tag_reader.specs.Heard.{IsBrought, IsFaultBy, IsNone, joined, first_size}
 use Rattle.tag_reader.specs.HeardSteps.{IsCut, Under, Looks, Opened}
-use Rattle.tag_reader.specs.BlockSteps.{LooksBlocks, Names}
+use Rattle.tag_reader.specs.private.BlockSteps.{LooksBlocks, Names}
 use Rattle.tag_reader.specs.SurveyHeard.{AsksWhatItNeeds, IsGroundHeard, SaysGround, area_heard, known_heard}
 use Rattle.tag_reader.specs.Steps.{of_container}
 use Rattle.tag_reader.proofs.Exact.{none_over, two_brought}

@@ -29,9 +29,9 @@ use Rattle.tag_reader.specs.Kinds.{area_of}
 use Rattle.tag_reader.specs.Survey.{block_size}
 use Rattle.tag_reader.specs.Heard.{IsBlocks, Brings, HasContainer, IsBroughtBy, IsFaultBy, IsNone, joined, first_size, ask_behind, next_command}
 use Rattle.tag_reader.specs.HeardSteps.{Under, Looks, Measured}
-use Rattle.tag_reader.specs.BlockSteps.{IsKnown, EndsBlocks, Names, LooksBlocks}
+use Rattle.tag_reader.specs.private.BlockSteps.{IsKnown, EndsBlocks, Names, LooksBlocks}
 use Rattle.tag_reader.specs.SurveyHeard.{surveyed_by, IsHeard, IsLeftBy, area_heard, known_heard, IsAreaHeard, IsSurveyedBy, IsUnsurveyedBy, IsGroundToldBy}
-use Rattle.tag_reader.specs.SurveySteps.{HearsAll, IsSettledOver, GroundIn}
+use Rattle.tag_reader.specs.private.SurveySteps.{HearsAll, IsSettledOver, GroundIn}
 use Rattle.tag_reader.proofs.Knowing.{store_goes_on}
 use Rattle.tag_reader.proofs.Bringing.{went_of}
 use Rattle.tag_reader.proofs.Exact.{none_over}

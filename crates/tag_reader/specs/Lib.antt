@@ -9,9 +9,7 @@ pub mod Reading
 pub mod Survey
 pub mod Numbers
 pub mod Steps
-pub mod FileSteps
+pub mod private
 pub mod Heard
 pub mod HeardSteps
-pub mod BlockSteps
 pub mod SurveyHeard
-pub mod SurveySteps

@@ -7,9 +7,9 @@ ghost use Rattle.tag_reader.specs.Asked.{ToWrite};
 ghost use Rattle.tag_reader.specs.declared.how.How.TheVariants as hows;
 ghost use Rattle.tag_reader.specs.Heard.{IsOf};
 ghost use Rattle.tag_reader.specs.HeardSteps.{OrFault};
-ghost use Rattle.tag_reader.specs.BlockSteps.{Names, LooksBlocks, IsReading};
+ghost use Rattle.tag_reader.specs.private.BlockSteps.{Names, LooksBlocks, IsReading};
 ghost use Rattle.tag_reader.specs.SurveyHeard.{AsksWhatItNeeds};
-ghost use Rattle.tag_reader.specs.SurveySteps.{HearsAll, ReadsAll, KnowsAll};
+ghost use Rattle.tag_reader.specs.private.SurveySteps.{HearsAll, ReadsAll, KnowsAll};
 
 use crate::asking::ask_next;
 use crate::blocks::ask_blocks;

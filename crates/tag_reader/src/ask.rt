@@ -2,7 +2,7 @@
 
 ghost use Rattle.std.specs.Prelude.{◌≡◌, ◌<◌, ◌≤◌};
 ghost use Rattle.tag_reader.specs.Blocks.{ask_frame, most_blocks, next_ask};
-ghost use Rattle.tag_reader.specs.BlockSteps.{CanAsk};
+ghost use Rattle.tag_reader.specs.private.BlockSteps.{CanAsk};
 
 use crate::known::Known;
 use nfc_base::Frame;

@@ -8,7 +8,7 @@ ghost use Rattle.tag_reader.specs.declared.how.How.TheVariants as hows;
 ghost use Rattle.tag_reader.specs.Asked.{Aim};
 ghost use Rattle.tag_reader.specs.Heard.{IsOf};
 ghost use Rattle.tag_reader.specs.HeardSteps.{OrFault, SeesMap};
-ghost use Rattle.tag_reader.specs.BlockSteps.{Names, LooksBlocks, Opens, FindsMap};
+ghost use Rattle.tag_reader.specs.private.BlockSteps.{Names, LooksBlocks, Opens, FindsMap};
 ghost use Rattle.tag_reader.specs.Steps.{IsCutFault};
 ghost use Rattle.tag_reader.specs.SurveyHeard.{AsksWhatItNeeds};
 

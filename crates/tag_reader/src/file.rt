@@ -13,7 +13,7 @@ ghost use Rattle.tag_reader.specs.HeardSteps.{IsCut, Under, OrFault, HasSelected
 ghost use Rattle.tag_reader.specs.Kinds.{OfTag};
 ghost use Rattle.tag_reader.specs.SurveyHeard.{AsksWhatItNeeds};
 ghost use Rattle.tag_reader.specs.Steps.{ReadsTag};
-ghost use Rattle.tag_reader.specs.FileSteps.{IsUnder, BringsNext, OrEnds, IsOpen, IsMeasured, IsWhole};
+ghost use Rattle.tag_reader.specs.private.FileSteps.{IsUnder, BringsNext, OrEnds, IsOpen, IsMeasured, IsWhole};
 
 use crate::fault::ReadFault;
 use crate::found::{Found, Site};

@@ -10,7 +10,7 @@ ghost use Rattle.tag_reader.specs.Heard.{IsOf};
 ghost use Rattle.tag_reader.specs.Reading.{KeepsStore, AsksInOrder, AsksAll, LeavesLink, TellsCause, TellsInCalm};
 ghost use Rattle.tag_reader.specs.Survey.{IsPlacedGround, TellsGround};
 ghost use Rattle.tag_reader.specs.SurveyHeard.{IsGroundToldBy};
-ghost use Rattle.tag_reader.specs.SurveySteps.{GroundIn, SurveysTag};
+ghost use Rattle.tag_reader.specs.private.SurveySteps.{GroundIn, SurveysTag};
 
 use crate::area::{read_all, read_to_end};
 use crate::block_finding::open_area;

@@ -9,7 +9,7 @@ ghost use Rattle.t5t_tag.specs.Spelling as t5;
 ghost use Rattle.t5t_tag.specs.declared.answer.T5Answer.{T5Answer};
 ghost use Rattle.tag_reader.specs.declared.how.How.TheVariants as hows;
 ghost use Rattle.tag_reader.specs.Heard.{HasContent, IsBlocks};
-ghost use Rattle.tag_reader.specs.BlockSteps.{TellsBlocks};
+ghost use Rattle.tag_reader.specs.private.BlockSteps.{TellsBlocks};
 ghost use Rattle.tag_reader.specs.HeardSteps.{TellsFault};
 
 use crate::ask::Ask;

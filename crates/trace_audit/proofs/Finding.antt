@@ -21,8 +21,8 @@ use Rattle.bench_script.specs.Script.{tail_text}
 use Rattle.bench_script.specs.Canonical.{hex_text, frame_text}
 use Rattle.bench_script.proofs.Frames.{first, cut, tail_begins, tail_is}
 use Rattle.bench_world.specs.Report.{fate_text, event_text}
-use Rattle.trace_audit.specs.Finding.{Finds, IsDigitsOf, IsWordOf, IsSentOf, IsTextOf, IsLineOf}
-use Rattle.bench_world.proofs.ReadBack.{all_above}
+use Rattle.trace_audit.specs.private.Finding.{Finds, IsDigitsOf, IsWordOf, IsSentOf, IsTextOf, IsLineOf}
+use Rattle.bench_world.proofs.lines.ReadBack.{all_above}
 
 -- digits stand above the signs, and so does no byte of these texts meet one
 decimal_above : (n : ℕ) → n < 2 ^ 32 → All (λ b. 47 < b) (decimal n)

@@ -11,7 +11,7 @@ use Rattle.trace_audit.specs.declared.judging.Verdict.TheVariants.{Faulty, Legal
 use Rattle.trace_audit.specs.declared.stepping.Walk.{Walk}
 use Rattle.trace_audit.specs.Auditing.{IsUnauditedAt}
 use Rattle.trace_audit.specs.Judging.{JudgedAt, Judges, RefusedAt, RefusesScript}
-use Rattle.trace_audit.specs.Stepping.{AuditsLine, Shrinks}
+use Rattle.trace_audit.specs.private.Stepping.{AuditsLine, Shrinks}
 use Rattle.trace_audit.proofs.LineSteps.{Stands, ends_audited, ends_faulty, ends_legal, line_on, stands_first, stands_refused}
 
 pub judges_faulty : (lines : List (List ℕ)) (bench : Benched) (report : List ℕ) (w : Walk) → length lines < 2 ^ 32 → Stands lines lines bench report w → (w.strayed ≡ true) ⊎ (0 < length w.left.now)

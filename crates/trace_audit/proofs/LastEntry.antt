@@ -5,7 +5,7 @@ use Rattle.std.proofs.lemmas.List.{length-append}
 use Rattle.bench_script.specs.declared.command.Command.{Command}
 use Rattle.bench_world.specs.declared.entry.Entry.{Entry}
 use Rattle.bench_world.specs.Obeying.{Adds, Benched}
-use Rattle.trace_audit.specs.OnAir.{LastOnAir}
+use Rattle.trace_audit.specs.private.OnAir.{LastOnAir}
 use Rattle.trace_audit.specs.Reading.{AreOnAir}
 
 get_last : (js : List Entry) (e : Entry) → slice_get (js ++ e ∷ []) (length js) ≡ Some e

@@ -6,8 +6,8 @@ use Rattle.bench_script.specs.Script.{Spells}
 use Rattle.bench_world.specs.Obeying.{Adds, Benched, Obeys, new_bench}
 use Rattle.bench_world.specs.Showing.{MayShow}
 use Rattle.trace_audit.specs.Auditing.{AreAudited, IsAudited, IsFaultyAt, IsReportOf, IsUnauditedAt}
-use Rattle.trace_audit.specs.OnAir.{LastOnAir}
-use Rattle.trace_audit.specs.Stepping.{AuditsLine, ObeysOn, StaysOn, StepsOn, StepsTo, StraysAtAnswer, StraysAtEvent, TakesBy, TakesLine}
+use Rattle.trace_audit.specs.private.OnAir.{LastOnAir}
+use Rattle.trace_audit.specs.private.Stepping.{AuditsLine, ObeysOn, StaysOn, StepsOn, StepsTo, StraysAtAnswer, StraysAtEvent, TakesBy, TakesLine}
 use Rattle.trace_audit.specs.declared.stepping.Walk.{Walk}
 use Rattle.trace_audit.proofs.LastEntry.{obeyed_on_air}
 use Rattle.trace_audit.proofs.Strayed.{Strayed, answer_strays, stray_ends, stray_goes_on, stray_refuses, stray_skips, walk_strays, walk_surplus}

@@ -10,7 +10,7 @@ use Rattle.bench_world.specs.declared.entry.Entry.{Entry}
 use Rattle.bench_world.specs.Journal.{LeadsTo}
 use Rattle.bench_world.specs.Legal.{Accepts, Joins, State}
 use Rattle.bench_world.specs.Taking.{AreSpelled, standing_of}
-use Rattle.bench_world.proofs.Shapes.{AreAlike, Shape, TakenAlike, accepts_too, legal_taken, shape}
+use Rattle.bench_world.proofs.devices.Shapes.{AreAlike, Shape, TakenAlike, accepts_too, legal_taken, shape}
 
 -- how many peers there are, by their shapes
 peers_by_shape : List Shape → ℕ

@@ -13,7 +13,7 @@ use Rattle.bench_world.specs.Obeying.{Benched}
 use Rattle.bench_world.specs.Report.{answer_text, line_text}
 use Rattle.trace_audit.specs.declared.stepping.Walk.{Walk}
 use Rattle.trace_audit.specs.ReadEvents.{AreRead}
-use Rattle.trace_audit.specs.Stepping.{ComesBehind, ComesBy, StepsOn, StepsTo, TakesBy, TakesLine}
+use Rattle.trace_audit.specs.private.Stepping.{ComesBehind, ComesBy, StepsOn, StepsTo, TakesBy, TakesLine}
 use Rattle.trace_audit.proofs.Counts.{events_read, line_read}
 
 -- a line that asks for something is followed, ...

@@ -28,7 +28,7 @@ use Rattle.bench_devices.specs.Device.{device_commands, device_store, how_of, si
 use Rattle.bench_devices.specs.Placed.{IfPlaced}
 use Rattle.bench_devices.specs.Reading.{AsksOf}
 use Rattle.bench_devices.specs.Writing.{AsksWriteOf}
-use Rattle.bench_devices.proofs.WriteLists.{always, area_all, both_all, first_all, puts_both, up_to_all, writes_all}
+use Rattle.bench_devices.proofs.writes.WriteLists.{always, area_all, both_all, first_all, puts_both, up_to_all, writes_all}
 use Rattle.bench_world.specs.Reading.{ReadAsks}
 use Rattle.bench_world.specs.Writing.{WriteAsks}
 use Rattle.trace_audit.specs.Technologies.{IsReadAs}

@@ -5,7 +5,7 @@ use Rattle.nfc_base.specs.declared.frame.Tech.TheVariants.{A}
 use Rattle.bench_world.specs.declared.entry.Entry.{Entry}
 use Rattle.bench_world.specs.Journal.{NumberedLine, AreEntriesOf, asking_lines}
 use Rattle.bench_world.specs.Legal.{State, Given, EachLegal, first_state}
-use Rattle.bench_world.proofs.Reached.{IsReady, first_ready, ready_step}
+use Rattle.bench_world.proofs.devices.Reached.{IsReady, first_ready, ready_step}
 use Rattle.trace_audit.specs.Reading.{HaveTech}
 use Rattle.trace_audit.specs.Technologies.{JournalsTech}
 use Rattle.trace_audit.proofs.TechNames.{names_well}

@@ -14,11 +14,11 @@ use Rattle.bench_devices.specs.declared.device.Device.TheVariants.{T2, T4, Peer,
 use Rattle.bench_devices.specs.Device.{device_id}
 use Rattle.bench_devices.specs.Keeping.{AreSound, IsSound, kept}
 use Rattle.bench_devices.specs.Placed.{device_with, IfPlaced}
-use Rattle.bench_devices.proofs.SelectingPlaces.{not_eight}
+use Rattle.bench_devices.proofs.finding.SelectingPlaces.{not_eight}
 use Rattle.bench_world.specs.Journal.{asking_lines}
 use Rattle.bench_world.specs.Legal.{State, first_state}
 use Rattle.bench_world.specs.Obeying.{state_at}
-use Rattle.bench_world.proofs.Reached.{IsReady, first_ready, ready_behind}
+use Rattle.bench_world.proofs.devices.Reached.{IsReady, first_ready, ready_behind}
 use Rattle.trace_audit.specs.Technologies.{IsReadAs, NamesBehind, NamesBetween, NamesWell}
 
 named_as : (id : DeviceId) (word : List ℕ) (d : Device) → SpellsId word id → IsSound (kept d) → device_id d ≡ bytes_of id → IsReadAs id d

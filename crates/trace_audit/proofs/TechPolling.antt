@@ -6,7 +6,7 @@ use Rattle.nfc_base.specs.declared.frame.Tech.{Tech}
 use Rattle.nfc_base.specs.declared.frame.Tech.TheVariants as techs
 use Rattle.air_core.specs.Conversation.{Note, Lit, Got, Lost, Next, Asks}
 use Rattle.air_core.proofs.Following.{light_is_no_request, over_is_no_request}
-use Rattle.nfca_poll.specs.OwnFrames.{BeginsAsCalls}
+use Rattle.nfca_poll.specs.laws.OwnFrames.{BeginsAsCalls}
 use Rattle.nfca_poll.specs.declared.fault.Picked.{Picked}
 use Rattle.nfca_poll.specs.declared.inventory.Vcrowd.{Vcrowd}
 use Rattle.nfca_poll.specs.Enquiry.{Enquiry, Progress, Reaches, Loses, due_of, enquiring, progress}
@@ -20,13 +20,13 @@ use Rattle.bench_script.specs.DeviceIds.{tech_for}
 use Rattle.bench_devices.specs.Polling as polls
 use Rattle.bench_devices.specs.Polling.{Followed, Told, asks, finding_all, follows, seen_kind, selecting, then_inventory}
 use Rattle.bench_devices.specs.Sensing.{from_reset, seeking, sensing}
-use Rattle.bench_devices.proofs.Following.{Closes, asks_same, kind_asks}
-use Rattle.bench_devices.proofs.FoundAll.{others_ask}
-use Rattle.bench_devices.proofs.Inventoried.{inventory_closes, tries_ask}
-use Rattle.bench_devices.proofs.Searching.{IsCall, asks_calls, search_closes}
-use Rattle.bench_devices.proofs.SeekingOne.{seeking_closes, seeks_one}
-use Rattle.bench_devices.proofs.SelectingV.{next_inventory}
-use Rattle.bench_devices.proofs.SensingAll.{sensing_closes, senses_one}
+use Rattle.bench_devices.proofs.finding.Following.{Closes, asks_same, kind_asks}
+use Rattle.bench_devices.proofs.finding.FoundAll.{others_ask}
+use Rattle.bench_devices.proofs.finding.Inventoried.{inventory_closes, tries_ask}
+use Rattle.bench_devices.proofs.finding.Searching.{IsCall, asks_calls, search_closes}
+use Rattle.bench_devices.proofs.finding.SeekingOne.{seeking_closes, seeks_one}
+use Rattle.bench_devices.proofs.finding.SelectingV.{next_inventory}
+use Rattle.bench_devices.proofs.finding.SensingAll.{sensing_closes, senses_one}
 use Rattle.trace_audit.specs.Reading.{is_inventory}
 use Rattle.trace_audit.proofs.TechTurns.{IsOf, IsSentBy}
 

@@ -13,8 +13,8 @@ use Rattle.bench_script.specs.declared.command.Command.TheVariants.{Skip, Fates,
 use Rattle.bench_script.specs.DeviceIds.{bytes_of, tech_for}
 use Rattle.bench_script.specs.Messages.{message_of}
 use Rattle.bench_devices.specs.Placed.{device_with}
-use Rattle.bench_devices.proofs.CrowdSteps.{of_nfc_v}
-use Rattle.bench_devices.proofs.SelectingKept.{due_asked}
+use Rattle.bench_devices.proofs.finding.CrowdSteps.{of_nfc_v}
+use Rattle.bench_devices.proofs.finding.SelectingKept.{due_asked}
 use Rattle.bench_world.specs.Asked.{slot_messages}
 use Rattle.bench_world.specs.Legal.{State, Given, Accepts, IsAskedBy, world_at_start, due}
 use Rattle.bench_world.specs.Linking.{own_general}

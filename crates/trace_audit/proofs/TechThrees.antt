@@ -16,7 +16,7 @@ use Rattle.bench_devices.specs.Polling as polls
 use Rattle.bench_devices.specs.Polling.{Followed, Told, asks}
 use Rattle.bench_devices.specs.Sensing.{seeking}
 use Rattle.bench_devices.specs.ThreeAsking.{then_three, three_due}
-use Rattle.bench_devices.proofs.ThreeLists.{all_more}
+use Rattle.bench_devices.proofs.type3.ThreeLists.{all_more}
 use Rattle.bench_world.specs.Threes.{ReadAsks3, WriteAsks3}
 use Rattle.trace_audit.proofs.TechPolling.{AsksOf, seeking_tech}
 use Rattle.trace_audit.proofs.TechTurns.{IsOf}

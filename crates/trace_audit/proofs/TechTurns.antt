@@ -19,7 +19,7 @@ use Rattle.bench_script.specs.declared.command.Command.{Command}
 use Rattle.bench_devices.specs.declared.device.Device.{Device}
 use Rattle.bench_devices.specs.Device.{devices, device_linked, device_tech}
 use Rattle.bench_devices.specs.Keeping.{EachAsked}
-use Rattle.bench_devices.specs.Standing.{own_tech}
+use Rattle.bench_devices.specs.laws.Standing.{own_tech}
 use Rattle.bench_world.specs.World.{FarEnd, WholeWorld, bench_air}
 use Rattle.trace_audit.specs.Reading.{HaveTech, sent_tech}
 

@@ -1,9 +1,6 @@
 pub mod Auditing
 pub mod Judging
-pub mod OnAir
+pub mod private
 pub mod Reading
-pub mod Cutting
-pub mod Finding
 pub mod ReadEvents
-pub mod Stepping
 pub mod Technologies

@@ -2,7 +2,7 @@
 
 ghost use Rattle.std.specs.Prelude.{◌≡◌, ◌≢◌, [], ◌∷◌, MatchOption};
 ghost use Rattle.std.specs.List.{All};
-ghost use Rattle.trace_audit.specs.Cutting.{IsCutAt, IsFirstLine, IsNextLine};
+ghost use Rattle.trace_audit.specs.private.Cutting.{IsCutAt, IsFirstLine, IsNextLine};
 
 /// The first line of a script, without its LF, and what stands behind; the last may lack it.
 pub fn next_line(script: &[u8]) -> Option<(&[u8], &[u8])>

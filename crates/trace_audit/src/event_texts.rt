@@ -6,7 +6,7 @@ ghost use Rattle.hex.specs.Hex.{encode_upper, IsBytes};
 ghost use Rattle.nfc_base.specs.Signal.{signal, IsSignal};
 ghost use Rattle.bench_world.specs.Report.{fate_text};
 ghost use Rattle.bench_world.specs.ReadBack.{IsOf};
-ghost use Rattle.trace_audit.specs.Finding.{Finds, IsDigitsOf, IsWordOf, IsSentOf, IsTextOf, IsLineOf};
+ghost use Rattle.trace_audit.specs.private.Finding.{Finds, IsDigitsOf, IsWordOf, IsSentOf, IsTextOf, IsLineOf};
 
 use crate::cutting::cut_at;
 use nfc_base::{Event, Fate, Frame, Tech};

@@ -4,7 +4,7 @@ ghost use Rattle.std.specs.Prelude.{◌≡◌, ◌+◌, ◌-◌, ◌≤◌, ◌<
 ghost use Rattle.bench_world.specs.Obeying.{new_bench};
 ghost use Rattle.nfc_io.specs.Lines.{lines_of};
 ghost use Rattle.trace_audit.specs.Judging.{JudgedAt, Judges, RefusedAt, RefusesScript, audit_fault_number};
-ghost use Rattle.trace_audit.specs.Stepping.{AuditsLine, Shrinks};
+ghost use Rattle.trace_audit.specs.private.Stepping.{AuditsLine, Shrinks};
 
 use crate::cutting::next_line;
 use crate::stepping::{Walk, take_line};

@@ -1,6 +1,6 @@
 //! That what was obeyed is such as may be on the air: the type of the code's frames says so.
 
-ghost use Rattle.trace_audit.specs.OnAir.{LastOnAir};
+ghost use Rattle.trace_audit.specs.private.OnAir.{LastOnAir};
 
 use bench_world::{Entry, see_on_air};
 

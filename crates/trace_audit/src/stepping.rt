@@ -5,8 +5,8 @@ ghost use Rattle.bench_world.specs.Following.{MayFollow};
 ghost use Rattle.bench_world.specs.Obeying.{Obeys};
 ghost use Rattle.bench_world.specs.Report.{answer_text, line_text};
 ghost use Rattle.bench_world.specs.Showing.{MayShow};
-ghost use Rattle.trace_audit.specs.OnAir.{LastOnAir};
-ghost use Rattle.trace_audit.specs.Stepping.{ComesBehind, Shrinks, StepsOn, TakesLine};
+ghost use Rattle.trace_audit.specs.private.OnAir.{LastOnAir};
+ghost use Rattle.trace_audit.specs.private.Stepping.{ComesBehind, Shrinks, StepsOn, TakesLine};
 
 use crate::on_air::see_last;
 use crate::reading::read_events;

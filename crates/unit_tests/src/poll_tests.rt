@@ -37,7 +37,7 @@ impl Upper for Card {
     ghost use Rattle.nfc_base.specs.Signal.{whole_a};
     ghost use Rattle.nfc_base.specs.Far.{Untouched};
     ghost use Rattle.nfc_base.specs.Headed.{is_rats, is_headed};
-    ghost use Rattle.nfca_poll.specs.OwnFrames.{call_begins, no_read};
+    ghost use Rattle.nfca_poll.specs.laws.OwnFrames.{call_begins, no_read};
     ghost use Rattle.nfca_poll.specs.declared.kind.Kind.TheVariants.{T4};
     ghost use Rattle.nfca_poll.specs.declared.upper.UpStep.TheVariants as steps;
 

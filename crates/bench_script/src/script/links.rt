@@ -1,7 +1,7 @@
 //! The lines of links, and of frames and payloads that are written by hand.
 
 ghost use Rattle.std.specs.Prelude.{◌∷◌, IfOk, IsErrOf, codes};
-ghost use Rattle.bench_script.specs.Words.{SpellsNone};
+ghost use Rattle.bench_script.specs.private.Words.{SpellsNone};
 ghost use Rattle.bench_script.specs.Script.{words_of, SpelledBy};
 
 use super::rows::{MOST_SLOT, frame_words, payload_words, put_words};

@@ -2,7 +2,7 @@
 
 ghost use Rattle.std.specs.Prelude.{◌≡◌, ◌<◌, IfOk, IsErrOf};
 ghost use Rattle.bench_script.specs.Script.{words_of, SpellsPayload, SpellPayloads, SpellsFrame, SpellFrames, SpellsSlotPut, SpellRow, SpellPuts, most_puts};
-ghost use Rattle.bench_script.specs.Words.{NoneOf, CutsTail};
+ghost use Rattle.bench_script.specs.private.Words.{NoneOf, CutsTail};
 
 use super::LineFault;
 use super::words::{colon_parts, cut_word, hex_word, message_word, small_word};

@@ -9,7 +9,7 @@ ghost use Rattle.std.specs.Fmt.{decimal};
 ghost use Rattle.bench_script.specs.Script.{words_of, SpellsHex, SpellsIdent, SpellsIdV, SpellsId, SpellsWithin, SpellsSize, SpellsCode, SpellsBlock, fate_letter, SpellsFates, SpellsCounted, SpellsMsg, SpellsName};
 ghost use Rattle.bench_script.specs.declared.command.DeviceId.{DeviceId as Named};
 ghost use Rattle.bench_script.specs.declared.script.words.CommandName.{CommandName as Names};
-ghost use Rattle.bench_script.specs.Words.{CutsWord, NoneOf, AreThree, AreFour, AreFive, NotOne, NotTwo, NotThree, NotFour, NotFive, HasNoColon, IsCutAtColon, SpellsNoCount, SpellsNoHex, name_text};
+ghost use Rattle.bench_script.specs.private.Words.{CutsWord, NoneOf, AreThree, AreFour, AreFive, NotOne, NotTwo, NotThree, NotFour, NotFive, HasNoColon, IsCutAtColon, SpellsNoCount, SpellsNoHex, name_text};
 
 use super::LineFault;
 use crate::command::DeviceId;

@@ -8,7 +8,7 @@ ghost use Rattle.bench_world.specs.Obeying.{new_bench};
 ghost use Rattle.trace_audit.specs.Judging.{Judges};
 ghost use Rattle.nfc_bench.specs.Audit.{EndsLegal, EndsFaulty, EndsUnfound, IsAudited};
 ghost use Rattle.nfc_bench.specs.AuditInput.{most_audited};
-ghost use Rattle.nfc_bench.specs.AuditStops.{HasJudged, LinesStop, AuditStops};
+ghost use Rattle.nfc_bench.specs.private.AuditStops.{HasJudged, LinesStop, AuditStops};
 ghost use Rattle.nfc_bench.specs.Run.{AddsFault, EndsUnaudited, EndsUnheard, ReadsAtMost, memory_fault};
 
 use super::audit_input::{AuditInput, Behind, read_input};

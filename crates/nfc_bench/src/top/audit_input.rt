@@ -6,7 +6,7 @@ ghost use Rattle.nfc_io.specs.Reading.{new_lined};
 ghost use Rattle.nfc_bench.specs.AuditInput.{ends_in, most_report, most_audited};
 ghost use Rattle.nfc_bench.specs.Limits.{chunk_size};
 ghost use Rattle.nfc_bench.specs.Run.{ReadsAtMost};
-ghost use Rattle.nfc_bench.specs.AuditReading.{most_ahead, GoesTo, WentOn, Comes, HandsReport, ReadsInput};
+ghost use Rattle.nfc_bench.specs.private.AuditReading.{most_ahead, GoesTo, WentOn, Comes, HandsReport, ReadsInput};
 
 use super::script::Unread;
 use nfc_io::{LineReader, LineStop, Rest, RestFault, Source};

@@ -1,6 +1,6 @@
 use Rattle.std.proofs.Common.{[], arith}
 use Rattle.air_core.specs.Listening.{said_at}
-use Rattle.air_core.specs.Joining.{joint_with}
+use Rattle.air_core.specs.private.Joining.{joint_with}
 use Rattle.air_core.proofs.Hearings.{Whole, go_on, ends, stop_goes_on, stops_here}
 use Rattle.air_core.proofs.hearing.hear_all.Goals as goal
 

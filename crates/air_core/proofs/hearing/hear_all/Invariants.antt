@@ -1,4 +1,4 @@
-use Rattle.air_core.specs.Joining.{IsJoined}
+use Rattle.air_core.specs.private.Joining.{IsJoined}
 use Rattle.air_core.proofs.Hearings.{GoesOn, StopGoesOn}
 use Rattle.air_core.proofs.hearing.hear_all.Given as goal
 

@@ -1,5 +1,5 @@
 use Rattle.nfcv_poll.specs.Finding.{identifiers}
-use Rattle.bench_devices.proofs.CrowdFound.{crowd_cut, crowd_found}
+use Rattle.bench_devices.proofs.finding.CrowdFound.{crowd_cut, crowd_found}
 use Rattle.bench_devices.proofs.crowding.sweep_tags.Goals as goal
 
 pub returns-clause-tells : goal.returns-clause-tells

@@ -1,6 +1,6 @@
-use Rattle.bench_devices.proofs.AnyFrame as any
-use Rattle.bench_devices.proofs.EveryFrame as laws
-use Rattle.bench_devices.proofs.Tidy.{events_tidy}
+use Rattle.bench_devices.proofs.kinds.AnyFrame as any
+use Rattle.bench_devices.proofs.kinds.EveryFrame as laws
+use Rattle.bench_devices.proofs.kinds.Tidy.{events_tidy}
 use Rattle.bench_devices.proofs.law.devices_stay.Goals as goal
 
 pub returns-clause-stay : goal.returns-clause-stay

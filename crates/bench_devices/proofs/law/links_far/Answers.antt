@@ -1,5 +1,5 @@
-use Rattle.bench_devices.proofs.FarLeaves.{far_leaves}
-use Rattle.bench_devices.proofs.LinkFar.{selects_far, opens_far}
+use Rattle.bench_devices.proofs.far_ends.FarLeaves.{far_leaves}
+use Rattle.bench_devices.proofs.far_ends.LinkFar.{selects_far, opens_far}
 use Rattle.bench_devices.proofs.law.links_far.Goals as goal
 
 pub returns-clause-selects : goal.returns-clause-selects

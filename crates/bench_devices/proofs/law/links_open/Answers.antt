@@ -1,10 +1,10 @@
-use Rattle.bench_devices.proofs.BesideLink as beside
-use Rattle.bench_devices.proofs.LinkedPeer as linked
-use Rattle.bench_devices.proofs.LinkingNotes as notes
-use Rattle.bench_devices.proofs.OpensPeer as opens
-use Rattle.bench_devices.proofs.PeerHere as here
-use Rattle.bench_devices.proofs.SwapLeaves as swaps
-use Rattle.bench_devices.proofs.TalkTurns as turns
+use Rattle.bench_devices.proofs.far_ends.BesideLink as beside
+use Rattle.bench_devices.proofs.kinds.LinkedPeer as linked
+use Rattle.bench_devices.proofs.far_ends.LinkingNotes as notes
+use Rattle.bench_devices.proofs.far_ends.OpensPeer as opens
+use Rattle.bench_devices.proofs.kinds.PeerHere as here
+use Rattle.bench_devices.proofs.far_ends.SwapLeaves as swaps
+use Rattle.bench_devices.proofs.far_ends.TalkTurns as turns
 use Rattle.bench_devices.proofs.law.links_open.Goals as goal
 
 pub returns-clause-asks : goal.returns-clause-asks

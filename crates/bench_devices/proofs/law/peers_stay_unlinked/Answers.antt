@@ -1,7 +1,7 @@
-use Rattle.bench_devices.proofs.AnyFrame as any
-use Rattle.bench_devices.proofs.CalmDues as laws
-use Rattle.bench_devices.proofs.CalmThrees as threes
-use Rattle.bench_devices.proofs.PeerLinks as links
+use Rattle.bench_devices.proofs.kinds.AnyFrame as any
+use Rattle.bench_devices.proofs.turns.CalmDues as laws
+use Rattle.bench_devices.proofs.turns.CalmThrees as threes
+use Rattle.bench_devices.proofs.kinds.PeerLinks as links
 use Rattle.bench_devices.proofs.law.peers_stay_unlinked.Goals as goal
 
 pub returns-clause-links : goal.returns-clause-links

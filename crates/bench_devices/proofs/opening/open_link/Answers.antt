@@ -1,4 +1,4 @@
-use Rattle.bench_devices.proofs.OpensPeer.{has_target, opens}
+use Rattle.bench_devices.proofs.far_ends.OpensPeer.{has_target, opens}
 use Rattle.dep_link.specs.Activating.{by_cause}
 use Rattle.bench_devices.proofs.opening.open_link.Goals as goal
 

@@ -1,7 +1,7 @@
 use Rattle.std.proofs.Common.{nat_eq, arith, ap, sym, ◌∙◌}
 use Rattle.std.specs.Cmp.Lexicographic.{pointwise}
 use Rattle.bench_devices.specs.Device.{device_id}
-use Rattle.bench_devices.proofs.SelectingPlaces.{stands_at}
+use Rattle.bench_devices.proofs.finding.SelectingPlaces.{stands_at}
 use Rattle.bench_devices.proofs.polling.place_of.Goals as goal
 
 pub returns-then-is_named : goal.returns-then-is_named

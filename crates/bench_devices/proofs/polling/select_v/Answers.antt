@@ -8,8 +8,8 @@ use Rattle.bench_devices.specs.declared.device.Device.{Device}
 use Rattle.bench_devices.specs.Placed.{device_with}
 use Rattle.bench_devices.specs.Choosing.{StandsAt}
 use Rattle.bench_devices.specs.Phases.{Selects, SelectsTo}
-use Rattle.bench_devices.proofs.SelectingV.{five, quiet, reset_done, placed, selects, selects_at, cut, uncut}
-use Rattle.bench_devices.proofs.Selections.{if_missed, not_starved, if_cut, reset_failed}
+use Rattle.bench_devices.proofs.finding.SelectingV.{five, quiet, reset_done, placed, selects, selects_at, cut, uncut}
+use Rattle.bench_devices.proofs.finding.Selections.{if_missed, not_starved, if_cut, reset_failed}
 use Rattle.bench_devices.proofs.polling.select_v.Goals as goal
 
 pub place_of-requires : goal.place_of-requires

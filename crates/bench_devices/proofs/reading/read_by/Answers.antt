@@ -1,6 +1,6 @@
-use Rattle.bench_devices.specs.Linking.{seen_plain}
-use Rattle.bench_devices.proofs.NewLinks.{new_ready, new_is_tag}
-use Rattle.bench_devices.proofs.ReadingEnds.{ends_read, ends_cut}
+use Rattle.bench_devices.specs.private.Linking.{seen_plain}
+use Rattle.bench_devices.proofs.selected.NewLinks.{new_ready, new_is_tag}
+use Rattle.bench_devices.proofs.reads.ReadingEnds.{ends_read, ends_cut}
 use Rattle.bench_devices.proofs.reading.read_by.Goals as goal
 
 pub read-requires-clause-ready : goal.read-requires-clause-ready

@@ -1,6 +1,6 @@
 use Rattle.std.proofs.Common.{rules}
-use Rattle.bench_devices.proofs.CardParts.{opened_at, opened_fresh, link_is}
-use Rattle.bench_devices.proofs.CardReading.{ends_linked, ends_unanswered, ends_cut, cut_unanswered}
+use Rattle.bench_devices.proofs.selected.CardParts.{opened_at, opened_fresh, link_is}
+use Rattle.bench_devices.proofs.reads.CardReading.{ends_linked, ends_unanswered, ends_cut, cut_unanswered}
 use Rattle.bench_devices.proofs.reading.read_card.Goals as goal
 
 pub read_linked-requires-clause-tag : goal.read_linked-requires-clause-tag

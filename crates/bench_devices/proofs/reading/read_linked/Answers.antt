@@ -1,7 +1,7 @@
 use Rattle.isodep_link.specs.IsoLinks.{seen_link}
 use Rattle.bench_devices.specs.Device.{size_of}
-use Rattle.bench_devices.proofs.CardLinks.{new_ready, new_tag}
-use Rattle.bench_devices.proofs.CardReadingLinks.{ends_read, cut_read}
+use Rattle.bench_devices.proofs.selected.CardLinks.{new_ready, new_tag}
+use Rattle.bench_devices.proofs.reads.CardReadingLinks.{ends_read, cut_read}
 use Rattle.bench_devices.proofs.reading.read_linked.Goals as goal
 
 pub read-requires-clause-ready : goal.read-requires-clause-ready

@@ -1,6 +1,6 @@
 use Rattle.std.proofs.Common.{arith, refl, sym, ap, ◌∙◌}
 use Rattle.bench_devices.specs.Sensing.{is_three}
-use Rattle.bench_devices.proofs.Sensed.{no_three, three_at, three_past}
+use Rattle.bench_devices.proofs.finding.Sensed.{no_three, three_at, three_past}
 use Rattle.bench_devices.proofs.sensing.find_three.Goals as goal
 
 pub returns-then-is_three : goal.returns-then-is_three

@@ -3,10 +3,10 @@ use Rattle.air_core.specs.World.{World}
 use Rattle.air_core.specs.Conversation.{Moment}
 use Rattle.t3t_access.specs.Polling.{polling_f}
 use Rattle.bench_devices.specs.declared.device.Device.{Device}
-use Rattle.bench_devices.proofs.FromReset.{quiet, uncut}
-use Rattle.bench_devices.proofs.Selections.{reset_failed}
-use Rattle.bench_devices.proofs.SelectingV.{reset_done}
-use Rattle.bench_devices.proofs.SensingAll.{sensing_closes, senses_one, senses_no_light, senses, sensing_cut}
+use Rattle.bench_devices.proofs.finding.FromReset.{quiet, uncut}
+use Rattle.bench_devices.proofs.finding.Selections.{reset_failed}
+use Rattle.bench_devices.proofs.finding.SelectingV.{reset_done}
+use Rattle.bench_devices.proofs.finding.SensingAll.{sensing_closes, senses_one, senses_no_light, senses, sensing_cut}
 use Rattle.bench_devices.proofs.sensing.poll_three.Goals as goal
 
 pub returns-clause-tells : goal.returns-clause-tells

@@ -5,10 +5,10 @@ use Rattle.air_core.specs.Conversation.{Moment}
 use Rattle.t3t_access.specs.Polling.{picking_f}
 use Rattle.bench_devices.specs.declared.device.Device.{Device}
 use Rattle.bench_devices.specs.Sensing.{FindsThree, SeeksTo}
-use Rattle.bench_devices.proofs.FromReset.{quiet, uncut}
-use Rattle.bench_devices.proofs.SeekingOne.{seeking_closes, seeks_one, seeks_no_light, seeks_to, seeks_fault, seeking_cut}
-use Rattle.bench_devices.proofs.Selections.{if_missed, if_cut, reset_failed}
-use Rattle.bench_devices.proofs.SelectingV.{reset_done}
+use Rattle.bench_devices.proofs.finding.FromReset.{quiet, uncut}
+use Rattle.bench_devices.proofs.finding.SeekingOne.{seeking_closes, seeks_one, seeks_no_light, seeks_to, seeks_fault, seeking_cut}
+use Rattle.bench_devices.proofs.finding.Selections.{if_missed, if_cut, reset_failed}
+use Rattle.bench_devices.proofs.finding.SelectingV.{reset_done}
 use Rattle.bench_devices.proofs.sensing.select_three.Goals as goal
 
 pub returns-in-Ok-clause-ok : goal.returns-in-Ok-clause-ok

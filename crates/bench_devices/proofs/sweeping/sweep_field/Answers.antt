@@ -7,7 +7,7 @@ use Rattle.nfca_poll.specs.declared.inventory.Vcrowd.{Vcrowd}
 use Rattle.nfca_poll.specs.Rounds.{listed, LeavesLit}
 use Rattle.bench_devices.specs.declared.sweeping.Everybody.{Everybody}
 use Rattle.bench_devices.specs.Phases.{Searches}
-use Rattle.bench_devices.proofs.FoundAll.{quiet_find, quiet_inventory, together, searches_one, searches_both, cut_one, cut_both}
+use Rattle.bench_devices.proofs.finding.FoundAll.{quiet_find, quiet_inventory, together, searches_one, searches_both, cut_one, cut_both}
 use Rattle.bench_devices.proofs.sweeping.sweep_field.Goals as goal
 
 pub returns-in_err-find_all-clause-tells : goal.returns-in_err-find_all-clause-tells

@@ -1,6 +1,6 @@
-use Rattle.bench_devices.specs.Linking.{seen_plain}
-use Rattle.bench_devices.proofs.ThreeReading.{ends_read, ends_cut}
-use Rattle.bench_devices.proofs.ThreeTags.{new_three_ready, new_three_of}
+use Rattle.bench_devices.specs.private.Linking.{seen_plain}
+use Rattle.bench_devices.proofs.type3.ThreeReading.{ends_read, ends_cut}
+use Rattle.bench_devices.proofs.type3.ThreeTags.{new_three_ready, new_three_of}
 use Rattle.bench_devices.proofs.threes.read_behind.Goals as goal
 
 pub read3-requires-clause-ready : goal.read3-requires-clause-ready

@@ -1,8 +1,8 @@
 use Rattle.std.proofs.Common.{rules}
 use Rattle.air_core.specs.Turn.{moment}
 use Rattle.bench_devices.specs.Threes.{ReadsThreeAt, CutThreeAt}
-use Rattle.bench_devices.proofs.NewLinks.{given_back}
-use Rattle.bench_devices.proofs.ThreeTags.{has_three_tag}
+use Rattle.bench_devices.proofs.selected.NewLinks.{given_back}
+use Rattle.bench_devices.proofs.type3.ThreeTags.{has_three_tag}
 use Rattle.bench_devices.proofs.threes.read_three.Goals as goal
 
 pub on-link-requires : goal.on-link-requires

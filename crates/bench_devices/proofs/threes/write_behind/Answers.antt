@@ -1,6 +1,6 @@
-use Rattle.bench_devices.specs.Linking.{seen_plain}
-use Rattle.bench_devices.proofs.ThreeWriting.{ends_written, ends_write_cut}
-use Rattle.bench_devices.proofs.ThreeTags.{new_three_ready, new_three_of}
+use Rattle.bench_devices.specs.private.Linking.{seen_plain}
+use Rattle.bench_devices.proofs.type3.ThreeWriting.{ends_written, ends_write_cut}
+use Rattle.bench_devices.proofs.type3.ThreeTags.{new_three_ready, new_three_of}
 use Rattle.bench_devices.proofs.threes.write_behind.Goals as goal
 
 pub write3-requires-clause-ready : goal.write3-requires-clause-ready

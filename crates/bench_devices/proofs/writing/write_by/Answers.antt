@@ -1,6 +1,6 @@
-use Rattle.bench_devices.specs.Linking.{seen_plain}
-use Rattle.bench_devices.proofs.NewLinks.{new_ready, new_is_tag}
-use Rattle.bench_devices.proofs.WritingEnds.{ends_written, ends_cut}
+use Rattle.bench_devices.specs.private.Linking.{seen_plain}
+use Rattle.bench_devices.proofs.selected.NewLinks.{new_ready, new_is_tag}
+use Rattle.bench_devices.proofs.writes.WritingEnds.{ends_written, ends_cut}
 use Rattle.bench_devices.proofs.writing.write_by.Goals as goal
 
 pub write-requires-clause-ready : goal.write-requires-clause-ready

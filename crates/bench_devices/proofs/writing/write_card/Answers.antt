@@ -1,6 +1,6 @@
 use Rattle.std.proofs.Common.{rules}
-use Rattle.bench_devices.proofs.CardParts.{opened_at, opened_fresh, link_is}
-use Rattle.bench_devices.proofs.CardWriting.{ends_linked, ends_unanswered, ends_cut, cut_unanswered}
+use Rattle.bench_devices.proofs.selected.CardParts.{opened_at, opened_fresh, link_is}
+use Rattle.bench_devices.proofs.writes.CardWriting.{ends_linked, ends_unanswered, ends_cut, cut_unanswered}
 use Rattle.bench_devices.proofs.writing.write_card.Goals as goal
 
 pub write_linked-requires-clause-tag : goal.write_linked-requires-clause-tag

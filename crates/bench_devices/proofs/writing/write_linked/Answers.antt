@@ -1,7 +1,7 @@
 use Rattle.isodep_link.specs.IsoLinks.{seen_link}
 use Rattle.bench_devices.specs.Device.{size_of}
-use Rattle.bench_devices.proofs.CardLinks.{new_ready, new_tag}
-use Rattle.bench_devices.proofs.CardWriting.{writes_on, writes_some_on}
+use Rattle.bench_devices.proofs.selected.CardLinks.{new_ready, new_tag}
+use Rattle.bench_devices.proofs.writes.CardWriting.{writes_on, writes_some_on}
 use Rattle.bench_devices.proofs.writing.write_linked.Goals as goal
 
 pub write-requires-clause-ready : goal.write-requires-clause-ready

@@ -1,9 +1,9 @@
 use Rattle.std.proofs.Common.{rules, subst}
 use Rattle.air_core.specs.Turn.{moment}
-use Rattle.bench_devices.specs.Linking.{IsPlainHow}
+use Rattle.bench_devices.specs.private.Linking.{IsPlainHow}
 use Rattle.bench_devices.specs.Phases.{WritesAt, CutAtWrite}
-use Rattle.bench_devices.proofs.NewLinks.{given_back}
-use Rattle.bench_devices.proofs.ReadingTags.{has_tag}
+use Rattle.bench_devices.proofs.selected.NewLinks.{given_back}
+use Rattle.bench_devices.proofs.reads.ReadingTags.{has_tag}
 use Rattle.bench_devices.proofs.writing.write_plain.Goals as goal
 
 pub on-link-requires : goal.on-link-requires

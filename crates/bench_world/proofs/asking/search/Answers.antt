@@ -8,9 +8,9 @@ use Rattle.bench_world.specs.declared.entry.Answer.TheVariants as answers
 use Rattle.bench_world.specs.Answering.{poll_answer}
 use Rattle.bench_world.specs.Crowded.{seen_all, is_crowd}
 use Rattle.bench_world.specs.Obeying.{ObeyedUnlinked}
-use Rattle.bench_world.proofs.Legality.{search_obeyed, search_cut, search_part}
-use Rattle.bench_world.proofs.Telling.{may_search, poll_fed, fault_found}
-use Rattle.bench_world.proofs.Outcomes.{if_ok, on_err}
+use Rattle.bench_world.proofs.tags.Legality.{search_obeyed, search_cut, search_part}
+use Rattle.bench_world.proofs.tags.Telling.{may_search, poll_fed, fault_found}
+use Rattle.bench_world.proofs.lines.Outcomes.{if_ok, on_err}
 use Rattle.bench_world.proofs.asking.search.Goals as goal
 
 pub missed-requires : goal.missed-requires

@@ -7,8 +7,8 @@ use Rattle.bench_devices.specs.Crowding.{CrowdsField}
 use Rattle.bench_world.specs.declared.entry.Answer.TheVariants as answers
 use Rattle.bench_world.specs.Answering.{poll_answer}
 use Rattle.bench_world.specs.Obeying.{ObeyedUnlinked}
-use Rattle.bench_world.proofs.Legality.{crowd_obeyed, crowd_cut, crowd_part, crowd_fed, may_crowd}
-use Rattle.bench_world.proofs.Outcomes.{if_ok, on_err}
+use Rattle.bench_world.proofs.tags.Legality.{crowd_obeyed, crowd_cut, crowd_part, crowd_fed, may_crowd}
+use Rattle.bench_world.proofs.lines.Outcomes.{if_ok, on_err}
 use Rattle.bench_world.proofs.asking.search_tags.Goals as goal
 
 pub missed-requires : goal.missed-requires

@@ -8,10 +8,10 @@ use Rattle.bench_world.specs.Answering.{poll_answer, read_answer}
 use Rattle.bench_world.specs.Obeying.{ObeyedUnlinked, CutOffUnlinked}
 use Rattle.bench_devices.specs.Device.{may_be_read}
 use Rattle.tag_reader.specs.declared.fault.ReadFault.TheVariants as reading
-use Rattle.bench_world.proofs.SelectedPlace.{looked_at}
-use Rattle.bench_world.proofs.Legality.{peer_obeyed, read_obeyed, missed_obeyed, read_cut, selection_cut, missed_part}
-use Rattle.bench_world.proofs.Telling.{poll_told, may_end, fed_by}
-use Rattle.bench_world.proofs.Outcomes.{if_ok, on_err, on_err_by}
+use Rattle.bench_world.proofs.devices.SelectedPlace.{looked_at}
+use Rattle.bench_world.proofs.tags.Legality.{peer_obeyed, read_obeyed, missed_obeyed, read_cut, selection_cut, missed_part}
+use Rattle.bench_world.proofs.tags.Telling.{poll_told, may_end, fed_by}
+use Rattle.bench_world.proofs.lines.Outcomes.{if_ok, on_err, on_err_by}
 use Rattle.bench_world.proofs.asking.select_and_read.Goals as goal
 
 pub read-requires : goal.read-requires

@@ -10,11 +10,11 @@ use Rattle.bench_script.specs.declared.message.Msg.{Msg}
 use Rattle.bench_world.specs.Obeying.{ObeyedUnlinked, CutOffUnlinked}
 use Rattle.bench_devices.specs.Device.{may_be_read}
 use Rattle.tag_writer.specs.declared.fault.WriteFault.TheVariants as writing
-use Rattle.bench_world.proofs.SelectedPlace.{looked_at}
-use Rattle.bench_world.proofs.WriteLegality.{peer_write, write_obeyed, missed_write, write_cut, selection_cut_write}
-use Rattle.bench_world.proofs.WriteTelling.{may_write, write_fed}
-use Rattle.bench_world.proofs.Legality.{missed_part}
-use Rattle.bench_world.proofs.Outcomes.{if_ok, on_err, on_err_by}
+use Rattle.bench_world.proofs.devices.SelectedPlace.{looked_at}
+use Rattle.bench_world.proofs.tags.WriteLegality.{peer_write, write_obeyed, missed_write, write_cut, selection_cut_write}
+use Rattle.bench_world.proofs.tags.WriteTelling.{may_write, write_fed}
+use Rattle.bench_world.proofs.tags.Legality.{missed_part}
+use Rattle.bench_world.proofs.lines.Outcomes.{if_ok, on_err, on_err_by}
 use Rattle.bench_world.proofs.asking.select_and_write.Goals as goal
 
 pub write-requires : goal.write-requires

@@ -2,7 +2,7 @@ use Rattle.std.proofs.Common.{rules, ◌≡◌, sym, subst}
 use Rattle.link_calls.specs.AtOnce.{AreApart}
 use Rattle.bench_world.specs.Asked.{slot_messages}
 use Rattle.bench_world.specs.Legal.{MayPuts}
-use Rattle.bench_world.proofs.Talked.{puts_apart}
+use Rattle.bench_world.proofs.link_law.Talked.{puts_apart}
 use Rattle.bench_world.proofs.at_once.puts.Goals as goal
 
 pub talk-requires-clause-may : goal.talk-requires-clause-may

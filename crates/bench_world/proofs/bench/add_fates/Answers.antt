@@ -1,4 +1,4 @@
-use Rattle.bench_world.proofs.Placed.{fates_added}
+use Rattle.bench_world.proofs.devices.Placed.{fates_added}
 use Rattle.bench_world.proofs.bench.add_fates.Goals as goal
 
 pub returns-in-Ok-clause-ok : goal.returns-in-Ok-clause-ok

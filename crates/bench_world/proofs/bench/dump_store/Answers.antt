@@ -7,7 +7,7 @@ use Rattle.bench_devices.specs.Choosing.{StandsAt}
 use Rattle.bench_devices.specs.Device.{memory_in, is_tag}
 use Rattle.bench_world.specs.Obeying.{ObeyedBelow}
 use Rattle.bench_script.specs.DeviceIds.{bytes_of}
-use Rattle.bench_world.proofs.Locking.{stands_there, at_place, of_device, memory_told}
+use Rattle.bench_world.proofs.devices.Locking.{stands_there, at_place, of_device, memory_told}
 use Rattle.bench_world.proofs.bench.dump_store.Goals as goal
 
 pub returns-in-Ok-clause-ok : goal.returns-in-Ok-clause-ok

@@ -4,7 +4,7 @@ use Rattle.bench_devices.specs.declared.device.Device.{Device}
 use Rattle.bench_devices.specs.Choosing.{StandsAt}
 use Rattle.bench_devices.specs.Device.{blocks_of, device_locked}
 use Rattle.bench_script.specs.DeviceIds.{bytes_of}
-use Rattle.bench_world.proofs.Locking.{stands_there, at_place, of_device, block_locked}
+use Rattle.bench_world.proofs.devices.Locking.{stands_there, at_place, of_device, block_locked}
 use Rattle.bench_world.proofs.bench.lock_block.Goals as goal
 
 pub returns-then-block-blocks-clause-cause : goal.returns-then-block-blocks-clause-cause

@@ -1,6 +1,6 @@
 use Rattle.std.proofs.Common.{refl}
 use Rattle.bench_world.specs.Legal.{no_joins}
-use Rattle.bench_world.proofs.Legality.{untouched}
+use Rattle.bench_world.proofs.tags.Legality.{untouched}
 use Rattle.bench_world.proofs.bench.make_shown.Goals as goal
 
 pub returns-in_default-clause-cut : goal.returns-in_default-clause-cut

@@ -8,7 +8,7 @@ use Rattle.bench_devices.specs.declared.device.Device.TheVariants.{T2}
 use Rattle.bench_devices.specs.Device.{device_darkened}
 use Rattle.bench_world.specs.Legal.{MayPlaceT2, memory_of}
 use Rattle.bench_world.specs.Obeying.{Machines, state_at}
-use Rattle.bench_world.proofs.Placed.{one_more, t2_placed}
+use Rattle.bench_world.proofs.devices.Placed.{one_more, t2_placed}
 use Rattle.bench_world.proofs.bench.place_t2.Goals as goal
 
 pub returns-in-Ok-put_in-clause-ok : goal.returns-in-Ok-put_in-clause-ok

@@ -4,7 +4,7 @@ use Rattle.bench_devices.specs.declared.device.Device.TheVariants.{T3}
 use Rattle.bench_devices.specs.Device.{device_darkened}
 use Rattle.bench_world.specs.Legal.{MayPlaceT3, memory_of}
 use Rattle.bench_world.specs.Obeying.{Machines, state_at}
-use Rattle.bench_world.proofs.Placed.{one_more, t3_placed}
+use Rattle.bench_world.proofs.devices.Placed.{one_more, t3_placed}
 use Rattle.bench_world.proofs.bench.place_t3.Goals as goal
 
 pub returns-in-Ok-put_in-clause-ok : goal.returns-in-Ok-put_in-clause-ok

@@ -4,7 +4,7 @@ use Rattle.bench_devices.specs.Choosing.{StandsAt}
 use Rattle.bench_world.specs.Legal.{IsPlaced}
 use Rattle.bench_world.specs.Obeying.{Machines, state_at, taken_out}
 use Rattle.bench_script.specs.DeviceIds.{bytes_of}
-use Rattle.bench_world.proofs.Unlinking.{taken_away}
+use Rattle.bench_world.proofs.open_link.Unlinking.{taken_away}
 use Rattle.bench_world.proofs.bench.remove_device.Goals as goal
 
 pub returns-clause-ok : goal.returns-clause-ok

@@ -4,7 +4,7 @@ use Rattle.bench_devices.specs.declared.device.Device.{Device}
 use Rattle.bench_devices.specs.Choosing.{StandsAt}
 use Rattle.bench_devices.specs.Device.{may_be_busy, device_busy}
 use Rattle.bench_script.specs.DeviceIds.{bytes_of}
-use Rattle.bench_world.proofs.Locking.{stands_there, at_place, of_device, made_busy}
+use Rattle.bench_world.proofs.devices.Locking.{stands_there, at_place, of_device, made_busy}
 use Rattle.bench_world.proofs.bench.set_busy.Goals as goal
 
 pub returns-then-not-may_be_busy-clause-cause : goal.returns-then-not-may_be_busy-clause-cause

@@ -6,7 +6,7 @@ use Rattle.bench_world.specs.World.{FarEnd}
 use Rattle.bench_world.specs.Links.{OpenLink, end_numbered}
 use Rattle.bench_world.specs.Obeying.{Machines, IsSettled, under}
 use Rattle.bench_world.specs.Peers.{Peers}
-use Rattle.bench_world.proofs.Chosen.{found, is_there}
+use Rattle.bench_world.proofs.open_link.Chosen.{found, is_there}
 use Rattle.bench_world.proofs.calling.take_link.Goals as goal
 
 pub unreachable-requires : goal.unreachable-requires

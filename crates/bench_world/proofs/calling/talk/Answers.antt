@@ -9,10 +9,10 @@ use Rattle.bench_world.specs.declared.entry.Answer.TheVariants as answers
 use Rattle.bench_world.specs.Asked.{asked_on_link}
 use Rattle.bench_world.specs.Legal.{Accepts, Joins}
 use Rattle.bench_world.specs.Links.{OpenLink}
-use Rattle.bench_world.specs.LinkTaken.{TakesLink, fault_told, put_back, put_down}
+use Rattle.bench_world.specs.private.LinkTaken.{TakesLink, fault_told, put_back, put_down}
 use Rattle.bench_world.specs.Obeying.{Machines, IsCutOffBy, ObeyedBy, state_at, under}
 use Rattle.bench_world.specs.Peers.{Peers}
-use Rattle.bench_world.proofs.TalkOver.{asked_closed, asked_cut, asked_ended, asked_told, nowhere}
+use Rattle.bench_world.proofs.open_link.TalkOver.{asked_closed, asked_cut, asked_ended, asked_told, nowhere}
 use Rattle.bench_world.proofs.calling.talk.Goals as goal
 
 -- what holds of each such command by what is told

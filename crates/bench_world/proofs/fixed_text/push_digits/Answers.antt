@@ -1,5 +1,5 @@
 use Rattle.std.proofs.Common.{arith}
-use Rattle.bench_world.proofs.Joined.{digits_put}
+use Rattle.bench_world.proofs.lines.Joined.{digits_put}
 use Rattle.bench_world.proofs.fixed_text.push_digits.Goals as goal
 
 pub fronts-preserved : goal.fronts-preserved

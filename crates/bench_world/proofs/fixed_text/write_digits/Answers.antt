@@ -1,7 +1,7 @@
 use Rattle.std.proofs.Common.{◌≡◌, ℕ, ◌+◌, ◌*◌, ◌/◌, ◌%◌, ◌<◌, slice_index, arith}
 use Rattle.hex.specs.Hex.{upper_digits}
 use Rattle.hex.proofs.Pairs.{encode_step, encode_done}
-use Rattle.bench_world.proofs.DigitPairs.{first_digit, second_digit}
+use Rattle.bench_world.proofs.lines.DigitPairs.{first_digit, second_digit}
 use Rattle.bench_world.proofs.fixed_text.write_digits.Goals as goal
 
 pub bytes-preserved : goal.bytes-preserved

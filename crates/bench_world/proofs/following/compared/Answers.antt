@@ -1,5 +1,5 @@
 use Rattle.std.proofs.Common.{◌≡◌, ◌⊎◌, length, inl, inr}
-use Rattle.bench_world.proofs.Strays.{not_other}
+use Rattle.bench_world.proofs.tags.Strays.{not_other}
 use Rattle.bench_world.proofs.following.compared.Goals as goal
 
 pub returns-else-good-made : goal.returns-else-good-made

@@ -4,12 +4,12 @@ use Rattle.bench_script.specs.declared.command.Command.TheVariants.{Forge}
 use Rattle.bench_world.specs.declared.bench.ObeyFault.{ObeyFault}
 use Rattle.bench_world.specs.declared.bench.ObeyFault.TheVariants as faults
 use Rattle.bench_world.specs.declared.entry.Answer.{Answer}
-use Rattle.bench_world.specs.ForgedAt.{ForgeStops}
+use Rattle.bench_world.specs.private.ForgedAt.{ForgeStops}
 use Rattle.bench_world.specs.Legal.{Joins, joins_for}
 use Rattle.bench_world.specs.Obeying.{Machines, ObeyedBy, link_ended, state_at}
-use Rattle.bench_world.proofs.ForgeReset.{cut_by, forge_resets, stops_ended}
-use Rattle.bench_world.proofs.Outcomes.{if_ok}
-use Rattle.bench_world.proofs.Unlinking.{behind_ended_by, count_ended}
+use Rattle.bench_world.proofs.forged.ForgeReset.{cut_by, forge_resets, stops_ended}
+use Rattle.bench_world.proofs.lines.Outcomes.{if_ok}
+use Rattle.bench_world.proofs.open_link.Unlinking.{behind_ended_by, count_ended}
 use Rattle.bench_world.proofs.forging.forge.Goals as goal
 
 -- what holds of each error holds of this one

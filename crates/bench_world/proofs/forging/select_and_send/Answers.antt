@@ -8,15 +8,15 @@ use Rattle.bench_devices.specs.Phases.{Selects, SelectsAt, SelectsTo, SelectionC
 use Rattle.bench_devices.specs.Device.{is_tag}
 use Rattle.bench_world.specs.declared.entry.Answer.TheVariants as answers
 use Rattle.bench_world.specs.Answering.{poll_answer}
-use Rattle.bench_world.specs.ForgedAt.{ForgeStops}
+use Rattle.bench_world.specs.private.ForgedAt.{ForgeStops}
 use Rattle.bench_world.specs.Legal.{Joins}
 use Rattle.bench_world.specs.Obeying.{Machines, IsSettled, ObeyedBy, state_at}
 use Rattle.bench_world.specs.contracts.machines.Machines.{the_view}
-use Rattle.bench_world.proofs.Legality.{missed_part}
-use Rattle.bench_world.proofs.Unlinking.{upon}
-use Rattle.bench_world.proofs.ForgeHere.{here_missed, here_cut, here_tag, here_served, here_sent}
-use Rattle.bench_world.proofs.Outcomes.{if_ok, on_err}
-use Rattle.bench_world.proofs.SelectedPlace.{looked_at}
+use Rattle.bench_world.proofs.tags.Legality.{missed_part}
+use Rattle.bench_world.proofs.open_link.Unlinking.{upon}
+use Rattle.bench_world.proofs.forged.ForgeHere.{here_missed, here_cut, here_tag, here_served, here_sent}
+use Rattle.bench_world.proofs.lines.Outcomes.{if_ok, on_err}
+use Rattle.bench_world.proofs.devices.SelectedPlace.{looked_at}
 use Rattle.bench_world.proofs.forging.select_and_send.Goals as goal
 
 pub returns-in_default-clause-cut : goal.returns-in_default-clause-cut

@@ -5,7 +5,7 @@ use Rattle.llcp_pdu.specs.General.{general_bytes}
 use Rattle.snep_core.specs.Server.{serving}
 use Rattle.bench_devices.specs.Opening.{OpensAny}
 use Rattle.bench_world.specs.Forging.{forged_general}
-use Rattle.bench_world.proofs.ForgeSends.{open_from, sends_ok, sends_err}
+use Rattle.bench_world.proofs.forged.ForgeSends.{open_from, sends_ok, sends_err}
 use Rattle.bench_world.proofs.forging.send_all.Goals as goal
 
 pub exchange_all-requires-clause-open_ : goal.exchange_all-requires-clause-open_

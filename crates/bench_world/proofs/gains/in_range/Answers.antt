@@ -1,4 +1,4 @@
-use Rattle.bench_world.proofs.Gained.{range_part}
+use Rattle.bench_world.proofs.link_law.Gained.{range_part}
 use Rattle.bench_world.proofs.gains.in_range.Goals as goal
 
 pub returns : goal.returns

@@ -1,6 +1,6 @@
 use Rattle.std.proofs.Common.{None, sym, ap}
 use Rattle.bench_world.specs.Stories.{range_of}
-use Rattle.bench_world.proofs.Gained.{range_at, range_past}
+use Rattle.bench_world.proofs.link_law.Gained.{range_at, range_past}
 use Rattle.bench_world.proofs.gains.range_of.Goals.{then-number-eq0-via-then-number-eq0, then-number-eq0-via-else-number-eq0+then-number-links}
 use Rattle.bench_world.proofs.gains.range_of.Goals as goal
 

@@ -2,7 +2,7 @@ use Rattle.std.proofs.Common.{◌+◌, ◌++◌, ℕ, List, not, Bool, Vec, Glob
 use Rattle.snep_core.specs.Server.{Received as Accepted}
 use Rattle.bench_world.specs.declared.entry.Received.{Received}
 use Rattle.bench_world.specs.Inbox.{came_on_link, chosen, received_on}
-use Rattle.bench_world.proofs.Ranges.{told_chosen, told_later}
+use Rattle.bench_world.proofs.link_law.Ranges.{told_chosen, told_later}
 use Rattle.bench_world.proofs.inbox.add_others.Goals.{then-not-came_on_link+in_ok-received+in_ok-push, else-not-came_on_link}
 use Rattle.bench_world.proofs.inbox.add_others.Goals as goal
 

@@ -2,7 +2,7 @@ use Rattle.std.proofs.Common.{◌+◌, ◌++◌, ℕ, List, Bool, Vec, Global, s
 use Rattle.snep_core.specs.Server.{Received as Accepted}
 use Rattle.bench_world.specs.declared.entry.Received.{Received}
 use Rattle.bench_world.specs.Inbox.{is_in, chosen, received_on}
-use Rattle.bench_world.proofs.Ranges.{told_chosen, told_later}
+use Rattle.bench_world.proofs.link_law.Ranges.{told_chosen, told_later}
 use Rattle.bench_world.proofs.inbox.add_range.Goals.{then-has+in_ok-received+in_ok-push, else-has}
 use Rattle.bench_world.proofs.inbox.add_range.Goals as goal
 

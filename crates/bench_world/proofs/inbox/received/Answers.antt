@@ -1,7 +1,7 @@
 use Rattle.std.proofs.Common.{◌≡◌, ℕ, List, sym, ◌∙◌, ap, subst}
 use Rattle.std.specs.Prelude.{slice_index, slice_index_or}
 use Rattle.snep_core.specs.Server.{Received as Accepted, messages_of}
-use Rattle.bench_world.proofs.Ranges.{told_at}
+use Rattle.bench_world.proofs.link_law.Ranges.{told_at}
 use Rattle.bench_world.proofs.inbox.received.Goals as goal
 
 pub returns : goal.returns

@@ -1,4 +1,4 @@
-use Rattle.bench_world.proofs.AlikeStates as alike
+use Rattle.bench_world.proofs.alike.AlikeStates as alike
 use Rattle.bench_world.proofs.law.alike_states.Goals as goal
 
 pub returns-clause-accept : goal.returns-clause-accept

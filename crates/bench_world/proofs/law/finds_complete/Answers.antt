@@ -1,6 +1,6 @@
-use Rattle.bench_world.proofs.Complete.{finds_complete}
-use Rattle.bench_world.proofs.CompleteTags.{tags_complete}
-use Rattle.bench_world.proofs.CompleteThrees.{threes_complete}
+use Rattle.bench_world.proofs.calm.Complete.{finds_complete}
+use Rattle.bench_world.proofs.calm.CompleteTags.{tags_complete}
+use Rattle.bench_world.proofs.calm.CompleteThrees.{threes_complete}
 use Rattle.bench_world.proofs.law.finds_complete.Goals as goal
 
 pub returns-clause-finds : goal.returns-clause-finds

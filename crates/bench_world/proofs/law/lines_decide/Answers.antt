@@ -1,4 +1,4 @@
-use Rattle.bench_world.proofs.Shapes as shapes
+use Rattle.bench_world.proofs.devices.Shapes as shapes
 use Rattle.bench_world.proofs.law.lines_decide.Goals as goal
 
 pub returns : goal.returns

@@ -1,4 +1,4 @@
-use Rattle.bench_world.proofs.ReadBack.{lines_tell, answers_apart}
+use Rattle.bench_world.proofs.lines.ReadBack.{lines_tell, answers_apart}
 use Rattle.bench_world.proofs.law.lines_tell_events.Goals as goal
 
 pub returns-clause-events : goal.returns-clause-events

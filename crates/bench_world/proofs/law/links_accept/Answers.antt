@@ -1,5 +1,5 @@
-use Rattle.bench_world.proofs.CutLinks.{cut_arrival_law, cut_link_law}
-use Rattle.bench_world.proofs.LinksAccepted.{link_law}
+use Rattle.bench_world.proofs.link_law.CutLinks.{cut_arrival_law, cut_link_law}
+use Rattle.bench_world.proofs.link_law.LinksAccepted.{link_law}
 use Rattle.bench_world.proofs.law.links_accept.Goals as goal
 
 pub returns-clause-whole : goal.returns-clause-whole

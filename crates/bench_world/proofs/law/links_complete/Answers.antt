@@ -1,8 +1,8 @@
-use Rattle.bench_world.proofs.CompleteForging.{forged_kinds, forgings_complete}
+use Rattle.bench_world.proofs.calm.CompleteForging.{forged_kinds, forgings_complete}
 use Rattle.link_calls.specs.Asking.{Does, Closes, Finding, Getting, Putting, put_from}
-use Rattle.bench_world.proofs.CompleteRaws.{raws_complete}
-use Rattle.bench_world.proofs.CompleteLinks.{asked_complete, valid_is_ok}
-use Rattle.bench_world.proofs.CompleteLinkings.{kinds_told, linkings_complete}
+use Rattle.bench_world.proofs.calm.CompleteRaws.{raws_complete}
+use Rattle.bench_world.proofs.calm.CompleteLinks.{asked_complete, valid_is_ok}
+use Rattle.bench_world.proofs.calm.CompleteLinkings.{kinds_told, linkings_complete}
 use Rattle.bench_world.proofs.law.links_complete.Goals as goal
 
 pub returns-clause-asked : goal.returns-clause-asked

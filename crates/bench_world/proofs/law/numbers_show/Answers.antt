@@ -1,5 +1,5 @@
-use Rattle.bench_world.proofs.ShowingLeft.{entries_leave_alike, events_tell}
-use Rattle.bench_world.proofs.ShowingSteps as steps
+use Rattle.bench_world.proofs.showing.ShowingLeft.{entries_leave_alike, events_tell}
+use Rattle.bench_world.proofs.showing.ShowingSteps as steps
 use Rattle.bench_world.proofs.law.numbers_show.Goals as goal
 
 pub returns : goal.returns

@@ -1,4 +1,4 @@
-use Rattle.bench_world.proofs.SizedStates.{first_cuts, front_cuts, midst_cuts, replies_short}
+use Rattle.bench_world.proofs.sizes.SizedStates.{first_cuts, front_cuts, midst_cuts, replies_short}
 use Rattle.bench_world.proofs.law.pieces_stay.Goals as goal
 
 pub returns : goal.returns

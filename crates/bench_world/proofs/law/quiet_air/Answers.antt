@@ -1,11 +1,11 @@
-use Rattle.bench_world.proofs.CompleteForging.{quiet_forgings}
-use Rattle.bench_world.proofs.CompleteRaws.{quiet_raws}
-use Rattle.bench_world.proofs.Quiet as quiet
-use Rattle.bench_world.proofs.QuietHearing as hearing
-use Rattle.bench_world.proofs.QuietLinks as links
-use Rattle.bench_world.proofs.CompleteLinkings.{quiet_linkings}
-use Rattle.bench_world.proofs.QuietWritten.{quiet_is_written}
-use Rattle.bench_world.proofs.ThreesComplete.{quiet_is_read_three, quiet_threes_read, quiet_threes_write, quiet_threes_written}
+use Rattle.bench_world.proofs.calm.CompleteForging.{quiet_forgings}
+use Rattle.bench_world.proofs.calm.CompleteRaws.{quiet_raws}
+use Rattle.bench_world.proofs.calm.Quiet as quiet
+use Rattle.bench_world.proofs.calm.QuietHearing as hearing
+use Rattle.bench_world.proofs.calm.QuietLinks as links
+use Rattle.bench_world.proofs.calm.CompleteLinkings.{quiet_linkings}
+use Rattle.bench_world.proofs.calm.QuietWritten.{quiet_is_written}
+use Rattle.bench_world.proofs.calm.ThreesComplete.{quiet_is_read_three, quiet_threes_read, quiet_threes_write, quiet_threes_written}
 use Rattle.bench_world.proofs.law.quiet_air.Goals as goal
 
 pub returns-clause-stays : goal.returns-clause-stays

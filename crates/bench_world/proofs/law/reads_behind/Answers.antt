@@ -1,6 +1,6 @@
-use Rattle.bench_world.proofs.BrokenRead.{broken_is_read, first_broken_is_read}
-use Rattle.bench_world.proofs.ReadBehind.{written_is_read, one_of_three_is_read}
-use Rattle.bench_world.proofs.ThreesComplete.{one_of_two_three, undisturbed_is_read_three, written_is_read_three, written_is_whole_three}
+use Rattle.bench_world.proofs.calm.BrokenRead.{broken_is_read, first_broken_is_read}
+use Rattle.bench_world.proofs.calm.ReadBehind.{written_is_read, one_of_three_is_read}
+use Rattle.bench_world.proofs.calm.ThreesComplete.{one_of_two_three, undisturbed_is_read_three, written_is_read_three, written_is_whole_three}
 use Rattle.bench_world.proofs.law.reads_behind.Goals as goal
 
 pub returns-clause-written : goal.returns-clause-written

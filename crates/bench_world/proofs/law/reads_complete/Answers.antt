@@ -1,5 +1,5 @@
-use Rattle.bench_world.proofs.Complete.{reads_complete}
-use Rattle.bench_world.proofs.ThreesComplete.{threes_read}
+use Rattle.bench_world.proofs.calm.Complete.{reads_complete}
+use Rattle.bench_world.proofs.calm.ThreesComplete.{threes_read}
 use Rattle.bench_world.proofs.law.reads_complete.Goals as goal
 
 pub returns-clause-tags : goal.returns-clause-tags

@@ -1,6 +1,6 @@
-use Rattle.bench_world.proofs.Complete.{writes_complete}
-use Rattle.bench_world.proofs.Written.{shown_is_written, valid_is_written}
-use Rattle.bench_world.proofs.ThreesComplete.{threes_write, threes_written}
+use Rattle.bench_world.proofs.calm.Complete.{writes_complete}
+use Rattle.bench_world.proofs.calm.Written.{shown_is_written, valid_is_written}
+use Rattle.bench_world.proofs.calm.ThreesComplete.{threes_write, threes_written}
 use Rattle.bench_world.proofs.law.writes_complete.Goals as goal
 
 pub returns-clause-told : goal.returns-clause-told

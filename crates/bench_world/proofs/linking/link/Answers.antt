@@ -5,8 +5,8 @@ use Rattle.bench_world.specs.declared.bench.ObeyFault.TheVariants as faults
 use Rattle.bench_world.specs.declared.entry.Answer.{Answer}
 use Rattle.bench_world.specs.Legal.{CutFront, no_joins}
 use Rattle.bench_world.specs.Obeying.{Machines, Obeyed, link_ended, state_at}
-use Rattle.bench_world.proofs.Outcomes.{if_ok}
-use Rattle.bench_world.proofs.Unlinking.{link_resets, behind_ended, front_ended, count_ended}
+use Rattle.bench_world.proofs.lines.Outcomes.{if_ok}
+use Rattle.bench_world.proofs.open_link.Unlinking.{link_resets, behind_ended, front_ended, count_ended}
 use Rattle.bench_world.proofs.linking.link.Goals as goal
 
 -- what holds of each error holds of this one

@@ -11,11 +11,11 @@ use Rattle.bench_world.specs.Answering.{poll_answer}
 use Rattle.bench_world.specs.Legal.{MayLink, CutFront, no_joins}
 use Rattle.bench_world.specs.Obeying.{Machines, IsSettled, Obeyed, state_at}
 use Rattle.bench_world.specs.contracts.machines.Machines.{the_view}
-use Rattle.bench_world.proofs.Legality.{missed_part}
-use Rattle.bench_world.proofs.Unlinking.{upon}
-use Rattle.bench_world.proofs.LinkHere.{here_missed, here_cut, here_tag, here_served, here_opened}
-use Rattle.bench_world.proofs.Outcomes.{if_ok, on_err}
-use Rattle.bench_world.proofs.SelectedPlace.{looked_at}
+use Rattle.bench_world.proofs.tags.Legality.{missed_part}
+use Rattle.bench_world.proofs.open_link.Unlinking.{upon}
+use Rattle.bench_world.proofs.open_link.LinkHere.{here_missed, here_cut, here_tag, here_served, here_opened}
+use Rattle.bench_world.proofs.lines.Outcomes.{if_ok, on_err}
+use Rattle.bench_world.proofs.devices.SelectedPlace.{looked_at}
 use Rattle.bench_world.proofs.linking.select_and_open.Goals as goal
 
 pub returns-in_default-clause-cut : goal.returns-in_default-clause-cut

@@ -1,6 +1,6 @@
 use Rattle.std.proofs.Common.{◌≡◌, [], arith}
 use Rattle.std.proofs.lemmas.Grind.{common_steps}
-use Rattle.bench_world.proofs.Joined.{empty_is, dash_parts}
+use Rattle.bench_world.proofs.lines.Joined.{empty_is, dash_parts}
 use Rattle.bench_world.proofs.listed.sign_of_none.Goals as goal
 
 pub returns-then-is_empty-clause-value : goal.returns-then-is_empty-clause-value

@@ -1,6 +1,6 @@
 use Rattle.std.proofs.Common.{◌≡◌, ◌+◌, ◌-◌, List, length, None, arith}
 use Rattle.bench_world.specs.declared.inbox.LinkRange.{LinkRange}
-use Rattle.bench_world.proofs.Unlinking.{last_set}
+use Rattle.bench_world.proofs.open_link.Unlinking.{last_set}
 use Rattle.bench_world.proofs.machines.end_last.Goals as goal
 
 pub returns-then-count-gt0 : goal.returns-then-count-gt0

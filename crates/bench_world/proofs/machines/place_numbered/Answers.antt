@@ -1,5 +1,5 @@
 use Rattle.std.proofs.Common.{sym, ◌∙◌}
-use Rattle.bench_world.proofs.Unlinking.{not_here}
+use Rattle.bench_world.proofs.open_link.Unlinking.{not_here}
 use Rattle.bench_world.proofs.machines.place_numbered.Goals as goal
 
 pub loop-place-preserved : goal.loop-place-preserved

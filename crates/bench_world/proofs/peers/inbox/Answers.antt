@@ -1,5 +1,5 @@
 use Rattle.std.proofs.Common.{refl}
-use Rattle.bench_world.proofs.Peering.{inbox_told}
+use Rattle.bench_world.proofs.devices.Peering.{inbox_told}
 use Rattle.bench_world.proofs.peers.inbox.Goals as goal
 
 pub returns-in-Ok-clause-ok : goal.returns-in-Ok-clause-ok

@@ -1,5 +1,5 @@
 use Rattle.std.proofs.Common.{rules}
-use Rattle.bench_world.proofs.Peering.{value_offered}
+use Rattle.bench_world.proofs.devices.Peering.{value_offered}
 use Rattle.bench_world.proofs.peers.offer_value.Goals as goal
 
 pub returns-in-Ok-clause-ok : goal.returns-in-Ok-clause-ok

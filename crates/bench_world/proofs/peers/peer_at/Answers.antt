@@ -4,7 +4,7 @@ use Rattle.bench_devices.specs.declared.device.Device.{Device}
 use Rattle.bench_devices.specs.Choosing.{StandsAt}
 use Rattle.bench_devices.specs.Device.{is_tag}
 use Rattle.bench_script.specs.DeviceIds.{bytes_of}
-use Rattle.bench_world.proofs.Locking.{stands_there, at_place, of_device, of_placed}
+use Rattle.bench_world.proofs.devices.Locking.{stands_there, at_place, of_device, of_placed}
 use Rattle.bench_world.proofs.peers.peer_at.Goals as goal
 
 pub returns-then-is_tag-clause-none : goal.returns-then-is_tag-clause-none

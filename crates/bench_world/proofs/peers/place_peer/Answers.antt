@@ -8,7 +8,7 @@ use Rattle.bench_world.specs.Legal.{MayPlacePeer}
 use Rattle.bench_world.specs.Peers.{with_peer}
 use Rattle.bench_world.specs.World.{FarEnd}
 use Rattle.bench_world.specs.Obeying.{Machines, state_at}
-use Rattle.bench_world.proofs.Placed.{with_more, peer_placed}
+use Rattle.bench_world.proofs.devices.Placed.{with_more, peer_placed}
 use Rattle.bench_world.proofs.peers.place_peer.Goals as goal
 
 pub returns-in-Ok-put_in_peer-clause-ok : goal.returns-in-Ok-put_in_peer-clause-ok

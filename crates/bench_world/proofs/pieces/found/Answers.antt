@@ -3,7 +3,7 @@ use Rattle.std.specs.Prelude.{codes, if◌then◌else◌}
 use Rattle.std.specs.List.{flat_map}
 use Rattle.std.specs.Fmt.{decimal}
 use Rattle.bench_world.specs.Report.{seen_text}
-use Rattle.bench_world.proofs.Joined.{found_parts}
+use Rattle.bench_world.proofs.lines.Joined.{found_parts}
 use Rattle.bench_world.proofs.pieces.found.Goals as goal
 
 pub returns : goal.returns

@@ -3,7 +3,7 @@ use Rattle.std.specs.Prelude.{codes}
 use Rattle.std.specs.List.{flat_map}
 use Rattle.std.specs.Fmt.{decimal}
 use Rattle.bench_world.specs.Report.{heard_text}
-use Rattle.bench_world.proofs.Joined.{inbox_parts}
+use Rattle.bench_world.proofs.lines.Joined.{inbox_parts}
 use Rattle.bench_world.proofs.pieces.heard.Goals as goal
 
 pub returns : goal.returns

@@ -1,6 +1,6 @@
 use Rattle.std.proofs.Common.{[], ◌++◌, ◌∙◌, ap}
 use Rattle.hex.specs.Hex.{encode_upper}
-use Rattle.bench_world.proofs.Joined.{one_piece}
+use Rattle.bench_world.proofs.lines.Joined.{one_piece}
 use Rattle.bench_world.proofs.pieces.whole.Goals as goal
 
 pub returns : goal.returns

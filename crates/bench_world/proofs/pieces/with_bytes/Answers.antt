@@ -2,7 +2,7 @@ use Rattle.std.proofs.Common.{◌++◌, [], ◌∷◌, ℕ, List, ◌∙◌, ap}
 use Rattle.std.specs.Fmt.{decimal}
 use Rattle.hex.specs.Hex.{encode_upper}
 use Rattle.bench_script.specs.Canonical.{hex_text}
-use Rattle.bench_world.proofs.Joined.{signed_parts}
+use Rattle.bench_world.proofs.lines.Joined.{signed_parts}
 use Rattle.bench_world.proofs.pieces.with_bytes.Goals as goal
 
 pub returns : goal.returns

@@ -6,15 +6,15 @@ use Rattle.bench_devices.specs.declared.polling.Selection.{Selection}
 use Rattle.bench_devices.specs.Phases.{Selects, SelectsAt, SelectsTo, SelectionCut}
 use Rattle.bench_devices.specs.Device.{is_tag}
 use Rattle.bench_world.specs.Answering.{poll_answer}
-use Rattle.bench_world.specs.RawAt.{RawStops}
+use Rattle.bench_world.specs.private.RawAt.{RawStops}
 use Rattle.bench_world.specs.Legal.{Joins, MayRaw}
 use Rattle.bench_world.specs.Obeying.{Machines, IsSettled, ObeyedBy, state_at}
 use Rattle.bench_world.specs.contracts.machines.Machines.{the_view}
-use Rattle.bench_world.proofs.Legality.{missed_part}
-use Rattle.bench_world.proofs.Unlinking.{upon}
-use Rattle.bench_world.proofs.RawHere.{here_below, here_cut, here_lit, here_missed, here_served, peer_sent, peer_served, tag_sent}
-use Rattle.bench_world.proofs.Outcomes.{if_ok, on_err}
-use Rattle.bench_world.proofs.SelectedPlace.{looked_at}
+use Rattle.bench_world.proofs.tags.Legality.{missed_part}
+use Rattle.bench_world.proofs.open_link.Unlinking.{upon}
+use Rattle.bench_world.proofs.by_hand.RawHere.{here_below, here_cut, here_lit, here_missed, here_served, peer_sent, peer_served, tag_sent}
+use Rattle.bench_world.proofs.lines.Outcomes.{if_ok, on_err}
+use Rattle.bench_world.proofs.devices.SelectedPlace.{looked_at}
 use Rattle.bench_world.proofs.raws.select_and_send.Goals as goal
 
 pub returns-in_default-clause-cut : goal.returns-in_default-clause-cut

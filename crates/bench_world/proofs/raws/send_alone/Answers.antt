@@ -1,6 +1,6 @@
 use Rattle.std.proofs.Common.{refl, subst}
 use Rattle.bench_world.specs.Obeying.{Machines, under}
-use Rattle.bench_world.specs.RawAt.{RawAlone}
+use Rattle.bench_world.specs.private.RawAt.{RawAlone}
 use Rattle.bench_world.specs.contracts.machines.Machines.{the_view}
 use Rattle.bench_world.proofs.raws.send_alone.Goals as goal
 

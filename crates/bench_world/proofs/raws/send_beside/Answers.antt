@@ -1,12 +1,12 @@
 use Rattle.std.proofs.Common.{rules, ◌≡◌, ◌<◌, ℕ, length, get_or, Some, None, sym, ◌∙◌, ap, subst}
 use Rattle.std.specs.Prelude.{slice_set}
-use Rattle.bench_world.specs.LinkedAt.{moved_at}
+use Rattle.bench_world.specs.private.LinkedAt.{moved_at}
 use Rattle.bench_world.specs.Obeying.{Machines}
-use Rattle.bench_world.specs.RawAt.{RawBeside, SendsCounted}
+use Rattle.bench_world.specs.private.RawAt.{RawBeside, SendsCounted}
 use Rattle.bench_world.specs.World.{FarEnd}
 use Rattle.bench_world.specs.contracts.machines.Machines.{the_view}
-use Rattle.bench_world.proofs.ForgeSends.{set_twice}
-use Rattle.bench_world.proofs.Peering.{any_other}
+use Rattle.bench_world.proofs.forged.ForgeSends.{set_twice}
+use Rattle.bench_world.proofs.devices.Peering.{any_other}
 use Rattle.bench_world.proofs.raws.send_beside.Goals as goal
 
 pub returns : goal.returns

@@ -4,7 +4,7 @@ use Rattle.nfc_base.specs.Signal.{Signal}
 use Rattle.air_core.specs.Turn.{Transmits}
 use Rattle.bench_devices.specs.Device.{devices}
 use Rattle.bench_world.specs.Rawing.{raw_heard}
-use Rattle.bench_world.proofs.RawSending.{Sending, sending_begins, sending_lost, sending_over, sending_rests, sending_then, sending_wanting}
+use Rattle.bench_world.proofs.by_hand.RawSending.{Sending, sending_begins, sending_lost, sending_over, sending_rests, sending_then, sending_wanting}
 use Rattle.bench_world.proofs.raws.send_each.Goals as goal
 
 -- what is left begins with the frame under way

@@ -1,5 +1,5 @@
 use Rattle.std.proofs.Common.{drop}
-use Rattle.bench_world.proofs.RawSending.{Sending}
+use Rattle.bench_world.proofs.by_hand.RawSending.{Sending}
 use Rattle.bench_world.proofs.raws.send_each.Given as goal
 
 abbrev pub invariant-loop-frame : goal.invariant-loop-frame

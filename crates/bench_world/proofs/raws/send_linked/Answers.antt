@@ -5,7 +5,7 @@ use Rattle.llcp_pdu.specs.General.{general_bytes}
 use Rattle.snep_core.specs.Server.{serving}
 use Rattle.bench_devices.specs.Opening.{OpensAny}
 use Rattle.bench_world.specs.Forging.{forged_general}
-use Rattle.bench_world.proofs.RawSends.{opened_lit, raws_err, raws_ok}
+use Rattle.bench_world.proofs.by_hand.RawSends.{opened_lit, raws_err, raws_ok}
 use Rattle.bench_world.proofs.raws.send_linked.Goals as goal
 
 pub send_each-requires : goal.send_each-requires

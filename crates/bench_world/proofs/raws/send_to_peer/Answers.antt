@@ -3,14 +3,14 @@ use Rattle.std.specs.Prelude.{slice_set}
 use Rattle.std.proofs.lemmas.List.{length-map}
 use Rattle.snep_core.specs.Server.{Received as Accepted, ServerState, messages_of}
 use Rattle.bench_world.specs.declared.inbox.LinkRange.{LinkRange}
-use Rattle.bench_world.specs.ForgedAt.{left_by}
-use Rattle.bench_world.specs.RawAt.{RawSendsAll, RawSendsTo}
+use Rattle.bench_world.specs.private.ForgedAt.{left_by}
+use Rattle.bench_world.specs.private.RawAt.{RawSendsAll, RawSendsTo}
 use Rattle.bench_world.specs.Obeying.{Machines}
 use Rattle.bench_world.specs.World.{FarEnd}
 use Rattle.bench_world.specs.contracts.machines.Machines.{the_view}
-use Rattle.bench_world.proofs.ForgeSends.{left_is}
-use Rattle.bench_world.proofs.RawSends.{raws_to}
-use Rattle.bench_world.proofs.Peering.{any_other}
+use Rattle.bench_world.proofs.forged.ForgeSends.{left_is}
+use Rattle.bench_world.proofs.by_hand.RawSends.{raws_to}
+use Rattle.bench_world.proofs.devices.Peering.{any_other}
 use Rattle.bench_world.proofs.raws.send_to_peer.Goals as goal
 
 pub returns : goal.returns

@@ -5,7 +5,7 @@ use Rattle.peer_air.specs.PeerFars.{peer_ends}
 use Rattle.bench_world.specs.declared.bench.ObeyFault.{ObeyFault}
 use Rattle.bench_world.specs.declared.entry.Answer.{Answer}
 use Rattle.bench_world.specs.Obeying.{Machines, Obeyed, IsCutOff, link_ended}
-use Rattle.bench_world.proofs.Unlinking.{upon, read_three_resets, reset_obeyed, reset_cut}
+use Rattle.bench_world.proofs.open_link.Unlinking.{upon, read_three_resets, reset_obeyed, reset_cut}
 use Rattle.bench_world.proofs.threes.read_tag_three.Goals.{in-Ok, in-Err}
 use Rattle.bench_world.proofs.threes.read_tag_three.Goals as goal
 

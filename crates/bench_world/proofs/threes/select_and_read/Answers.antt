@@ -7,9 +7,9 @@ use Rattle.bench_devices.specs.Sensing.{Seeks, SeeksAt, SeeksTo}
 use Rattle.bench_world.specs.Answering.{poll_answer}
 use Rattle.bench_world.specs.Obeying.{CutOffUnlinked, ObeyedUnlinked}
 use Rattle.bench_world.specs.Threes.{told_three}
-use Rattle.bench_world.proofs.Outcomes.{if_ok, on_err, on_err_by}
-use Rattle.bench_world.proofs.ThreeLegality.{may_seek, missed_read_three, read_cut_three, read_obeyed_three, seeking_cut_read, sought_part, stands_three}
-use Rattle.bench_world.proofs.ThreeTelling.{may_read, read_fed}
+use Rattle.bench_world.proofs.lines.Outcomes.{if_ok, on_err, on_err_by}
+use Rattle.bench_world.proofs.tags.ThreeLegality.{may_seek, missed_read_three, read_cut_three, read_obeyed_three, seeking_cut_read, sought_part, stands_three}
+use Rattle.bench_world.proofs.tags.ThreeTelling.{may_read, read_fed}
 use Rattle.bench_world.proofs.threes.select_and_read.Goals as goal
 
 pub read_three-requires : goal.read_three-requires

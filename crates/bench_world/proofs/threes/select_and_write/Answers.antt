@@ -10,9 +10,9 @@ use Rattle.bench_devices.specs.Threes.{CutThreeWriteAt, WritesThreeAt}
 use Rattle.bench_world.specs.Answering.{poll_answer}
 use Rattle.bench_world.specs.Obeying.{CutOffUnlinked, ObeyedUnlinked}
 use Rattle.bench_world.specs.Threes.{written_three}
-use Rattle.bench_world.proofs.Outcomes.{if_ok, on_err, on_err_by}
-use Rattle.bench_world.proofs.ThreeLegality.{may_seek, missed_write_three, seeking_cut_write, sought_part, stands_three, write_cut_three, write_obeyed_three}
-use Rattle.bench_world.proofs.ThreeTelling.{may_write, write_fed}
+use Rattle.bench_world.proofs.lines.Outcomes.{if_ok, on_err, on_err_by}
+use Rattle.bench_world.proofs.tags.ThreeLegality.{may_seek, missed_write_three, seeking_cut_write, sought_part, stands_three, write_cut_three, write_obeyed_three}
+use Rattle.bench_world.proofs.tags.ThreeTelling.{may_write, write_fed}
 use Rattle.bench_world.proofs.threes.select_and_write.Goals as goal
 
 pub write_three-requires : goal.write_three-requires

@@ -6,8 +6,8 @@ use Rattle.bench_script.specs.declared.command.Command.TheVariants.{Poll3}
 use Rattle.bench_devices.specs.Sensing.{SensesField}
 use Rattle.bench_world.specs.Answering.{poll_answer}
 use Rattle.bench_world.specs.Obeying.{ObeyedUnlinked}
-use Rattle.bench_world.proofs.Senses.{sense_obeyed, sense_cut, sense_part, sense_fed, may_sense}
-use Rattle.bench_world.proofs.Outcomes.{if_ok, on_err}
+use Rattle.bench_world.proofs.tags.Senses.{sense_obeyed, sense_cut, sense_part, sense_fed, may_sense}
+use Rattle.bench_world.proofs.lines.Outcomes.{if_ok, on_err}
 use Rattle.bench_world.proofs.threes.sense.Goals as goal
 
 pub missed-requires : goal.missed-requires

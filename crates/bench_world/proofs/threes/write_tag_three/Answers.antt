@@ -4,7 +4,7 @@ use Rattle.bench_script.specs.Messages.{message_of}
 use Rattle.far_air.specs.FarEnds.{rests}
 use Rattle.peer_air.specs.PeerFars.{peer_ends}
 use Rattle.bench_world.specs.Obeying.{Machines, link_ended}
-use Rattle.bench_world.proofs.Unlinking.{write_three_resets, reset_obeyed, reset_cut}
+use Rattle.bench_world.proofs.open_link.Unlinking.{write_three_resets, reset_obeyed, reset_cut}
 use Rattle.bench_world.proofs.threes.write_tag_three.Goals as goal
 
 pub returns-in-Ok-select_and_write-clause-ok : goal.returns-in-Ok-select_and_write-clause-ok

@@ -1,8 +1,8 @@
 use Rattle.std.proofs.Common.{◌≡◌, ◌<◌, ℕ, List, length, get_or, false, ◌∙◌, ap, arith}
 use Rattle.snep_core.specs.Slots.{slot_count}
 use Rattle.bench_world.specs.declared.entry.SlotDone.{SlotDone}
-use Rattle.bench_world.specs.LinkTaken.{is_success, marked_done}
-use Rattle.bench_world.proofs.SlotsTold.{map_next, rest_next}
+use Rattle.bench_world.specs.private.LinkTaken.{is_success, marked_done}
+use Rattle.bench_world.proofs.open_link.SlotsTold.{map_next, rest_next}
 use Rattle.bench_world.proofs.told.mark_done.Goals as goal
 
 pub loop-one-preserved : goal.loop-one-preserved

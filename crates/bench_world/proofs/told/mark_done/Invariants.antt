@@ -1,7 +1,7 @@
 use Rattle.std.proofs.Common.{◌≡◌, ◌<◌, ◌++◌, map, take, drop}
 use Rattle.std.specs.List.{All}
 use Rattle.snep_core.specs.Slots.{slot_count}
-use Rattle.bench_world.specs.LinkTaken.{marked_done}
+use Rattle.bench_world.specs.private.LinkTaken.{marked_done}
 use Rattle.bench_world.proofs.told.mark_done.Given as goal
 
 abbrev pub invariant-loop-one : goal.invariant-loop-one

@@ -1,5 +1,5 @@
 use Rattle.std.proofs.Common.{◌≡◌, ◌++◌, drop, map}
-use Rattle.bench_world.specs.LinkTaken.{not_yet}
+use Rattle.bench_world.specs.private.LinkTaken.{not_yet}
 use Rattle.bench_world.proofs.told.none_done.Given as goal
 
 abbrev pub invariant-loop-one : goal.invariant-loop-one

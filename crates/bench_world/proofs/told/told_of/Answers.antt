@@ -3,9 +3,9 @@ use Rattle.std.specs.List.{All}
 use Rattle.snep_core.specs.Slots.{slot_count}
 use Rattle.bench_world.specs.declared.entry.Answer.TheVariants as answers
 use Rattle.bench_world.specs.declared.entry.SlotDone.{SlotDone}
-use Rattle.bench_world.specs.LinkTaken.{marked_done}
+use Rattle.bench_world.specs.private.LinkTaken.{marked_done}
 use Rattle.std.proofs.lemmas.List.{length-map}
-use Rattle.bench_world.proofs.SlotsTold.{done_within, several_by_slot, written_all}
+use Rattle.bench_world.proofs.open_link.SlotsTold.{done_within, several_by_slot, written_all}
 use Rattle.bench_world.proofs.told.told_of.Goals as goal
 
 pub mark_done-requires : goal.mark_done-requires

@@ -1,7 +1,7 @@
 use Rattle.std.proofs.Common.{◌≡◌, length, sym, ◌∙◌, ap, subst}
 use Rattle.air_core.specs.Turn.{Air}
 use Rattle.bench_devices.specs.declared.device.Device.{Device}
-use Rattle.bench_devices.specs.Linking.{seen_plain}
+use Rattle.bench_devices.specs.private.Linking.{seen_plain}
 use Rattle.device_tests.specs.Threes.{HasThree}
 use Rattle.device_tests.proofs.Threes.{has_three, three_ready, of_three}
 use Rattle.device_tests.proofs.type_3_tests.write_and_read.Goals as goal

@@ -4,7 +4,7 @@ use Rattle.dep_link.specs.DepLinks.{seen_pair}
 use Rattle.snep_core.specs.declared.slot.Slot.{Slot}
 use Rattle.snep_core.specs.Accord.{Accords, IsRun, RunFails}
 use Rattle.snep_core.specs.Talk.{EndState, begins_all}
-use Rattle.snep_core.proofs.Peers.{counted_is_peer}
+use Rattle.snep_core.proofs.accord.Peers.{counted_is_peer}
 use Rattle.link_calls.specs.AtOnce.{all_staged, puts_at_once}
 use Rattle.link_calls.specs.Called.{AllCalled, AllFailed}
 use Rattle.link_calls.proofs.AtOnce.{none_sent}

@@ -5,7 +5,7 @@ use Rattle.dep_link.specs.DepLinks.{seen_pair}
 use Rattle.snep_core.specs.declared.job.Ending.TheVariants.{Value}
 use Rattle.snep_core.specs.declared.job.Job.TheVariants.{Over}
 use Rattle.snep_core.specs.Talk.{Ends, Gets, begins_from, one_on, sap_of_slot}
-use Rattle.snep_core.proofs.Peers.{counted_is_peer}
+use Rattle.snep_core.proofs.accord.Peers.{counted_is_peer}
 use Rattle.link_calls.specs.Calls.{RequestFails, IsMade}
 use Rattle.link_calls.proofs.Made.{given_back, made, request_failed}
 use Rattle.link_calls.proofs.calls.get_on.Given as given

@@ -4,7 +4,7 @@ use Rattle.air_core.proofs.PlainAside.{Laws}
 use Rattle.dep_link.specs.DepLinks.{seen_pair}
 use Rattle.snep_core.specs.Accord.{AsideFails, IsClosed, PeerState}
 use Rattle.snep_core.specs.Talk.{Ends, all_closed, closes}
-use Rattle.snep_core.proofs.Peers.{counted_is_peer}
+use Rattle.snep_core.proofs.accord.Peers.{counted_is_peer}
 use Rattle.link_calls.specs.Closing.{ClosingFails, IsReleased}
 use Rattle.link_calls.proofs.Made.{given_back, made}
 use Rattle.link_calls.proofs.Closed.{closing_failed, released, release_failed}

@@ -2,7 +2,7 @@ use Rattle.std.proofs.Common.{rules, ◌≡◌, ◌<◌, ◌++◌, ◌+◌, ℕ,
 use Rattle.std.proofs.lemmas.List.{drop_more}
 use Rattle.link_calls.specs.Walk.{Course}
 use Rattle.link_calls.specs.Exchanging.{Sending, by_hand, sending}
-use Rattle.link_calls.specs.Walking.{Walks}
+use Rattle.link_calls.specs.private.Walking.{Walks}
 use Rattle.link_calls.proofs.Swapping.{walk_begins, walk_then, walk_fails, walk_unread}
 use Rattle.link_calls.proofs.exchanging.swap_each.Goals as goal
 

@@ -1,6 +1,6 @@
 use Rattle.std.proofs.Common.{◌≡◌, [], drop}
 use Rattle.link_calls.specs.Exchanging.{by_hand, sending}
-use Rattle.link_calls.specs.Walking.{Walks}
+use Rattle.link_calls.specs.private.Walking.{Walks}
 use Rattle.link_calls.proofs.exchanging.swap_each.Given as goal
 
 abbrev pub invariant-loop-payload : goal.invariant-loop-payload

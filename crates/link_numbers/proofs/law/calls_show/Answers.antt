@@ -1,4 +1,4 @@
-use Rattle.link_numbers.proofs.OwnShown as shown
+use Rattle.link_numbers.proofs.own.OwnShown as shown
 use Rattle.link_numbers.proofs.law.calls_show.Goals as goal
 
 pub returns-clause-own : goal.returns-clause-own

@@ -1,6 +1,6 @@
 use Rattle.std.proofs.Common.{◌≡◌, ◌+◌, ◌*◌, ◌<◌, ◌≤◌, ◌∙◌, ap, arith, drop, length, length-drop, List, slice_index_or, sym, ℕ}
 use Rattle.link_numbers.specs.Shown.{counted}
-use Rattle.link_numbers.proofs.Counting.{one_more, short, there}
+use Rattle.link_numbers.proofs.payloads.Counting.{one_more, short, there}
 use Rattle.link_numbers.proofs.number.count_parts.Goals as goal
 
 pub returns-then-tail-size : goal.returns-then-tail-size

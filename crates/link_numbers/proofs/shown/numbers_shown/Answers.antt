@@ -3,7 +3,7 @@ use Rattle.std.proofs.lemmas.List.{drop_all}
 use Rattle.nfc_base.specs.declared.event.Event.{Event}
 use Rattle.link_numbers.specs.Shown.{answers_of, far_shown, own_shown, requests_of}
 use Rattle.link_numbers.specs.Walking.{Sent, ended, nothing, sent_all}
-use Rattle.link_numbers.proofs.Kept.{far_told, own_told}
+use Rattle.link_numbers.proofs.far.Kept.{far_told, own_told}
 use Rattle.link_numbers.proofs.shown.numbers_shown.Goals as goal
 
 -- nothing is left of the events

@@ -1,6 +1,6 @@
 use Rattle.std.proofs.Common.{◌≡◌, ◌++◌, ◌-◌, ◌≤◌, ◌∙◌, ap, arith, length, List, sym, take, ℕ}
 use Rattle.link_numbers.specs.Walking.{room}
-use Rattle.link_numbers.proofs.Kept.{put_behind}
+use Rattle.link_numbers.proofs.far.Kept.{put_behind}
 use Rattle.link_numbers.proofs.side.append.Goals as goal
 
 pub returns : goal.returns

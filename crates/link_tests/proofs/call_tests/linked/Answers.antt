@@ -1,7 +1,7 @@
 use Rattle.std.proofs.Common.{true, ap}
 use Rattle.dep_link.specs.DepLinks.{over_at}
 use Rattle.dep_link.specs.Initiator.{InitState}
-use Rattle.dep_link.specs.Peering.{activated_in_step}
+use Rattle.dep_link.specs.laws.Peering.{activated_in_step}
 use Rattle.link_tests.specs.contracts.phone.PhoneListener.TheImpl.{ghosts}
 use Rattle.link_tests.proofs.call_tests.linked.Goals as goal
 

@@ -1,5 +1,5 @@
 use Rattle.link_tests.specs.contracts.phone.PhoneListener.TheImpl.{ghosts}
-use Rattle.dep_link.specs.Peering.{activated_in_step}
+use Rattle.dep_link.specs.laws.Peering.{activated_in_step}
 use Rattle.link_tests.proofs.field_tests.talk.Goals as goal
 
 pub swap-requires-clause-ready : goal.swap-requires-clause-ready

@@ -7,11 +7,11 @@ use Rattle.link_tests.specs.declared.phone.Phone.{Phone}
 use Rattle.link_tests.specs.contracts.phone.PhoneListener.TheImpl.{ghosts}
 use Rattle.dep_link.specs.Target.{TargetState, fresh, darkened, atr_res, waiting_code}
 use Rattle.dep_link.specs.Sessions.{IsBusy}
-use Rattle.dep_link.specs.Moves.{SameSelf}
-use Rattle.dep_link.specs.Delivering.{DoesTable, does_table, left_same, asked_in}
+use Rattle.dep_link.specs.laws.Moves.{SameSelf}
+use Rattle.dep_link.specs.laws.Delivering.{DoesTable, does_table, left_same, asked_in}
 use Rattle.dep_link.specs.Answering.{reply_for}
 use Rattle.dep_link.specs.Peers.{StepsByTarget, heard_with}
-use Rattle.dep_link.specs.Peering.{KeepsTable, takes_atr}
+use Rattle.dep_link.specs.laws.Peering.{KeepsTable, takes_atr}
 use Rattle.link_tests.proofs.phone.phone_field.Goals as goal
 
 abbrev target : Phone → TargetState

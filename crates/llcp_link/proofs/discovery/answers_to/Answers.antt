@@ -1,6 +1,6 @@
 use Rattle.std.proofs.Common.{rules, ◌≡◌, ◌∷◌, Some, take, filter_map}
 use Rattle.llcp_pdu.specs.Views.{params_in, shown_param}
-use Rattle.llcp_link.specs.Answers.{put_one}
+use Rattle.llcp_link.specs.private.Answers.{put_one}
 use Rattle.llcp_link.specs.Names.{answer_to}
 use Rattle.llcp_link.proofs.SdAnswers.{goes_on}
 use Rattle.llcp_link.proofs.discovery.answers_to.Goals as goal

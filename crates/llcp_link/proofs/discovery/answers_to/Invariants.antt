@@ -1,6 +1,6 @@
 use Rattle.std.proofs.Common.{◌≡◌, ◌-◌, ◌++◌, take, length, filter_map}
 use Rattle.llcp_pdu.specs.Views.{params_in}
-use Rattle.llcp_link.specs.Answers.{AreAnswers}
+use Rattle.llcp_link.specs.private.Answers.{AreAnswers}
 use Rattle.llcp_link.specs.Names.{answer_to}
 use Rattle.llcp_link.proofs.discovery.answers_to.Given as goal
 

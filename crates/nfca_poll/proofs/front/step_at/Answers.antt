@@ -6,7 +6,7 @@ use Rattle.nfca_poll.specs.Front.{Idle, Sleep, front_says}
 use Rattle.nfca_poll.specs.Fronted.{front_of}
 use Rattle.nfca_poll.specs.Levels.{levels}
 use Rattle.nfca_poll.specs.declared.front.FrontState.{FrontState}
-use Rattle.nfca_poll.proofs.Unwoken.{idle_silent, sleep_silent}
+use Rattle.nfca_poll.proofs.noise.Unwoken.{idle_silent, sleep_silent}
 use Rattle.nfca_poll.proofs.front.step_at.Goals as goal
 
 pub returns-else-is_sens_or_all-clause-answer : goal.returns-else-is_sens_or_all-clause-answer

@@ -12,11 +12,11 @@ use Rattle.air_core.specs.Turn.{moment}
 use Rattle.air_core.specs.Conversation.{TurnsTo}
 use Rattle.nfc_base.specs.declared.event.Heard.TheVariants.{Damaged, Silent}
 use Rattle.nfca_poll.specs.Muted.{mute_air}
-use Rattle.nfca_poll.proofs.Steady.{InVain, vain_start, vain_turn, vain_noisy, well_heard, far_missed}
-use Rattle.nfca_poll.proofs.Enquiring.{Reached, reached_start, reached_turn, enquires_err, enquires_end}
-use Rattle.nfca_poll.proofs.LostField.{lost_err}
-use Rattle.nfca_poll.proofs.TellingInventory.{tells_inventory}
-use Rattle.nfca_poll.proofs.Inventories.{asks_again, one_again, one_present, one_strange, one_over, not_true}
+use Rattle.nfca_poll.proofs.quiet.Steady.{InVain, vain_start, vain_turn, vain_noisy, well_heard, far_missed}
+use Rattle.nfca_poll.proofs.enquiries.Enquiring.{Reached, reached_start, reached_turn, enquires_err, enquires_end}
+use Rattle.nfca_poll.proofs.enquiries.LostField.{lost_err}
+use Rattle.nfca_poll.proofs.enquiries.TellingInventory.{tells_inventory}
+use Rattle.nfca_poll.proofs.quiet.Inventories.{asks_again, one_again, one_present, one_strange, one_over, not_true}
 use Rattle.nfca_poll.proofs.inventory.inventory_one.Goals as goal
 use Rattle.nfca_poll.proofs.inventory.inventory_one.Goals.{in-Damaged, in-Silent}
 

@@ -1,7 +1,7 @@
 use Rattle.std.proofs.Common.{◌≡◌, true}
 use Rattle.nfca_poll.specs.Inventory.{inventory, inventory_all, Tries}
-use Rattle.nfca_poll.proofs.Enquiring.{Reached}
-use Rattle.nfca_poll.proofs.Steady.{InVain}
+use Rattle.nfca_poll.proofs.enquiries.Enquiring.{Reached}
+use Rattle.nfca_poll.proofs.quiet.Steady.{InVain}
 use Rattle.nfca_poll.proofs.inventory.inventory_one.Given as goal
 
 abbrev pub invariant-loop : goal.invariant-loop

@@ -1,7 +1,7 @@
 use Rattle.std.proofs.Common.{◌∷◌, List, ℕ, ◌∙◌, ap, arith}
 use Rattle.std.proofs.lemmas.Grind.{common_steps}
 use Rattle.nfc_base.specs.Signal.{whole_v}
-use Rattle.nfca_poll.proofs.Inventories.{turned_eight}
+use Rattle.nfca_poll.proofs.quiet.Inventories.{turned_eight}
 use Rattle.nfca_poll.proofs.inventory.inventory_req_of.Goals as goal
 
 pub returns : goal.returns

@@ -8,11 +8,11 @@ use Rattle.nfc_base.specs.Signal.{Signal}
 use Rattle.air_core.specs.Turn.{moment}
 use Rattle.air_core.specs.Conversation.{TurnsTo}
 use Rattle.nfca_poll.specs.Muted.{mute_air}
-use Rattle.nfca_poll.proofs.Steady.{well_heard, vain_start, vain_turn, far_missed}
-use Rattle.nfca_poll.proofs.Enquiring.{Reached, reached_start, reached_turn, enquires_err, enquires_end}
-use Rattle.nfca_poll.proofs.LostField.{lost_err}
-use Rattle.nfca_poll.proofs.Inventories.{asks_again, pick_again, pick_present, pick_strange, pick_over, not_true}
-use Rattle.nfca_poll.proofs.TellingPickedV.{tells_picked_v}
+use Rattle.nfca_poll.proofs.quiet.Steady.{well_heard, vain_start, vain_turn, far_missed}
+use Rattle.nfca_poll.proofs.enquiries.Enquiring.{Reached, reached_start, reached_turn, enquires_err, enquires_end}
+use Rattle.nfca_poll.proofs.enquiries.LostField.{lost_err}
+use Rattle.nfca_poll.proofs.quiet.Inventories.{asks_again, pick_again, pick_present, pick_strange, pick_over, not_true}
+use Rattle.nfca_poll.proofs.enquiries.TellingPickedV.{tells_picked_v}
 use Rattle.nfca_poll.proofs.inventory.pick_v.Goals as goal
 
 pub returns-in_err-answer-clause-turns : goal.returns-in_err-answer-clause-turns

@@ -1,7 +1,7 @@
 use Rattle.std.proofs.Common.{◌≡◌, true, false}
 use Rattle.nfca_poll.specs.Inventory.{picking_v, inventory_of, Tries}
-use Rattle.nfca_poll.proofs.Enquiring.{Reached}
-use Rattle.nfca_poll.proofs.Steady.{InVain}
+use Rattle.nfca_poll.proofs.enquiries.Enquiring.{Reached}
+use Rattle.nfca_poll.proofs.quiet.Steady.{InVain}
 use Rattle.nfca_poll.proofs.inventory.pick_v.Given as goal
 
 abbrev pub invariant-loop : goal.invariant-loop

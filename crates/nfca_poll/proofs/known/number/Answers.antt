@@ -1,8 +1,8 @@
 use Rattle.std.proofs.Common.{◌≡◌, ◌<◌, ◌-◌, ◌+◌, ◌*◌, ◌^◌, length, drop, get_or, true, false, ◌∙◌, arith}
 use Rattle.std.proofs.lemmas.Grind.{common_steps}
 use Rattle.nfc_base.specs.Bits.{number_of}
-use Rattle.nfca_poll.proofs.Spans.{small_more}
-use Rattle.nfca_poll.proofs.KnownPacks.{number_next}
+use Rattle.nfca_poll.proofs.identifiers.Spans.{small_more}
+use Rattle.nfca_poll.proofs.identifiers.KnownPacks.{number_next}
 use Rattle.nfca_poll.proofs.known.number.Goals as goal
 
 pub loop-at-preserved-then-bits-at : goal.loop-at-preserved-then-bits-at

@@ -1,7 +1,7 @@
 use Rattle.std.proofs.Common.{◌≡◌, ◌<◌, ◌≤◌, ◌++◌, ◌∷◌, [], List, Bool, length, take, drop, sym, ◌∙◌, ap, append_assoc, append-nil, arith}
 use Rattle.std.proofs.lemmas.Grind.{common_steps}
 use Rattle.nfc_base.specs.Bits.{number_of, packed}
-use Rattle.nfca_poll.proofs.KnownPacks.{packed_more, packed_rest, packed_empty}
+use Rattle.nfca_poll.proofs.identifiers.KnownPacks.{packed_more, packed_rest, packed_empty}
 use Rattle.nfca_poll.proofs.known.pack.Goals as goal
 
 pub loop-left-preserved : goal.loop-left-preserved

@@ -2,7 +2,7 @@ use Rattle.std.proofs.Common.{◌≡◌, ℕ, ◌≤◌, ◌-◌, ◌+◌, ◌*�
 use Rattle.nfc_base.specs.Signal.{Signal}
 use Rattle.nfc_base.specs.Bits.{bits_of, bit_count}
 use Rattle.nfca_poll.specs.Calls.{known_count}
-use Rattle.nfca_poll.proofs.KnownBits.{SddFacts, sdd_facts, known_at}
+use Rattle.nfca_poll.proofs.identifiers.KnownBits.{SddFacts, sdd_facts, known_at}
 use Rattle.nfca_poll.proofs.level.known_len.Goals as goal
 
 pub returns-clause-count : goal.returns-clause-count

@@ -1,7 +1,7 @@
 use Rattle.std.proofs.Common.{false, Err, subst}
 use Rattle.air_core.specs.Turn.{Transmits}
 use Rattle.air_core.specs.declared.fault.AirFault.{AirFault}
-use Rattle.nfca_poll.proofs.Muting.{restarts_mute, steps_mute, stops_mute, ask_heard, ask_lost, ask_memory}
+use Rattle.nfca_poll.proofs.noise.Muting.{restarts_mute, steps_mute, stops_mute, ask_heard, ask_lost, ask_memory}
 use Rattle.nfca_poll.proofs.requests.ask.Goals as goal
 
 pub returns-in-Ok : goal.returns-in-Ok

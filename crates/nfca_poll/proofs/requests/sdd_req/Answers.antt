@@ -2,7 +2,7 @@ use Rattle.std.proofs.Common.{◌≡◌, ℕ, ◌%◌, List, ◌∷◌, length, 
 use Rattle.std.proofs.lemmas.Grind.{common_steps}
 use Rattle.nfc_base.specs.Bits.{packed}
 use Rattle.nfca_poll.specs.Calls.{sel_cmd, sel_par}
-use Rattle.nfca_poll.proofs.KnownPacks.{sdd_tail, sdd_signal}
+use Rattle.nfca_poll.proofs.identifiers.KnownPacks.{sdd_tail, sdd_signal}
 use Rattle.nfca_poll.proofs.requests.sdd_req.Goals as goal
 
 pub unwrap-requires-2 : goal.unwrap-requires-2

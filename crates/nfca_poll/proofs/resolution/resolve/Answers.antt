@@ -5,18 +5,18 @@ use Rattle.nfca_poll.specs.declared.fault.PollFault.{PollFault}
 use Rattle.nfca_poll.specs.Poll.{Seek, seek_step}
 use Rattle.nfca_poll.specs.Enquiry.{Enquires, LosesByBreak}
 use Rattle.nfca_poll.specs.Seeking.{resolution, seek_of}
-use Rattle.nfca_poll.proofs.SeekSteps.{potential, falls}
-use Rattle.nfca_poll.proofs.Enquiring.{Reached, reached_start, due_of_request, goes_on, ended_is, reached_turn, enquires_err, enquires_end}
+use Rattle.nfca_poll.proofs.enquiries.SeekSteps.{potential, falls}
+use Rattle.nfca_poll.proofs.enquiries.Enquiring.{Reached, reached_start, due_of_request, goes_on, ended_is, reached_turn, enquires_err, enquires_end}
 use Rattle.nfca_poll.specs.Crowd.{PicksFromRest}
-use Rattle.nfca_poll.proofs.FewAsked.{Counted, counted_start, counted_turn, few_asked, few_err}
-use Rattle.nfca_poll.proofs.LostField.{lost_err, never_lost}
-use Rattle.nfca_poll.proofs.TellingResolution.{tells_resolution}
-use Rattle.nfca_poll.proofs.FirstIdle.{from_rest, picks_first}
-use Rattle.nfca_poll.proofs.ThroughNoise.{Holds, holds_start, holds_turn, holds_end, holds_err}
-use Rattle.nfca_poll.proofs.NobodyIdle.{Sleepers, sleepers_start, sleepers_turn, sleepers_end, sleepers_err}
+use Rattle.nfca_poll.proofs.enquiries.FewAsked.{Counted, counted_start, counted_turn, few_asked, few_err}
+use Rattle.nfca_poll.proofs.enquiries.LostField.{lost_err, never_lost}
+use Rattle.nfca_poll.proofs.enquiries.TellingResolution.{tells_resolution}
+use Rattle.nfca_poll.proofs.quiet.FirstIdle.{from_rest, picks_first}
+use Rattle.nfca_poll.proofs.noise.ThroughNoise.{Holds, holds_start, holds_turn, holds_end, holds_err}
+use Rattle.nfca_poll.proofs.noise.NobodyIdle.{Sleepers, sleepers_start, sleepers_turn, sleepers_end, sleepers_err}
 use Rattle.nfca_poll.specs.AnyStart.{PicksFromAny, PicksAlone}
-use Rattle.nfca_poll.proofs.AnyTurns.{Mixes, mixes_start, mixes_turn, mixes_end, mixes_err}
-use Rattle.nfca_poll.proofs.Unlinked.{Frees, frees_start, frees_turn, frees_end, frees_err}
+use Rattle.nfca_poll.proofs.noise.AnyTurns.{Mixes, mixes_start, mixes_turn, mixes_end, mixes_err}
+use Rattle.nfca_poll.proofs.noise.Unlinked.{Frees, frees_start, frees_turn, frees_end, frees_err}
 use Rattle.nfca_poll.proofs.resolution.resolve.Goals as goal
 
 pub returns-in_err-heard-clause-turns : goal.returns-in_err-heard-clause-turns

@@ -1,12 +1,12 @@
 use Rattle.std.proofs.Common.{◌≡◌, true}
 use Rattle.nfca_poll.specs.Seeking.{resolution, seek_of}
-use Rattle.nfca_poll.proofs.SeekSteps.{potential}
-use Rattle.nfca_poll.proofs.Enquiring.{Reached}
-use Rattle.nfca_poll.proofs.FewAsked.{Counted}
-use Rattle.nfca_poll.proofs.ThroughNoise.{Holds}
-use Rattle.nfca_poll.proofs.NobodyIdle.{Sleepers}
-use Rattle.nfca_poll.proofs.AnyTurns.{Mixes}
-use Rattle.nfca_poll.proofs.Unlinked.{Frees}
+use Rattle.nfca_poll.proofs.enquiries.SeekSteps.{potential}
+use Rattle.nfca_poll.proofs.enquiries.Enquiring.{Reached}
+use Rattle.nfca_poll.proofs.enquiries.FewAsked.{Counted}
+use Rattle.nfca_poll.proofs.noise.ThroughNoise.{Holds}
+use Rattle.nfca_poll.proofs.noise.NobodyIdle.{Sleepers}
+use Rattle.nfca_poll.proofs.noise.AnyTurns.{Mixes}
+use Rattle.nfca_poll.proofs.noise.Unlinked.{Frees}
 use Rattle.nfca_poll.proofs.resolution.resolve.Given as goal
 
 abbrev pub invariant-loop-heard : goal.invariant-loop-heard

@@ -6,14 +6,14 @@ use Rattle.nfca_poll.specs.declared.fault.PollFault.TheVariants as faults
 use Rattle.nfca_poll.specs.declared.rounds.RoundEnd.{RoundEnd}
 use Rattle.nfca_poll.specs.declared.rounds.RoundEnd.TheVariants as ends
 use Rattle.nfca_poll.specs.Enquiry.{Enquires}
-use Rattle.nfca_poll.specs.OneRound.{one_round}
+use Rattle.nfca_poll.specs.private.OneRound.{one_round}
 use Rattle.nfca_poll.specs.Rounds.{Search, Told, all_devices, finding, next_round, listed}
-use Rattle.nfca_poll.proofs.Enquiring.{Reached, reached_start, enquires_end}
-use Rattle.nfca_poll.proofs.RoundCalls.{round_begins, round_came, round_failed, given_up}
-use Rattle.nfca_poll.proofs.TellingRounds.{tells_found}
-use Rattle.nfca_poll.proofs.FoundCrowd.{finds_crowd}
-use Rattle.nfca_poll.proofs.GivenUp.{find_given_up}
-use Rattle.nfca_poll.proofs.CallEnds.{find_lit, find_lost, find_rounds, find_other}
+use Rattle.nfca_poll.proofs.enquiries.Enquiring.{Reached, reached_start, enquires_end}
+use Rattle.nfca_poll.proofs.calls.RoundCalls.{round_begins, round_came, round_failed, given_up}
+use Rattle.nfca_poll.proofs.enquiries.TellingRounds.{tells_found}
+use Rattle.nfca_poll.proofs.quiet.FoundCrowd.{finds_crowd}
+use Rattle.nfca_poll.proofs.enquiries.GivenUp.{find_given_up}
+use Rattle.nfca_poll.proofs.calls.CallEnds.{find_lit, find_lost, find_rounds, find_other}
 use Rattle.nfca_poll.proofs.rounds.find_all.Goals as goal
 
 pub loop-init : goal.loop-init

@@ -1,5 +1,5 @@
 use Rattle.nfca_poll.specs.Rounds.{finding, next_round}
-use Rattle.nfca_poll.proofs.Enquiring.{Reached}
+use Rattle.nfca_poll.proofs.enquiries.Enquiring.{Reached}
 use Rattle.nfca_poll.proofs.rounds.find_all.Given as goal
 
 abbrev pub invariant-loop : goal.invariant-loop

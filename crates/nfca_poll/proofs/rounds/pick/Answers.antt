@@ -6,14 +6,14 @@ use Rattle.nfca_poll.specs.declared.fault.PollFault.TheVariants as faults
 use Rattle.nfca_poll.specs.declared.rounds.RoundEnd.{RoundEnd}
 use Rattle.nfca_poll.specs.declared.rounds.RoundEnd.TheVariants as ends
 use Rattle.nfca_poll.specs.Enquiry.{Enquires}
-use Rattle.nfca_poll.specs.OneRound.{one_round}
+use Rattle.nfca_poll.specs.private.OneRound.{one_round}
 use Rattle.nfca_poll.specs.Rounds.{Search, Told, device_of, picking, next_round}
-use Rattle.nfca_poll.proofs.Enquiring.{Reached, reached_start, enquires_end}
-use Rattle.nfca_poll.proofs.RoundCalls.{round_begins, round_came, round_failed}
-use Rattle.nfca_poll.proofs.TellingRounds.{tells_picked}
-use Rattle.nfca_poll.proofs.FoundCrowd.{selects_alone}
-use Rattle.nfca_poll.proofs.GivenUp.{pick_given_up}
-use Rattle.nfca_poll.proofs.CallEnds.{pick_lit, pick_lost, pick_rounds, pick_other}
+use Rattle.nfca_poll.proofs.enquiries.Enquiring.{Reached, reached_start, enquires_end}
+use Rattle.nfca_poll.proofs.calls.RoundCalls.{round_begins, round_came, round_failed}
+use Rattle.nfca_poll.proofs.enquiries.TellingRounds.{tells_picked}
+use Rattle.nfca_poll.proofs.quiet.FoundCrowd.{selects_alone}
+use Rattle.nfca_poll.proofs.enquiries.GivenUp.{pick_given_up}
+use Rattle.nfca_poll.proofs.calls.CallEnds.{pick_lit, pick_lost, pick_rounds, pick_other}
 use Rattle.nfca_poll.proofs.rounds.pick.Goals as goal
 
 pub loop-init : goal.loop-init

@@ -1,5 +1,5 @@
 use Rattle.nfca_poll.specs.Rounds.{picking, next_round}
-use Rattle.nfca_poll.proofs.Enquiring.{Reached}
+use Rattle.nfca_poll.proofs.enquiries.Enquiring.{Reached}
 use Rattle.nfca_poll.proofs.rounds.pick.Given as goal
 
 abbrev pub invariant-loop : goal.invariant-loop

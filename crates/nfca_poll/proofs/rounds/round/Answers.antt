@@ -14,10 +14,10 @@ use Rattle.nfca_poll.specs.Poll.{Calling}
 use Rattle.nfca_poll.specs.Enquiry.{Enquires, or_memory}
 use Rattle.nfca_poll.specs.Seeking.{resolution}
 use Rattle.nfca_poll.specs.Rounds.{Search, Begins, Seeks, Sends, has_found, most_found, search_ended}
-use Rattle.nfca_poll.specs.OneRound.{one_round, round_of, is_wanted}
-use Rattle.nfca_poll.proofs.Enquiring.{Reached, reached_start, reached_reset, reached_turn, enquires_end, enquires_so, enquires_err}
-use Rattle.nfca_poll.proofs.EnquiryEnds.{leaves_lit}
-use Rattle.nfca_poll.proofs.RoundSteps.{met_in, device_met, nobody_left, given_up, fault_told, met_wanted, met_again, met_too_many, met_new}
+use Rattle.nfca_poll.specs.private.OneRound.{one_round, round_of, is_wanted}
+use Rattle.nfca_poll.proofs.enquiries.Enquiring.{Reached, reached_start, reached_reset, reached_turn, enquires_end, enquires_so, enquires_err}
+use Rattle.nfca_poll.proofs.enquiries.EnquiryEnds.{leaves_lit}
+use Rattle.nfca_poll.proofs.calls.RoundSteps.{met_in, device_met, nobody_left, given_up, fault_told, met_wanted, met_again, met_too_many, met_new}
 use Rattle.nfca_poll.proofs.rounds.round.Goals as goal
 
 pub returns-then-is_err : goal.returns-then-is_err

@@ -2,8 +2,8 @@ use Rattle.std.proofs.Common.{◌≡◌, ◌≤◌, ◌-◌, length, true}
 use Rattle.std.specs.Option.{option_copied}
 use Rattle.nfca_poll.specs.Poll.{Calling}
 use Rattle.nfca_poll.specs.Rounds.{Seeks}
-use Rattle.nfca_poll.specs.OneRound.{one_round}
-use Rattle.nfca_poll.proofs.Enquiring.{Reached}
+use Rattle.nfca_poll.specs.private.OneRound.{one_round}
+use Rattle.nfca_poll.proofs.enquiries.Enquiring.{Reached}
 use Rattle.nfca_poll.proofs.rounds.round.Given as goal
 
 abbrev pub invariant-loop-device : goal.invariant-loop-device

@@ -4,7 +4,7 @@ use Rattle.nfc_base.specs.Bits.{bits, bit_count, packed}
 use Rattle.nfca_poll.specs.Levels.{bcc}
 use Rattle.nfca_poll.specs.Poll.{BadAnswer, level_bits}
 use Rattle.nfca_poll.specs.Seeking.{levels_of}
-use Rattle.nfca_poll.proofs.SeekSteps.{known_size, not_complete, is_complete, packed_forty}
+use Rattle.nfca_poll.proofs.enquiries.SeekSteps.{known_size, not_complete, is_complete, packed_forty}
 use Rattle.nfca_poll.proofs.seeking.complete.Goals as goal
 
 pub returns-then-bit_len-len : goal.returns-then-bit_len-len

@@ -3,7 +3,7 @@ use Rattle.std.proofs.lemmas.Grind.{common_steps}
 use Rattle.nfc_base.specs.Bits.{bits, bit_count}
 use Rattle.nfca_poll.specs.Poll.{BadAnswer, collision_bits}
 use Rattle.nfca_poll.specs.Seeking.{levels_of}
-use Rattle.nfca_poll.proofs.SeekSteps.{known_size, too_far}
+use Rattle.nfca_poll.proofs.enquiries.SeekSteps.{known_size, too_far}
 use Rattle.nfca_poll.proofs.seeking.narrow.Goals as goal
 
 pub returns-then-bit_len-saturating_sub : goal.returns-then-bit_len-saturating_sub

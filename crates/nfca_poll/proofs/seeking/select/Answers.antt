@@ -2,7 +2,7 @@ use Rattle.std.proofs.Common.{◌≡◌, ◌∷◌, ◌++◌, [], ℕ, List, get
 use Rattle.std.proofs.lemmas.Grind.{common_steps}
 use Rattle.nfca_poll.specs.Poll.{Found, kind_of, has_bit, goes_on, is_one_byte}
 use Rattle.nfca_poll.specs.Seeking.{levels_of}
-use Rattle.nfca_poll.proofs.SeekSteps.{is_found, found_is}
+use Rattle.nfca_poll.proofs.enquiries.SeekSteps.{is_found, found_is}
 use Rattle.nfca_poll.proofs.seeking.select.Goals as goal
 
 pub returns : goal.returns

@@ -2,7 +2,7 @@ use Rattle.std.proofs.Common.{◌≡◌, ◌<◌, ◌+◌, ◌-◌, ◌*◌, ◌
 use Rattle.std.proofs.lemmas.Grind.{common_steps}
 use Rattle.nfc_base.specs.Bits.{bits_of, number_of}
 use Rattle.nfc_base.proofs.Packing.{length_of_bits}
-use Rattle.nfca_poll.proofs.Spans.{small_more, number_down}
+use Rattle.nfca_poll.proofs.identifiers.Spans.{small_more, number_down}
 use Rattle.nfca_poll.proofs.span.number.Goals as goal
 
 pub loop-at-preserved-then-one : goal.loop-at-preserved-then-one

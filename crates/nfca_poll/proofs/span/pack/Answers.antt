@@ -1,7 +1,7 @@
 use Rattle.std.proofs.Common.{ℕ, ◌<◌, ◌≤◌, ◌+◌, List, take, drop, Bool, sym, ◌∙◌, arith}
 use Rattle.nfc_base.specs.Bits.{bits_of, packed}
 use Rattle.nfc_base.proofs.Packing.{length_of_bits}
-use Rattle.nfca_poll.proofs.Spans.{pack_part, pack_end}
+use Rattle.nfca_poll.proofs.identifiers.Spans.{pack_part, pack_end}
 use Rattle.nfca_poll.proofs.span.pack.Goals as goal
 
 pub returns-then-at-to : goal.returns-then-at-to

@@ -2,7 +2,7 @@ use Rattle.std.proofs.Common.{◌≡◌, ◌≤◌, List, length, Bool, ◌∙�
 use Rattle.std.proofs.lemmas.Grind.{common_steps}
 use Rattle.nfc_base.specs.Bits.{bits_of, packed}
 use Rattle.nfc_base.proofs.Packing.{length_of_bits}
-use Rattle.nfca_poll.proofs.Spans.{span, span_tail, span_signal}
+use Rattle.nfca_poll.proofs.identifiers.Spans.{span, span_tail, span_signal}
 use Rattle.nfca_poll.proofs.span.span_frame.Goals as goal
 
 pub unwrap-requires : goal.unwrap-requires

@@ -6,7 +6,7 @@ use Rattle.air_core.specs.Turn.{Air, world, after_event}
 use Rattle.nfca_poll.specs.declared.fault.PollFault.{PollFault}
 use Rattle.nfca_poll.specs.declared.fault.PollFault.TheVariants as faults
 use Rattle.nfca_poll.specs.Enquiry.{Enquires, or_memory}
-use Rattle.nfca_poll.proofs.Enquiring.{Reached, reached_start, reached_reset, reached_turn, enquires_err, enquires_end, enquires_so}
+use Rattle.nfca_poll.proofs.enquiries.Enquiring.{Reached, reached_start, reached_reset, reached_turn, enquires_err, enquires_end, enquires_so}
 use Rattle.nfcv_poll.specs.Finding.{identifiers}
 use Rattle.nfcv_poll.specs.Search.{hears, due_request, over_at, is_over, Begins, Runs, asked_for, finding_all}
 use Rattle.nfcv_poll.specs.declared.search.Search.{Search}

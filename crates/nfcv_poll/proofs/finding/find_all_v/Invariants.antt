@@ -1,5 +1,5 @@
 use Rattle.std.proofs.Common.{◌≡◌, true}
-use Rattle.nfca_poll.proofs.Enquiring.{Reached}
+use Rattle.nfca_poll.proofs.enquiries.Enquiring.{Reached}
 use Rattle.nfcv_poll.specs.Search.{Runs, finding_all}
 use Rattle.nfcv_poll.proofs.Falls.{left}
 use Rattle.nfcv_poll.proofs.finding.find_all_v.Given as goal

@@ -1,4 +1,4 @@
-use Rattle.snep_core.proofs.Peers.{offers_accord}
+use Rattle.snep_core.proofs.accord.Peers.{offers_accord}
 use Rattle.snep_core.proofs.law.any_table.Goals as goal
 
 pub returns : goal.returns

@@ -1,4 +1,4 @@
-use Rattle.snep_core.proofs.CallsEnd.{calls_begin, calls_end, replies_fall}
+use Rattle.snep_core.proofs.jobs.CallsEnd.{calls_begin, calls_end, replies_fall}
 use Rattle.snep_core.proofs.law.calls_end.Goals as goal
 
 pub returns-clause-begins : goal.returns-clause-begins

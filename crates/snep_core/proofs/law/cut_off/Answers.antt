@@ -1,4 +1,4 @@
-use Rattle.snep_core.proofs.CutOff.{cut_off_accepts}
+use Rattle.snep_core.proofs.jobs.CutOff.{cut_off_accepts}
 use Rattle.snep_core.proofs.law.cut_off.Goals as goal
 
 pub returns : goal.returns

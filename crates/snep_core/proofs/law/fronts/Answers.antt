@@ -1,4 +1,4 @@
-use Rattle.snep_core.proofs.Cuts.{fronts_put}
+use Rattle.snep_core.proofs.sessions.Cuts.{fronts_put}
 use Rattle.snep_core.proofs.law.fronts.Goals as goal
 
 pub returns : goal.returns

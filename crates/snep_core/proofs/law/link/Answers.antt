@@ -1,4 +1,4 @@
-use Rattle.snep_core.proofs.Links.{link_law}
+use Rattle.snep_core.proofs.sessions.Links.{link_law}
 use Rattle.snep_core.proofs.law.link.Goals as goal
 
 pub returns : goal.returns

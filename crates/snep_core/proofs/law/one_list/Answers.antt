@@ -1,4 +1,4 @@
-use Rattle.snep_core.proofs.Cuts.{puts_one}
+use Rattle.snep_core.proofs.sessions.Cuts.{puts_one}
 use Rattle.snep_core.proofs.law.one_list.Goals as goal
 
 pub returns : goal.returns

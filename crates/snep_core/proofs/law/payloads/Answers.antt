@@ -1,4 +1,4 @@
-use Rattle.snep_core.proofs.PayloadLaw.{payloads_accepted}
+use Rattle.snep_core.proofs.sessions.PayloadLaw.{payloads_accepted}
 use Rattle.snep_core.proofs.law.payloads.Goals as goal
 
 pub returns : goal.returns

@@ -1,4 +1,4 @@
-use Rattle.snep_core.proofs.Peers.{counted_is_peer, server_is_peer}
+use Rattle.snep_core.proofs.accord.Peers.{counted_is_peer, server_is_peer}
 use Rattle.snep_core.proofs.law.peer.Goals as goal
 
 pub returns-clause-most : goal.returns-clause-most

@@ -3,7 +3,7 @@ use Rattle.std.proofs.lemmas.List.{length-append}
 use Rattle.snep_core.specs.Session.{Session, fresh_session}
 use Rattle.snep_core.specs.Server.{padded}
 use Rattle.llcp_pdu.specs.Wire.{sap_count}
-use Rattle.snep_core.proofs.Sessions.{padded_more}
+use Rattle.snep_core.proofs.sessions.Sessions.{padded_more}
 use Rattle.snep_core.proofs.server.make_room.Goals as goal
 
 pub loop-alloc-preserved : goal.loop-alloc-preserved

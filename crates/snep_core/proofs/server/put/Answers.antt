@@ -1,7 +1,7 @@
 use Rattle.std.proofs.Common.{rules, ◌≡◌, ◌<◌, ℕ, List, [], ◌∷◌, ◌++◌, length, set, get_or, Some, None, sym, ◌∙◌, ap, subst}
 use Rattle.snep_core.specs.Session.{Offer, AreShort}
 use Rattle.snep_core.specs.Server.{place_of}
-use Rattle.snep_core.proofs.Offers.{place_there, offered_new, short_set, short_more}
+use Rattle.snep_core.proofs.sessions.Offers.{place_there, offered_new, short_set, short_more}
 use Rattle.snep_core.proofs.server.put.Goals as goal
 
 pub index_mut-requires : goal.index_mut-requires

@@ -10,10 +10,10 @@ use Rattle.nfc_base.specs.Signal.{Signal}
 use Rattle.air_core.specs.Turn.{moment}
 use Rattle.air_core.specs.Conversation.{TurnsTo}
 use Rattle.nfca_poll.specs.Muted.{mute_air}
-use Rattle.nfca_poll.proofs.Steady.{well_heard, alone_heard, vain_start, vain_turn, far_missed}
-use Rattle.nfca_poll.proofs.Enquiring.{Reached, reached_start, reached_turn, enquires_err, enquires_end}
-use Rattle.nfca_poll.proofs.LostField.{lost_err}
-use Rattle.nfca_poll.proofs.Inventories.{asks_again, pick_again, pick_over}
+use Rattle.nfca_poll.proofs.quiet.Steady.{well_heard, alone_heard, vain_start, vain_turn, far_missed}
+use Rattle.nfca_poll.proofs.enquiries.Enquiring.{Reached, reached_start, reached_turn, enquires_err, enquires_end}
+use Rattle.nfca_poll.proofs.enquiries.LostField.{lost_err}
+use Rattle.nfca_poll.proofs.quiet.Inventories.{asks_again, pick_again, pick_over}
 use Rattle.t3t_access.proofs.TellingPickedF.{tells_picked_f}
 use Rattle.t3t_access.proofs.polling.pick_f.Goals as goal
 

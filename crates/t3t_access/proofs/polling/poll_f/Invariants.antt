@@ -1,8 +1,8 @@
 use Rattle.std.proofs.Common.{◌≡◌, true}
 use Rattle.nfca_poll.specs.Inventory.{Tries}
 use Rattle.t3t_access.specs.Polling.{polling_f, sensf_req}
-use Rattle.nfca_poll.proofs.Enquiring.{Reached}
-use Rattle.nfca_poll.proofs.Steady.{InVain}
+use Rattle.nfca_poll.proofs.enquiries.Enquiring.{Reached}
+use Rattle.nfca_poll.proofs.quiet.Steady.{InVain}
 use Rattle.t3t_access.proofs.polling.poll_f.Given as goal
 
 abbrev pub invariant-loop : goal.invariant-loop

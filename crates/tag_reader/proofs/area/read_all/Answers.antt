@@ -4,7 +4,7 @@ use Rattle.tlv_area.specs.declared.space.Space.{Space}
 use Rattle.tag_reader.specs.declared.how.How.TheVariants.{T2}
 use Rattle.tag_reader.specs.Asked.{ToWrite}
 use Rattle.tag_reader.specs.Heard.{IsFaultBy}
-use Rattle.tag_reader.specs.SurveySteps.{ReadsAll}
+use Rattle.tag_reader.specs.private.SurveySteps.{ReadsAll}
 use Rattle.tag_reader.proofs.Looking.{of_under, next_number, looks_more}
 use Rattle.tag_reader.proofs.Endings.{ends_later}
 use Rattle.tag_reader.proofs.AreaSurveys.{left, brings_more}

@@ -1,9 +1,9 @@
 use Rattle.std.proofs.Common.{rules, ◌≡◌, suc, ◌<◌, ◌≤◌, [], ◌∷◌, ◌++◌, length, Ok, Err, sym, ◌∙◌, ap, subst, arith}
 use Rattle.nfc_base.specs.TagLinks.{LinkView}
 use Rattle.tag_reader.specs.Asked.{ToWrite}
-use Rattle.tag_reader.specs.BlockSteps.{LooksBlocks, SeesBlocks, NextBlocks, GainsBlocks, EndsBlocks, HasRunOut}
+use Rattle.tag_reader.specs.private.BlockSteps.{LooksBlocks, SeesBlocks, NextBlocks, GainsBlocks, EndsBlocks, HasRunOut}
 use Rattle.tag_reader.specs.declared.how.How.TheVariants.{T5}
-use Rattle.tag_reader.specs.SurveySteps.{KnowsAll}
+use Rattle.tag_reader.specs.private.SurveySteps.{KnowsAll}
 use Rattle.tag_reader.proofs.BlockEndings.{names_more, names_begins}
 use Rattle.tag_reader.proofs.AreaSurveys.{area_due, all_is_known, tag_is_known, cut_area, still_of}
 use Rattle.tag_reader.proofs.Filing.{or_fault}

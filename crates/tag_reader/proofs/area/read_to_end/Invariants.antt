@@ -3,7 +3,7 @@ use Rattle.nfc_base.specs.TagLinks.{LinkView}
 use Rattle.tag_reader.specs.Asked.{ToWrite}
 use Rattle.tag_reader.specs.declared.how.How.TheVariants.{T5}
 use Rattle.tag_reader.specs.Heard.{IsOf}
-use Rattle.tag_reader.specs.BlockSteps.{Names, LooksBlocks, IsReading}
+use Rattle.tag_reader.specs.private.BlockSteps.{Names, LooksBlocks, IsReading}
 use Rattle.tag_reader.proofs.area.read_to_end.Given as goal
 
 abbrev pub invariant-area : goal.invariant-area

@@ -8,7 +8,7 @@ use Rattle.tlv_area.specs.Walking.{HasCome}
 use Rattle.tag_reader.specs.declared.how.How.TheVariants.{T5}
 use Rattle.tag_reader.specs.Asked.{ToRead}
 use Rattle.tag_reader.specs.Steps.{Reads, IsCutFault}
-use Rattle.tag_reader.specs.BlockSteps.{LooksBlocks, SeesBlocks, NextBlocks, GainsBlocks, EndsBlocks, HasRunOut}
+use Rattle.tag_reader.specs.private.BlockSteps.{LooksBlocks, SeesBlocks, NextBlocks, GainsBlocks, EndsBlocks, HasRunOut}
 use Rattle.tag_reader.proofs.Looking.{known_short}
 use Rattle.tag_reader.proofs.Walking.{finds_in, needs_in, short_in, come_further}
 use Rattle.tag_reader.proofs.BlockEndings.{grown_by, names_more, names_begins, any_known, blocks_none, blocks_bad, blocks_held, blocks_due, blocks_cut, lacks_here, sees_here, read_form, cut_here}

@@ -3,7 +3,7 @@ use Rattle.tlv_area.specs.Walking.{HasCome}
 use Rattle.tag_reader.specs.declared.how.How.TheVariants.{T5}
 use Rattle.tag_reader.specs.Kinds.{IsTag}
 use Rattle.tag_reader.specs.Asked.{ToRead}
-use Rattle.tag_reader.specs.BlockSteps.{Names, LooksBlocks, IsReading}
+use Rattle.tag_reader.specs.private.BlockSteps.{Names, LooksBlocks, IsReading}
 use Rattle.tag_reader.proofs.block_finding.find_in_blocks.Given as goal
 
 abbrev pub invariant-walk : goal.invariant-walk

@@ -3,7 +3,7 @@ use Rattle.nfc_base.specs.TagLinks.{LinkView}
 use Rattle.tlv_area.specs.Containers.{t5_is_open, t5_front}
 use Rattle.tag_reader.specs.declared.how.How.TheVariants.{T5}
 use Rattle.tag_reader.specs.Steps.{of_container}
-use Rattle.tag_reader.specs.BlockSteps.{LooksBlocks, SeesBlocks, NextBlocks, GainsBlocks, EndsBlocks, HasRunOut, Opens}
+use Rattle.tag_reader.specs.private.BlockSteps.{LooksBlocks, SeesBlocks, NextBlocks, GainsBlocks, EndsBlocks, HasRunOut, Opens}
 use Rattle.tag_reader.proofs.BlockEndings.{known_size, closed_sized, some_known, open_due, names_ready, names_area, later, short_blocks, reads_short, faulty_blocks, reads_faulty}
 use Rattle.tag_reader.proofs.Needing.{on_err, open_needs, none_needs, container_needs}
 use Rattle.tag_reader.proofs.Exits.{exit_is}

@@ -2,7 +2,7 @@ use Rattle.std.proofs.Common.{◌≡◌, ℕ, ◌+◌, ◌-◌, length, if◌the
 use Rattle.tag_reader.specs.declared.how.How.TheVariants.{T5}
 use Rattle.tag_reader.specs.Kinds.{IsTag}
 use Rattle.tag_reader.specs.Asked.{Aim}
-use Rattle.tag_reader.specs.BlockSteps.{LooksBlocks, IsReading}
+use Rattle.tag_reader.specs.private.BlockSteps.{LooksBlocks, IsReading}
 use Rattle.tag_reader.proofs.block_finding.open_area.Given as goal
 
 abbrev pub invariant-open : goal.invariant-open

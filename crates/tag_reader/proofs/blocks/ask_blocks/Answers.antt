@@ -11,7 +11,7 @@ use Rattle.tag_reader.specs.Steps.{of_link}
 use Rattle.tag_reader.specs.Heard.{IsFaultBy}
 use Rattle.tag_reader.specs.declared.known.Known.{Known}
 use Rattle.tag_reader.specs.declared.fault.ReadFault.{ReadFault}
-use Rattle.tag_reader.specs.BlockSteps.{TellsBlocks, SeesBlocks, NextBlocks}
+use Rattle.tag_reader.specs.private.BlockSteps.{TellsBlocks, SeesBlocks, NextBlocks}
 use Rattle.tag_reader.proofs.Links.{asked_ok, asked_err, answer_lost}
 use Rattle.tag_reader.proofs.BlockAsking.{command_is, tells_is, blocks_fault, blocks_ended, blocks_refused, blocks_learned, blocks_lost, grows_single, grows_bytes}
 use Rattle.tag_reader.proofs.BlockTurns.{asks_is, keeps_next, fails, no_fault, learns_next, single_next, ended_next}

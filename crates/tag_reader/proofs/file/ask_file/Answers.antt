@@ -4,7 +4,7 @@ use Rattle.nfc_base.specs.TagLinks.{LinkView}
 use Rattle.t4t_tag.specs.Spelling.{command_bytes}
 use Rattle.t4t_tag.specs.Step.{done}
 use Rattle.tag_reader.specs.Files.{file_command, file_frame}
-use Rattle.tag_reader.specs.FileSteps.{state_at, content_at}
+use Rattle.tag_reader.specs.private.FileSteps.{state_at, content_at}
 use Rattle.tag_reader.specs.Steps.{of_link}
 use Rattle.tag_reader.proofs.Links.{asked_ok, asked_err}
 use Rattle.tag_reader.proofs.Files.{content_small}

@@ -1,6 +1,6 @@
 use Rattle.std.proofs.Common.{◌≡◌, Err, arith, rules, [], ◌∷◌, length, refl, ◌∙◌, ap}
 use Rattle.nfc_base.specs.TagLinks.{LinkView}
-use Rattle.tag_reader.specs.FileSteps.{EndsBy}
+use Rattle.tag_reader.specs.private.FileSteps.{EndsBy}
 use Rattle.tag_reader.specs.Steps.{of_container}
 use Rattle.tag_reader.proofs.FileReading.{head_due, opens_file, no_file_by}
 use Rattle.tag_reader.specs.declared.how.How.TheVariants.{T4}

@@ -1,7 +1,7 @@
 use Rattle.std.proofs.Common.{rules, ◌≡◌, ◌-◌, ◌*◌, [], ◌++◌, Err, refl, sym, ◌∙◌, ap, arith}
 use Rattle.std.specs.Prelude.{min}
 use Rattle.nfc_base.specs.TagLinks.{LinkView}
-use Rattle.tag_reader.specs.FileSteps.{piece_at, IsWhole}
+use Rattle.tag_reader.specs.private.FileSteps.{piece_at, IsWhole}
 use Rattle.tag_reader.specs.HeardSteps.{ReadAll}
 use Rattle.tag_reader.proofs.FileReading.{no_pieces, low_piece, piece_due, piece_command, pieces_more, all_pieces, under_lost}
 use Rattle.tag_reader.specs.declared.how.How.TheVariants.{T4}

@@ -4,7 +4,7 @@ use Rattle.nfc_base.specs.TagLinks.{LinkView}
 use Rattle.tlv_area.specs.declared.container.FileMap.{FileMap}
 use Rattle.tag_reader.specs.Files.{most_asked}
 use Rattle.tag_reader.specs.HeardSteps.{Measured, HasRead}
-use Rattle.tag_reader.specs.FileSteps.{IsMeasured, HasPieces}
+use Rattle.tag_reader.specs.private.FileSteps.{IsMeasured, HasPieces}
 use Rattle.tag_reader.specs.Asked.{ToRead}
 use Rattle.tag_reader.proofs.file.read_message.Given as goal
 

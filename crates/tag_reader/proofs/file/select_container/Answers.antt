@@ -1,6 +1,6 @@
 use Rattle.std.proofs.Common.{arith, rules, [], ◌∷◌, refl}
 use Rattle.nfc_base.specs.TagLinks.{LinkView}
-use Rattle.tag_reader.specs.FileSteps.{EndsBy}
+use Rattle.tag_reader.specs.private.FileSteps.{EndsBy}
 use Rattle.tag_reader.proofs.FileReading.{head_due, begins}
 use Rattle.tag_reader.specs.declared.how.How.TheVariants.{T4}
 use Rattle.tag_reader.specs.Heard.{IsFaultBy}

@@ -4,7 +4,7 @@ use Rattle.tlv_area.specs.Layout.{IsArea}
 use Rattle.tlv_area.specs.Map.{IsPlacedIn}
 use Rattle.tlv_area.specs.Writing.{HasBlocks}
 use Rattle.tag_reader.specs.Survey.{IsPlacedArea}
-use Rattle.tag_reader.specs.SurveySteps.{IsSettledOver}
+use Rattle.tag_reader.specs.private.SurveySteps.{IsSettledOver}
 use Rattle.tag_reader.proofs.surveying.ground_in.Goals as goal
 
 pub returns-in-Held-clause-ground : goal.returns-in-Held-clause-ground

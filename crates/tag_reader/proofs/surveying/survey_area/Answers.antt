@@ -3,7 +3,7 @@ use Rattle.std.proofs.lemmas.List.{length-take-le}
 use Rattle.nfc_base.specs.TagLinks.{LinkView}
 use Rattle.tag_reader.specs.declared.how.How.TheVariants.{T2}
 use Rattle.tag_reader.specs.SurveyHeard.{IsUnsurveyedBy}
-use Rattle.tag_reader.specs.SurveySteps.{IsSurveyMade}
+use Rattle.tag_reader.specs.private.SurveySteps.{IsSurveyMade}
 use Rattle.tag_reader.proofs.Endings.{read_ended}
 use Rattle.tag_reader.proofs.Grounds.{made, area_grounded}
 use Rattle.tag_reader.proofs.Surveys.{four_blocks, t2_blocks, ground_told}

@@ -2,7 +2,7 @@ use Rattle.std.proofs.Common.{rules, ◌≡◌, Err, refl, sym, subst}
 use Rattle.nfc_base.specs.TagLinks.{LinkView}
 use Rattle.tag_reader.specs.declared.how.How.TheVariants.{T5}
 use Rattle.tag_reader.specs.Asked.{ToWrite}
-use Rattle.tag_reader.specs.SurveySteps.{IsSurveyMade}
+use Rattle.tag_reader.specs.private.SurveySteps.{IsSurveyMade}
 use Rattle.tag_reader.proofs.Endings.{read_ended}
 use Rattle.tag_reader.proofs.Grounds.{made, blocks_grounded}
 use Rattle.tag_reader.specs.SurveyHeard.{IsUnsurveyedBy}

@@ -2,7 +2,7 @@ use Rattle.std.proofs.Common.{rules, ◌≡◌, Err, sym, subst}
 use Rattle.nfc_base.specs.TagLinks.{LinkView}
 use Rattle.tag_reader.specs.declared.how.How.TheVariants.{T4}
 use Rattle.tag_reader.specs.Asked.{ToWrite}
-use Rattle.tag_reader.specs.SurveySteps.{IsSurveyMade}
+use Rattle.tag_reader.specs.private.SurveySteps.{IsSurveyMade}
 use Rattle.tag_reader.proofs.FileReading.{is_ended}
 use Rattle.tag_reader.proofs.Grounds.{file_made}
 use Rattle.tag_reader.specs.SurveyHeard.{IsUnsurveyedBy}

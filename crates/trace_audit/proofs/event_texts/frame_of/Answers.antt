@@ -1,5 +1,5 @@
 use Rattle.std.proofs.Common.{◌≡◌, sym, ◌∙◌, subst}
-use Rattle.trace_audit.specs.Finding.{IsDigitsOf}
+use Rattle.trace_audit.specs.private.Finding.{IsDigitsOf}
 use Rattle.trace_audit.proofs.Finding.{first_digit, whole_word, part_word}
 use Rattle.trace_audit.proofs.event_texts.frame_of.Goals as goal
 

@@ -3,7 +3,7 @@ use Rattle.nfc_base.specs.Signal.{Signal}
 use Rattle.nfc_base.specs.declared.event.Fate.{Fate}
 use Rattle.trace_audit.proofs.Finding.{sent_parts}
 use Rattle.trace_audit.proofs.event_texts.sent_of.Goals as goal
-use Rattle.bench_world.proofs.ReadBack.{fate_tells}
+use Rattle.bench_world.proofs.lines.ReadBack.{fate_tells}
 
 pub returns-in_err-fate-clause-finds : goal.returns-in_err-fate-clause-finds
 returns-in_err-fate-clause-finds c = λ x is.

@@ -6,7 +6,7 @@ use Rattle.bench_world.specs.declared.following.Followed.TheVariants.{Whole, Fro
 use Rattle.bench_world.specs.Following.{Follows, FollowsAll, FollowsFront}
 use Rattle.bench_world.specs.Obeying.{Benched}
 use Rattle.trace_audit.specs.ReadEvents.{AreRead}
-use Rattle.trace_audit.specs.Stepping.{ComesBehind}
+use Rattle.trace_audit.specs.private.Stepping.{ComesBehind}
 use Rattle.trace_audit.proofs.Steps.{follows_one, whole_step, front_step, room_behind, room_on, last_is}
 use Rattle.trace_audit.proofs.stepping.follow_line.Goals as goal
 

@@ -14,11 +14,11 @@ use Rattle.nfca_poll.specs.Polled.{AreTidy}
 use Rattle.nfca_poll.specs.RoundEnds.{LeavesActive}
 use Rattle.nfc_base.specs.Headed.{is_t2_frame}
 use Rattle.nfca_poll.specs.Upper.{answer_in, IsUpper}
-use Rattle.nfca_poll.specs.Ours.{fronts_are_ours, fronts_are_polled}
-use Rattle.nfca_poll.specs.PlainFronts.{is_last, ObeysStep, IsPlainUpper}
+use Rattle.nfca_poll.specs.laws.Ours.{fronts_are_ours, fronts_are_polled}
+use Rattle.nfca_poll.specs.laws.PlainFronts.{is_last, ObeysStep, IsPlainUpper}
 use Rattle.unit_tests.specs.contracts.poll_tests.PadUpper.TheImpl.{ghosts}
-use Rattle.nfca_poll.proofs.HeardBits.{pointwise_path}
-use Rattle.nfca_poll.proofs.PlainPlaces.{plain_at}
+use Rattle.nfca_poll.proofs.identifiers.HeardBits.{pointwise_path}
+use Rattle.nfca_poll.proofs.noise.PlainPlaces.{plain_at}
 use Rattle.unit_tests.proofs.poll_tests.pad_field.Goals as goal
 
 laws : IsUpper ghosts.machine ghosts.store ghosts.commands ghosts.is_open ghosts.attributes

@@ -3,7 +3,7 @@ use Rattle.std.proofs.lemmas.Grind.{common_steps}
 use Rattle.std.specs.List.{cons_option}
 use Rattle.air_core.specs.Joint.{same_signal}
 use Rattle.air_core.specs.Listening.{said_at}
-use Rattle.air_core.specs.Joining.{joint_with, joined_with}
+use Rattle.air_core.specs.private.Joining.{joint_with, joined_with}
 use Rattle.air_core.proofs.Joins.{joint_alike}
 use Rattle.air_core.proofs.answers.Answers.join.Goals as goal
 

@@ -6,11 +6,11 @@ use Rattle.nfc_base.specs.declared.event.Heard.TheVariants.{Whole, Collided, Sil
 use Rattle.nfc_base.specs.Bits.{bits_of, of_bits}
 use Rattle.air_core.specs.Conversation.{first_fate, later_fates}
 use Rattle.air_core.specs.Joint.{Joint, joint, Nothing, Single, Clashing}
-use Rattle.air_core.specs.Joining.{joined_with}
-use Rattle.air_core.specs.Settling.{settled}
+use Rattle.air_core.specs.private.Joining.{joined_with}
+use Rattle.air_core.specs.private.Settling.{settled}
 use Rattle.air_core.specs.World.{came_back}
 use Rattle.air_core.specs.Turn.{world}
-use Rattle.air_core.specs.Joining.{AreOf}
+use Rattle.air_core.specs.private.Joining.{AreOf}
 use Rattle.nfc_base.specs.Signal.{Signal}
 use Rattle.air_core.proofs.FirstBits.{first_of}
 use Rattle.air_core.proofs.Transmitting.{transmits_silence, transmits_answer, transmits_clash, transmits_break, transmits_stop}

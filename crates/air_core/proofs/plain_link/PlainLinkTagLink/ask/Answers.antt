@@ -1,4 +1,4 @@
-use Rattle.air_core.specs.PlainMoving.{moves_again}
+use Rattle.air_core.specs.laws.PlainMoving.{moves_again}
 use Rattle.air_core.proofs.ListenerLaws.{laws_of}
 use Rattle.air_core.proofs.PlainAside.{Laws}
 use Rattle.air_core.proofs.PlainAnswers.{none_here, ok_obeys, ok_rises, ok_answer, ok_ready, ok_moves, err_obeys, err_rises, err_fault, err_calm, err_moves}

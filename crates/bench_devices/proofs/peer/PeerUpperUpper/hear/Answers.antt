@@ -5,7 +5,7 @@ use Rattle.nfc_base.specs.Signal.{Signal}
 use Rattle.nfca_poll.specs.Upper.{UpperStep}
 use Rattle.dep_link.specs.Target.{TargetState, target_table}
 use Rattle.bench_devices.specs.Peers.{PeerNear, takes_frame, peer_machine, Handles, Halts}
-use Rattle.bench_devices.specs.PeerUpper.{taken_step, taken_stop}
+use Rattle.bench_devices.specs.laws.PeerUpper.{taken_step, taken_stop}
 use Rattle.bench_devices.proofs.peer.PeerUpperUpper.hear.Goals as goal
 
 pub returns-then-takes-clause-ok : goal.returns-then-takes-clause-ok

@@ -2,7 +2,7 @@ use Rattle.std.proofs.Common.{◌≡◌, false, ◌∙◌, ap}
 use Rattle.snep_core.specs.Server.{messages_of}
 use Rattle.bench_world.specs.Obeying.{Benched}
 use Rattle.bench_world.specs.Stories.{gained_on}
-use Rattle.bench_world.proofs.Gained.{gained_same}
+use Rattle.bench_world.proofs.link_law.Gained.{gained_same}
 use Rattle.bench_world.proofs.bench.Bench.accepted.Goals as goal
 
 pub returns : goal.returns

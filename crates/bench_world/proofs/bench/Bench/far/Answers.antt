@@ -2,8 +2,8 @@ use Rattle.std.proofs.Common.{◌≡◌, ◌<◌, ℕ, length, Option, Some, Non
 use Rattle.std.specs.Prelude.{get_or, option_copied, IfSome}
 use Rattle.bench_world.specs.Legal.{State}
 use Rattle.bench_world.specs.Obeying.{Machines, Benched, FarAt, state_at}
-use Rattle.bench_world.proofs.Benches.{seen}
-use Rattle.bench_world.proofs.Peering.{far_in_state}
+use Rattle.bench_world.proofs.tags.Benches.{seen}
+use Rattle.bench_world.proofs.devices.Peering.{far_in_state}
 use Rattle.bench_world.proofs.bench.Bench.far.Goals as goal
 
 -- what is lent is what stands there, and nothing is where nothing does

@@ -6,9 +6,9 @@ use Rattle.bench_world.specs.Legal.{no_joins}
 use Rattle.bench_world.specs.Obeying.{Machines, state_at}
 use Rattle.bench_world.specs.ReadBack.{AreOnAir}
 use Rattle.bench_world.specs.Showing.{shown_of}
-use Rattle.bench_world.proofs.Legality.{untouched}
-use Rattle.bench_world.proofs.Benches.{seen, both_ways, settled_made}
-use Rattle.bench_world.proofs.Followings.{follows, is_untraced, loses}
+use Rattle.bench_world.proofs.tags.Legality.{untouched}
+use Rattle.bench_world.proofs.tags.Benches.{seen, both_ways, settled_made}
+use Rattle.bench_world.proofs.tags.Followings.{follows, is_untraced, loses}
 use Rattle.bench_world.proofs.bench.Bench.follow.Goals as goal
 
 pub returns-then-is_err : goal.returns-then-is_err

@@ -2,8 +2,8 @@ use Rattle.std.proofs.Common.{◌≡◌, ◌++◌, ◌∷◌, [], List, false, r
 use Rattle.bench_world.specs.declared.entry.Entry.{Entry}
 use Rattle.bench_world.specs.Legal.{joins_for}
 use Rattle.bench_world.specs.Obeying.{Machines, Obeys}
-use Rattle.bench_world.proofs.Legality.{untouched}
-use Rattle.bench_world.proofs.Benches.{cut_most, seen, both_ways, spoils, adds_entry, settled_made}
+use Rattle.bench_world.proofs.tags.Legality.{untouched}
+use Rattle.bench_world.proofs.tags.Benches.{cut_most, seen, both_ways, spoils, adds_entry, settled_made}
 use Rattle.bench_world.proofs.bench.Bench.obey.Goals as goal
 
 pub returns-then-is_err : goal.returns-then-is_err

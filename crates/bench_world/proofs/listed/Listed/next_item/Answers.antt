@@ -2,7 +2,7 @@ use Rattle.std.proofs.Common.{[], sym, ◌++◌, ◌∙◌, ap, refl}
 use Rattle.hex.specs.Hex.{encode_upper}
 use Rattle.bench_world.specs.Report.{seen_text, received_text, tag_text, heard_text, slot_done_text}
 use Rattle.bench_world.specs.Listing.{listed_text}
-use Rattle.bench_world.proofs.Joined.{item_listed, bare_listed}
+use Rattle.bench_world.proofs.lines.Joined.{item_listed, bare_listed}
 use Rattle.bench_world.proofs.listed.Listed.next_item.Goals as goal
 
 pub returns-in_ok-seen-in-Devices : goal.returns-in_ok-seen-in-Devices

@@ -10,13 +10,13 @@ use Rattle.bench_devices.specs.Opening.{OpensAny}
 use Rattle.bench_devices.specs.Phases.{Stands}
 use Rattle.far_air.specs.FarEnds.{rests}
 use Rattle.peer_air.specs.PeerFars.{peer_ends}
-use Rattle.bench_world.specs.LinkedAt.{restarts, machines_at_start, moved_at, OpensAt}
+use Rattle.bench_world.specs.private.LinkedAt.{restarts, machines_at_start, moved_at, OpensAt}
 use Rattle.bench_world.specs.Linking.{own_general, new_client}
 use Rattle.bench_world.specs.Obeying.{Machines}
 use Rattle.bench_world.specs.World.{FarEnd}
-use Rattle.bench_world.proofs.OpensHere.{opens_ok, opens_err, never_odd}
-use Rattle.bench_world.proofs.Outcomes.{on_ok}
-use Rattle.bench_world.proofs.Peering.{any_other}
+use Rattle.bench_world.proofs.open_link.OpensHere.{opens_ok, opens_err, never_odd}
+use Rattle.bench_world.proofs.lines.Outcomes.{on_ok}
+use Rattle.bench_world.proofs.devices.Peering.{any_other}
 use Rattle.bench_world.proofs.machines.Machines.open.Goals as goal
 
 pub not_opened-requires : goal.not_opened-requires

@@ -1,8 +1,8 @@
 use Rattle.std.proofs.Common.{List, option_copied, sym, ◌∙◌, ap}
 use Rattle.snep_core.specs.Server.{Received as Accepted, ServerState, sources_of}
-use Rattle.bench_world.specs.Gains.{accepted_above}
+use Rattle.bench_world.specs.private.Gains.{accepted_above}
 use Rattle.bench_world.specs.Inbox.{chosen, is_in}
-use Rattle.bench_world.proofs.Gained.{shown_on}
+use Rattle.bench_world.proofs.link_law.Gained.{shown_on}
 use Rattle.bench_world.proofs.machines.Machines.sources_on.Goals as goal
 
 pub returns-in-Some-end_of : goal.returns-in-Some-end_of

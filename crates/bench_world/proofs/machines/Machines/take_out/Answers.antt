@@ -11,8 +11,8 @@ use Rattle.bench_world.specs.Obeying.{Machines, taken_out}
 use Rattle.bench_world.specs.Opened.{AreNumbered}
 use Rattle.bench_world.specs.Peers.{next_number, set_under, with_gone}
 use Rattle.bench_world.specs.World.{FarEnd}
-use Rattle.bench_world.proofs.Peering.{any_other}
-use Rattle.bench_world.proofs.PlacesKept.{below_at}
+use Rattle.bench_world.proofs.devices.Peering.{any_other}
+use Rattle.bench_world.proofs.devices.PlacesKept.{below_at}
 use Rattle.bench_world.proofs.machines.Machines.take_out.Goals as goal
 
 pub keep_under-requires : goal.keep_under-requires

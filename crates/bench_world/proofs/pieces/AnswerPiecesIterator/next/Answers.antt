@@ -1,7 +1,7 @@
 use Rattle.std.proofs.Common.{◌≡◌, ◌++◌, [], ℕ, List, length, sym, ◌∙◌, arith}
 use Rattle.std.proofs.lemmas.Grind.{common_steps}
 use Rattle.bench_world.specs.Listing.{listed_text}
-use Rattle.bench_world.proofs.Joined.{empty_is, bytes_piece, some_digits, listed_piece, tail_piece, last_left, less_left}
+use Rattle.bench_world.proofs.lines.Joined.{empty_is, bytes_piece, some_digits, listed_piece, tail_piece, last_left, less_left}
 use Rattle.bench_world.proofs.pieces.AnswerPiecesIterator.next.Goals as goal
 
 pub returns-then-not-is_empty-2-clause-steps : goal.returns-then-not-is_empty-2-clause-steps

@@ -3,7 +3,7 @@ use Rattle.air_core.specs.Listening.{Step}
 use Rattle.dep_link.specs.Frames.{air_frame}
 use Rattle.dep_link.specs.Target.{target_table, replied, reply_frame}
 use Rattle.dep_link.specs.declared.target.TargetStep.TheVariants.{Deliver}
-use Rattle.dep_link.specs.Delivering.{delivers_step}
+use Rattle.dep_link.specs.laws.Delivering.{delivers_step}
 use Rattle.link_tests.proofs.phone.PhoneListener.hear.Goals as goal
 
 pub returns-else-is_err-clause-ok : goal.returns-else-is_err-clause-ok

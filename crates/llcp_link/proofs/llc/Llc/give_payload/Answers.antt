@@ -3,7 +3,7 @@ use Rattle.std.proofs.lemmas.Result.{on_ok_weaker}
 use Rattle.llcp_pdu.specs.Writing.{inner_bytes}
 use Rattle.llcp_link.specs.Answering.{Gives}
 use Rattle.llcp_link.specs.Giving.{gave, others}
-use Rattle.llcp_link.specs.Joining.{HaltsJoining, Joins}
+use Rattle.llcp_link.specs.private.Joining.{HaltsJoining, Joins}
 use Rattle.llcp_link.specs.Offering.{LeavesNext, Tried, most_inner}
 use Rattle.llcp_link.specs.declared.giving.Next.TheVariants.{Given, Nothing}
 use Rattle.llcp_link.proofs.GivesAll.{gives_symm, on_err_with, gives_with, halts_with, halts_behind, halts_first, same_others}

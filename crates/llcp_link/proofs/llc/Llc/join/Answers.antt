@@ -2,7 +2,7 @@ use Rattle.std.proofs.Common.{rules, ◌≡◌, ◌<◌, ◌≤◌, ◌⊎◌, �
 use Rattle.std.proofs.lemmas.Bool.{cases_lt}
 use Rattle.llcp_pdu.specs.Writing.{inner_bytes, part_bytes, parts_bytes}
 use Rattle.llcp_link.specs.Giving.{gave}
-use Rattle.llcp_link.specs.Joining.{Joins}
+use Rattle.llcp_link.specs.private.Joining.{Joins}
 use Rattle.llcp_link.specs.Offering.{LeavesNext, Tried}
 use Rattle.llcp_link.specs.declared.giving.Next.TheVariants.{Given, Nothing, TooLong}
 use Rattle.llcp_link.proofs.JoinsOn.{JoinsSoFar, one_joined, parts_more, joins_all, joins_now, halts_now, full_end, full_long, full_nothing}

@@ -1,7 +1,7 @@
 use Rattle.std.proofs.Common.{rules, ◌≡◌, ◌∷◌, subst}
 use Rattle.llcp_pdu.specs.Ranges.{AreParts}
 use Rattle.llcp_pdu.specs.Views.{IsFirst, parts_in, shown}
-use Rattle.llcp_link.specs.Stepping.{stepped}
+use Rattle.llcp_link.specs.private.Stepping.{stepped}
 use Rattle.llcp_link.proofs.StepsSoFar.{goes_on, same_on}
 use Rattle.llcp_link.proofs.llc.Llc.take_parts.Goals as goal
 

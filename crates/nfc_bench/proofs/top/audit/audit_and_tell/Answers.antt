@@ -2,7 +2,7 @@ use Rattle.std.proofs.Common.{ℕ, List, [], inl, inr, subst, ap, ◌∙◌}
 use Rattle.nfc_io.specs.Moves.{with_end, GainsFront}
 use Rattle.trace_audit.specs.declared.judging.Verdict.{Verdict}
 use Rattle.trace_audit.specs.declared.judging.Verdict.TheVariants.{Legal, Faulty}
-use Rattle.nfc_bench.specs.AuditStops.{HasJudged, AuditStops}
+use Rattle.nfc_bench.specs.private.AuditStops.{HasJudged, AuditStops}
 use Rattle.nfc_bench.specs.declared.top.audit.Unaudited.{Unaudited}
 use Rattle.nfc_bench.specs.declared.top.audit.Unaudited.TheVariants.{Refused}
 use Rattle.nfc_bench.specs.AuditText.{faulty_line}

@@ -1,8 +1,8 @@
 use Rattle.std.proofs.Common.{ℕ, List, [], Option, subst}
 use Rattle.nfc_io.specs.Lines.{lines_of}
 use Rattle.trace_audit.specs.Judging.{Judges}
-use Rattle.nfc_bench.specs.AuditReading.{ReadsInput}
-use Rattle.nfc_bench.specs.AuditStops.{LinesStop}
+use Rattle.nfc_bench.specs.private.AuditReading.{ReadsInput}
+use Rattle.nfc_bench.specs.private.AuditStops.{LinesStop}
 use Rattle.nfc_bench.specs.declared.top.audit_input.Behind.{Behind}
 use Rattle.nfc_bench.specs.declared.top.audit_input.Behind.TheVariants.{Report, NoReport}
 use Rattle.nfc_bench.proofs.Auditing.{concludes, stops}

@@ -1,6 +1,6 @@
 use Rattle.std.proofs.Common.{◌≡◌, ℕ, ◌+◌, ◌++◌, ◌∷◌, [], List, Option, sym, subst, arith, ap, ◌∙◌}
 use Rattle.nfc_io.specs.Reading.{Lined}
-use Rattle.nfc_bench.specs.AuditReading.{GoesTo, HasGathered}
+use Rattle.nfc_bench.specs.private.AuditReading.{GoesTo, HasGathered}
 use Rattle.nfc_bench.specs.declared.top.audit_input.Next.TheVariants.{Line, Mark, Nothing}
 use Rattle.nfc_bench.proofs.AuditBounds.{ahead_bound}
 use Rattle.nfc_bench.proofs.AuditReading.{gathered_more, comes_to_mark, comes_nowhere, none_too_many}

@@ -1,5 +1,5 @@
 use Rattle.std.proofs.Common.{◌≡◌, ◌≤◌, ◌-◌}
-use Rattle.nfc_bench.specs.AuditReading.{HasGathered}
+use Rattle.nfc_bench.specs.private.AuditReading.{HasGathered}
 use Rattle.nfc_bench.proofs.top.audit_input.read_ahead.Given as goal
 
 abbrev pub invariant-lines : goal.invariant-lines

@@ -1,9 +1,9 @@
 use Rattle.std.proofs.Common.{ℕ, List, Option, refl, subst, ◌+◌, arith}
-use Rattle.nfc_bench.specs.AuditReading.{Comes}
+use Rattle.nfc_bench.specs.private.AuditReading.{Comes}
 use Rattle.nfc_bench.specs.declared.top.audit_input.Ahead.{Ahead}
 use Rattle.nfc_bench.specs.declared.top.audit_input.Ahead.TheVariants.{Marked, Unmarked}
 use Rattle.nfc_bench.specs.AuditInput.{most_audited, most_report}
-use Rattle.nfc_bench.specs.AuditReading.{most_ahead}
+use Rattle.nfc_bench.specs.private.AuditReading.{most_ahead}
 use Rattle.nfc_bench.specs.Limits.{chunk_size}
 use Rattle.nfc_bench.proofs.AuditBounds.{reads_both, reads_less}
 use Rattle.nfc_bench.proofs.AuditReading.{input_ends, input_reports}

@@ -5,7 +5,7 @@ use Rattle.nfc_io.specs.Moves.{GainsFront}
 use Rattle.nfc_bench.specs.Gathering.{IsWritten}
 use Rattle.nfc_bench.proofs.Writing.{on_err, piece_cut, piece_written}
 use Rattle.nfc_bench.proofs.AuditTelling.{digits_over, digits_parted}
-use Rattle.bench_world.proofs.Joined.{empty_is}
+use Rattle.bench_world.proofs.lines.Joined.{empty_is}
 use Rattle.nfc_bench.proofs.top.audit_telling.gather_digits.Goals as goal
 
 pub pieces-preserved : goal.pieces-preserved

@@ -2,7 +2,7 @@ use Rattle.std.proofs.Common.{◌≡◌, ℕ, ◌<◌, ◌≤◌, ◌+◌, ◌++
 use Rattle.std.proofs.lemmas.Grind.{common_steps}
 use Rattle.nfc_base.specs.Bits.{bits, bits_of, bit_count}
 use Rattle.nfc_base.proofs.Packing.{length_of_bits}
-use Rattle.nfca_poll.proofs.KnownPacks.{next_bit}
+use Rattle.nfca_poll.proofs.identifiers.KnownPacks.{next_bit}
 use Rattle.nfca_poll.proofs.known.KnownBits.push_frame.Goals as goal
 
 pub loop-at-preserved : goal.loop-at-preserved

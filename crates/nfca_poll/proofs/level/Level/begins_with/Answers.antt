@@ -5,7 +5,7 @@ use Rattle.air_core.specs.Joint.{common}
 use Rattle.nfc_base.proofs.Packing.{length_of_bits, take_whole}
 use Rattle.nfca_poll.specs.Calls.{known_bits}
 use Rattle.nfca_poll.specs.Front.{begins}
-use Rattle.nfca_poll.proofs.KnownBits.{asks_is}
+use Rattle.nfca_poll.proofs.identifiers.KnownBits.{asks_is}
 use Rattle.nfca_poll.proofs.level.Level.begins_with.Goals as goal
 
 pub returns : goal.returns

@@ -2,7 +2,7 @@ use Rattle.std.proofs.Common.{◌≡◌, ℕ, ◌-◌, ◌*◌, List, [], ◌∷
 use Rattle.std.proofs.lemmas.Grind.{common_steps}
 use Rattle.nfca_poll.specs.Ident.{cascade_tag}
 use Rattle.nfca_poll.specs.Levels.{level}
-use Rattle.nfca_poll.proofs.LevelParts.{LevelPart, level_part, first_three}
+use Rattle.nfca_poll.proofs.identifiers.LevelParts.{LevelPart, level_part, first_three}
 use Rattle.nfca_poll.proofs.level.Level.of.Goals as goal
 
 pub returns-then-rest-eq4 : goal.returns-then-rest-eq4

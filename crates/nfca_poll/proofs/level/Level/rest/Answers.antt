@@ -3,7 +3,7 @@ use Rattle.nfc_base.specs.declared.frame.Tech.TheVariants.{A}
 use Rattle.nfc_base.specs.Bits.{bits_of, of_bits}
 use Rattle.nfc_base.proofs.Packing.{length_of_bits}
 use Rattle.nfca_poll.specs.Calls.{known_bits}
-use Rattle.nfca_poll.proofs.KnownBits.{rest_is}
+use Rattle.nfca_poll.proofs.identifiers.KnownBits.{rest_is}
 use Rattle.nfca_poll.proofs.level.Level.rest.Goals as goal
 
 pub returns : goal.returns

@@ -3,10 +3,10 @@ use Rattle.std.specs.List.{AllByRecursion}
 use Rattle.snep_core.specs.Calling.{ClientState, Talks}
 use Rattle.snep_core.specs.RepliesLeft.{IsBelowCountEnd}
 use Rattle.snep_core.specs.Talk.{Ends, Step, all_closed, all_opening, client_saps, leave_from, some_open}
-use Rattle.snep_core.proofs.AllClosed.{close_fails, close_rests, close_so, close_way, saps_distinct}
-use Rattle.snep_core.proofs.Leaving.{closes_none}
-use Rattle.snep_core.proofs.CloseEnds.{close_ends, close_fails as close_falls}
-use Rattle.snep_core.proofs.Talking.{talks_none}
+use Rattle.snep_core.proofs.jobs.AllClosed.{close_fails, close_rests, close_so, close_way, saps_distinct}
+use Rattle.snep_core.proofs.jobs.Leaving.{closes_none}
+use Rattle.snep_core.proofs.accord.CloseEnds.{close_ends, close_fails as close_falls}
+use Rattle.snep_core.proofs.jobs.Talking.{talks_none}
 use Rattle.snep_core.proofs.client.Client.close.Goals as goal
 
 pub leave_all-requires : goal.leave_all-requires

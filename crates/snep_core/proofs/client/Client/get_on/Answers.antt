@@ -4,9 +4,9 @@ use Rattle.snep_core.specs.Accord.{GetFails}
 use Rattle.snep_core.specs.Calling.{ClientState, FailsBy, Talks}
 use Rattle.snep_core.specs.Jobs.{Begins, Ending, Over}
 use Rattle.snep_core.specs.Talk.{Ends, Gets, begins_from, begun, connected, get_bytes, one_on, sap_of_slot}
-use Rattle.snep_core.proofs.GetEnds.{get_fails, get_got}
-use Rattle.snep_core.proofs.RequestEnds.{slot_range}
-use Rattle.snep_core.proofs.Talking.{talks_none}
+use Rattle.snep_core.proofs.accord.GetEnds.{get_fails, get_got}
+use Rattle.snep_core.proofs.accord.RequestEnds.{slot_range}
+use Rattle.snep_core.proofs.jobs.Talking.{talks_none}
 use Rattle.snep_core.proofs.client.Client.get_on.Goals as goal
 
 pub returns-in-Err-clause-err : goal.returns-in-Err-clause-err

@@ -5,8 +5,8 @@ use Rattle.snep_core.specs.Calling.{FailsBy, Talks}
 use Rattle.snep_core.specs.Jobs.{Looks, Over, Sap}
 use Rattle.snep_core.specs.Talk.{Ends, Finds, alone, begins}
 use Rattle.snep_core.specs.Accord.{AsideFails}
-use Rattle.snep_core.proofs.LookupEnds.{lookup_fails, lookup_found}
-use Rattle.snep_core.proofs.Talking.{talks_none}
+use Rattle.snep_core.proofs.accord.LookupEnds.{lookup_fails, lookup_found}
+use Rattle.snep_core.proofs.jobs.Talking.{talks_none}
 use Rattle.snep_core.proofs.client.Client.lookup.Goals as goal
 
 pub returns-in-Err-clause-err : goal.returns-in-Err-clause-err

@@ -1,4 +1,4 @@
-use Rattle.snep_core.proofs.Ends.{begun_accords}
+use Rattle.snep_core.proofs.accord.Ends.{begun_accords}
 use Rattle.snep_core.proofs.client.Client.new.Goals as goal
 
 pub returns-clause-accords : goal.returns-clause-accords

@@ -1,7 +1,7 @@
 use Rattle.std.proofs.Common.{None, refl, inl, inr}
 use Rattle.snep_core.specs.Jobs.{Begins}
 use Rattle.snep_core.specs.Talk.{Puts, alone, begins, client_sap, connected, put_bytes}
-use Rattle.snep_core.proofs.Talking.{talks_none}
+use Rattle.snep_core.proofs.jobs.Talking.{talks_none}
 use Rattle.snep_core.proofs.client.Client.put.Goals as goal
 
 pub returns-in_default-clause-err : goal.returns-in_default-clause-err

@@ -5,7 +5,7 @@ use Rattle.snep_core.specs.Calling.{ClientState, RunFailsAt, slots_left}
 use Rattle.snep_core.specs.RepliesLeft.{IsBelowCountEnd, task_saps}
 use Rattle.snep_core.specs.Slots.{AllFit, Slot, all_puts, noted, slot_count, some_staged}
 use Rattle.snep_core.specs.Talk.{all_opening}
-use Rattle.snep_core.proofs.RunEnds.{run_done, run_ended, run_failed, run_idle, run_nothing, run_rests, run_still, run_stopped, run_way}
+use Rattle.snep_core.proofs.accord.RunEnds.{run_done, run_ended, run_failed, run_idle, run_nothing, run_rests, run_still, run_stopped, run_way}
 use Rattle.snep_core.proofs.client.Client.run.Goals as goal
 
 pub returns-then-not-any_staged-clause-ok : goal.returns-then-not-any_staged-clause-ok

@@ -3,7 +3,7 @@ use Rattle.snep_core.specs.declared.job.Awaiting.{Awaiting}
 use Rattle.snep_core.specs.declared.job.Heard.{Heard}
 use Rattle.snep_core.specs.Listening.{Hears}
 use Rattle.snep_core.specs.Talk.{OnSap, gave_between, own_of, stands_of}
-use Rattle.snep_core.proofs.AllJobs.{Hearing, hearing_fault, hearing_on}
+use Rattle.snep_core.proofs.accord.AllJobs.{Hearing, hearing_fault, hearing_on}
 use Rattle.snep_core.proofs.client.ClientEnd.all_hear.Goals as goal
 
 pub returns-in-Ok-None-clause-ok : goal.returns-in-Ok-None-clause-ok

@@ -1,5 +1,5 @@
 use Rattle.std.proofs.Common.{◌≡◌}
-use Rattle.snep_core.proofs.AllJobs.{Hearing}
+use Rattle.snep_core.proofs.accord.AllJobs.{Hearing}
 use Rattle.snep_core.proofs.client.ClientEnd.all_hear.Given as goal
 
 abbrev pub invariant-all : goal.invariant-all

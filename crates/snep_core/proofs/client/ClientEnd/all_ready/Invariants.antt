@@ -1,6 +1,6 @@
 use Rattle.std.proofs.Common.{◌≡◌}
 use Rattle.snep_core.specs.Talk.{all_readied}
-use Rattle.snep_core.proofs.AllJobs.{behind}
+use Rattle.snep_core.proofs.accord.AllJobs.{behind}
 use Rattle.snep_core.proofs.client.ClientEnd.all_ready.Given as goal
 
 abbrev pub invariant-jobs : goal.invariant-jobs

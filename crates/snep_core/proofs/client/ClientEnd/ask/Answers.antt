@@ -1,7 +1,7 @@
 use Rattle.std.proofs.Common.{refl, inl, inr}
 use Rattle.snep_core.specs.Jobs.{Begins}
 use Rattle.snep_core.specs.Talk.{begun, connected, one_on}
-use Rattle.snep_core.proofs.Talking.{talks_none}
+use Rattle.snep_core.proofs.jobs.Talking.{talks_none}
 use Rattle.snep_core.proofs.client.ClientEnd.ask.Goals as goal
 
 pub returns-in-Err-clause-err : goal.returns-in-Err-clause-err

@@ -2,8 +2,8 @@ use Rattle.std.proofs.Common.{rules, ◌≡◌, ◌<◌, ◌+◌, suc, ◌∷◌
 use Rattle.std.proofs.Math.Seq.{drop-cons}
 use Rattle.snep_core.specs.Slots.{AllFit, puts_from}
 use Rattle.snep_core.specs.Talk.{all_opening, own_of}
-use Rattle.snep_core.proofs.AllJobs.{behind}
-use Rattle.snep_core.proofs.SlotOpens.{AreCounted, counted_next, opened_elsewhere, opened_next, opened_slot}
+use Rattle.snep_core.proofs.accord.AllJobs.{behind}
+use Rattle.snep_core.proofs.jobs.SlotOpens.{AreCounted, counted_next, opened_elsewhere, opened_next, opened_slot}
 use Rattle.snep_core.proofs.client.ClientEnd.begin_all.Goals as goal
 
 pub begin_slot-requires-clause-fit : goal.begin_slot-requires-clause-fit

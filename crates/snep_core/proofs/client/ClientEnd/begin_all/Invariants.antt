@@ -1,8 +1,8 @@
 use Rattle.std.proofs.Common.{◌≡◌, ◌≤◌, ℕ, ◌+◌, drop}
 use Rattle.snep_core.specs.Slots.{AllFit, all_puts, puts_from}
 use Rattle.snep_core.specs.Talk.{all_opening, client_sap, own_of}
-use Rattle.snep_core.proofs.AllJobs.{behind}
-use Rattle.snep_core.proofs.SlotOpens.{AreCounted}
+use Rattle.snep_core.proofs.accord.AllJobs.{behind}
+use Rattle.snep_core.proofs.jobs.SlotOpens.{AreCounted}
 use Rattle.snep_core.proofs.client.ClientEnd.begin_all.Given as goal
 
 abbrev pub invariant-slots : goal.invariant-slots

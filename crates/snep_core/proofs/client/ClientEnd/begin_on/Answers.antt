@@ -1,7 +1,7 @@
 use Rattle.std.proofs.Common.{rules, ◌≡◌, ◌<◌, ap, ◌∙◌, length, Some}
 use Rattle.llcp_link.specs.Asking.{standing_of}
 use Rattle.snep_core.specs.Talk.{begins_on, miu_of, own_of}
-use Rattle.snep_core.proofs.Submits.{begin_not, begin_part, begin_whole}
+use Rattle.snep_core.proofs.jobs.Submits.{begin_not, begin_part, begin_whole}
 use Rattle.snep_core.proofs.client.ClientEnd.begin_on.Goals as goal
 
 pub returns-then-not-taken-clause-ok : goal.returns-then-not-taken-clause-ok

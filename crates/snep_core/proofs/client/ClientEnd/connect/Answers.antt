@@ -3,7 +3,7 @@ use Rattle.llcp_link.specs.Asking.{connecting_refusal}
 use Rattle.llcp_link.specs.declared.fault.LlcFault.{LlcFault}
 use Rattle.llcp_link.specs.declared.fault.LlcFault.TheVariants.{Memory}
 use Rattle.snep_core.specs.Talk.{connected}
-use Rattle.snep_core.proofs.Connecting.{connected_busy, connected_free}
+use Rattle.snep_core.proofs.connections.Connecting.{connected_busy, connected_free}
 use Rattle.snep_core.proofs.client.ClientEnd.connect.Goals as goal
 
 pub returns-in-Ok-clause-ok : goal.returns-in-Ok-clause-ok

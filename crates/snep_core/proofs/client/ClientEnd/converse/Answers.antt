@@ -6,9 +6,9 @@ use Rattle.snep_core.specs.Calling.{FailsBy, Talks}
 use Rattle.snep_core.specs.Jobs.{Over}
 use Rattle.snep_core.specs.RepliesLeft.{IsUnderWay}
 use Rattle.snep_core.specs.Talk.{Ends, OnSap, begun, one_on, own_of}
-use Rattle.snep_core.specs.Waning.{IsOf, aim_of}
-use Rattle.snep_core.proofs.Following.{one_under_way, told_only}
-use Rattle.snep_core.proofs.Talking.{fails_by, talks_rests}
+use Rattle.snep_core.specs.private.Waning.{IsOf, aim_of}
+use Rattle.snep_core.proofs.sessions.Following.{one_under_way, told_only}
+use Rattle.snep_core.proofs.jobs.Talking.{fails_by, talks_rests}
 use Rattle.snep_core.proofs.client.ClientEnd.converse.Goals as goal
 
 pub converse_all-told-requires-clause-under_way : goal.converse_all-told-requires-clause-under_way

@@ -6,10 +6,10 @@ use Rattle.snep_core.specs.Calling.{IsCut, Turned}
 use Rattle.snep_core.specs.RepliesLeft.{IsUnderWay, replies_left}
 use Rattle.snep_core.specs.Slots.{noted}
 use Rattle.snep_core.specs.Talk.{Ends, Goes, OnSap, Working, begun, client_sap, ready, saps}
-use Rattle.snep_core.proofs.CallsEnd.{replies_fall}
-use Rattle.snep_core.proofs.Following.{ended_follow, replied_follow, replied_saps}
-use Rattle.snep_core.proofs.SlotPuts.{follow_stays, noted_again}
-use Rattle.snep_core.proofs.Talking.{TalksTo, rests_at, talks_begin, talks_break_at, talks_give_up_at, talks_on}
+use Rattle.snep_core.proofs.jobs.CallsEnd.{replies_fall}
+use Rattle.snep_core.proofs.sessions.Following.{ended_follow, replied_follow, replied_saps}
+use Rattle.snep_core.proofs.jobs.SlotPuts.{follow_stays, noted_again}
+use Rattle.snep_core.proofs.jobs.Talking.{TalksTo, rests_at, talks_begin, talks_break_at, talks_give_up_at, talks_on}
 use Rattle.snep_core.proofs.client.ClientEnd.converse_all.Goals as goal
 
 pub turns-init : goal.turns-init

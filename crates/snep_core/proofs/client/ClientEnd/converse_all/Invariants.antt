@@ -2,7 +2,7 @@ use Rattle.std.proofs.Common.{◌≡◌, false}
 use Rattle.snep_core.specs.Slots.{noted}
 use Rattle.snep_core.specs.Talk.{Goes, begun, saps}
 use Rattle.snep_core.specs.RepliesLeft.{IsUnderWay, replies_left}
-use Rattle.snep_core.proofs.Talking.{TalksTo}
+use Rattle.snep_core.proofs.jobs.Talking.{TalksTo}
 use Rattle.snep_core.proofs.client.ClientEnd.converse_all.Given as goal
 
 abbrev pub invariant-turns : goal.invariant-turns

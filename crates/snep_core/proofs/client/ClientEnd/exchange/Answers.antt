@@ -3,7 +3,7 @@ use Rattle.llcp_link.specs.Answering.{Gives}
 use Rattle.llcp_link.specs.Taking.{taken_from}
 use Rattle.snep_core.specs.Listening.{all_awaiting}
 use Rattle.snep_core.specs.Talk.{silent}
-use Rattle.snep_core.proofs.Cutting.{cut_failed, cut_unread, exchanged}
+use Rattle.snep_core.proofs.jobs.Cutting.{cut_failed, cut_unread, exchanged}
 use Rattle.snep_core.proofs.client.ClientEnd.exchange.Goals as goal
 
 pub returns-in-Err-swap-clause-err : goal.returns-in-Err-swap-clause-err

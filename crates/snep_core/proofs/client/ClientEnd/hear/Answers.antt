@@ -1,7 +1,7 @@
 use Rattle.std.proofs.Common.{sym, subst, ◌∙◌, Option}
 use Rattle.snep_core.specs.declared.job.Heard.{Heard}
 use Rattle.snep_core.specs.Listening.{HearsUnits}
-use Rattle.snep_core.proofs.Owned.{lost_so}
+use Rattle.snep_core.proofs.connections.Owned.{lost_so}
 use Rattle.snep_core.proofs.client.ClientEnd.hear.Goals as goal
 
 pub returns-then-is_lost-clause-ok : goal.returns-then-is_lost-clause-ok

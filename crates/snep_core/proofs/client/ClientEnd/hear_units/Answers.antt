@@ -2,7 +2,7 @@ use Rattle.std.proofs.Common.{rules, ◌≡◌, true, false, Some, None, sym, ap
 use Rattle.llcp_link.specs.Asking.{unit_of, unit_taken_by}
 use Rattle.snep_core.specs.Jobs.{told}
 use Rattle.snep_core.specs.Talk.{own_of}
-use Rattle.snep_core.proofs.Owned.{hears_early, hears_fault, hears_on, hears_one}
+use Rattle.snep_core.proofs.connections.Owned.{hears_early, hears_fault, hears_on, hears_one}
 use Rattle.snep_core.proofs.client.ClientEnd.hear_units.Goals as goal
 
 pub units-preserved : goal.units-preserved

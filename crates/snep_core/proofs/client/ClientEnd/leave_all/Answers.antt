@@ -3,8 +3,8 @@ use Rattle.std.proofs.Math.Seq.{drop-cons}
 use Rattle.std.specs.List.{AllByRecursion, IsDistinct}
 use Rattle.snep_core.specs.RepliesLeft.{IsBelowCountEnd}
 use Rattle.snep_core.specs.Talk.{OnSap, all_opening, leave_from}
-use Rattle.snep_core.proofs.AllJobs.{behind}
-use Rattle.snep_core.proofs.Leaving.{AreSame, counted_then, distinct_next, leaves_next, same_first, same_next}
+use Rattle.snep_core.proofs.accord.AllJobs.{behind}
+use Rattle.snep_core.proofs.jobs.Leaving.{AreSame, counted_then, distinct_next, leaves_next, same_first, same_next}
 use Rattle.snep_core.proofs.client.ClientEnd.leave_all.Goals as goal
 
 pub saps-init : goal.saps-init

@@ -2,8 +2,8 @@ use Rattle.std.proofs.Common.{◌≡◌, eqb, drop}
 use Rattle.std.specs.List.{AllByRecursion, IsDistinct}
 use Rattle.snep_core.specs.RepliesLeft.{IsBelowCountEnd}
 use Rattle.snep_core.specs.Talk.{all_opening, leave_from}
-use Rattle.snep_core.proofs.AllJobs.{behind}
-use Rattle.snep_core.proofs.Leaving.{AreSame}
+use Rattle.snep_core.proofs.accord.AllJobs.{behind}
+use Rattle.snep_core.proofs.jobs.Leaving.{AreSame}
 use Rattle.snep_core.proofs.client.ClientEnd.leave_all.Given as goal
 
 abbrev pub invariant-saps : goal.invariant-saps

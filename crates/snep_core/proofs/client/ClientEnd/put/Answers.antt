@@ -3,9 +3,9 @@ use Rattle.snep_core.specs.Accord.{PutFails}
 use Rattle.snep_core.specs.Calling.{FailsBy, Talks}
 use Rattle.snep_core.specs.Jobs.{Begins, Done, Ending, Over, Refused}
 use Rattle.snep_core.specs.Talk.{Ends, Puts, alone, begins, begun, client_sap, connected, put_bytes}
-use Rattle.snep_core.proofs.PutEnds.{put_fails, put_taken}
-use Rattle.snep_core.proofs.RequestEnds.{slot_range}
-use Rattle.snep_core.proofs.Talking.{talks_none}
+use Rattle.snep_core.proofs.accord.PutEnds.{put_fails, put_taken}
+use Rattle.snep_core.proofs.accord.RequestEnds.{slot_range}
+use Rattle.snep_core.proofs.jobs.Talking.{talks_none}
 use Rattle.snep_core.proofs.client.ClientEnd.put.Goals as goal
 
 pub returns-in-Err-clause-err : goal.returns-in-Err-clause-err

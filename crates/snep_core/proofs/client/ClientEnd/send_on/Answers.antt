@@ -1,7 +1,7 @@
 use Rattle.std.proofs.Common.{◌≡◌, ◌<◌, ap, ◌∙◌, length, rules, Some}
 use Rattle.llcp_link.specs.Asking.{standing_of}
 use Rattle.snep_core.specs.Talk.{miu_of, own_of, sends_on}
-use Rattle.snep_core.proofs.Submits.{sends_end, sent_none, sent_one}
+use Rattle.snep_core.proofs.jobs.Submits.{sends_end, sent_none, sent_one}
 use Rattle.snep_core.proofs.client.ClientEnd.send_on.Goals as goal
 
 pub returns-then-not-taken-clause-ok : goal.returns-then-not-taken-clause-ok

@@ -1,7 +1,7 @@
 use Rattle.std.proofs.Common.{rules, ◌≡◌, nat_lt, false}
 use Rattle.snep_core.specs.Listening.{forgets}
 use Rattle.snep_core.specs.Talk.{all_over, as_they_came, idle_after, most_idle, saps}
-use Rattle.snep_core.proofs.Talking.{settle_gives_up}
+use Rattle.snep_core.proofs.jobs.Talking.{settle_gives_up}
 use Rattle.snep_core.proofs.client.ClientEnd.settle.Goals as goal
 
 pub returns-clause-step : goal.returns-clause-step

@@ -1,7 +1,7 @@
 use Rattle.std.proofs.Common.{Option, ap, sym, subst, ◌∙◌}
 use Rattle.snep_core.specs.declared.job.HeardAll.{HeardAll}
 use Rattle.snep_core.specs.Listening.{HearsAll, forgets}
-use Rattle.snep_core.proofs.Talking.{apart_awaited, heard_saps, turned_none, turned_some}
+use Rattle.snep_core.proofs.jobs.Talking.{apart_awaited, heard_saps, turned_none, turned_some}
 use Rattle.snep_core.proofs.client.ClientEnd.turn.Goals as goal
 
 pub all_hear-requires : goal.all_hear-requires

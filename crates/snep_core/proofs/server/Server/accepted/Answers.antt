@@ -1,6 +1,6 @@
 use Rattle.std.proofs.Common.{rules, ◌≡◌, List, ℕ, sym, ◌∙◌, ap}
 use Rattle.snep_core.specs.Server.{ServerState, messages_of, from_sources}
-use Rattle.snep_core.proofs.Sessions.{told_messages}
+use Rattle.snep_core.proofs.sessions.Sessions.{told_messages}
 use Rattle.snep_core.proofs.server.Server.accepted.Goals as goal
 
 pub returns : goal.returns

@@ -1,6 +1,6 @@
 use Rattle.std.proofs.Common.{rules, ◌≡◌, List, ℕ, sym, ◌∙◌, ap}
 use Rattle.snep_core.specs.Server.{ServerState, sources_of, from_sources}
-use Rattle.snep_core.proofs.Sessions.{told_sources}
+use Rattle.snep_core.proofs.sessions.Sessions.{told_sources}
 use Rattle.snep_core.proofs.server.Server.sources.Goals as goal
 
 pub returns : goal.returns

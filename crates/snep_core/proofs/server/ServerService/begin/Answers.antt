@@ -1,8 +1,8 @@
 use Rattle.std.proofs.Common.{rules, ◌≡◌, ◌<◌, ◌≤◌, ℕ, List, length, refl, sym, ◌∙◌, ap}
 use Rattle.snep_core.specs.Session.{Session, fresh_session}
 use Rattle.snep_core.specs.Server.{ServerState, from_sources, padded, with_session}
-use Rattle.snep_core.proofs.Sessions.{padded_still}
-use Rattle.snep_core.proofs.Serving.{session_put}
+use Rattle.snep_core.proofs.sessions.Sessions.{padded_still}
+use Rattle.snep_core.proofs.sessions.Serving.{session_put}
 use Rattle.snep_core.proofs.server.ServerService.begin.Goals as goal
 
 pub returns-then-place-len : goal.returns-then-place-len

@@ -3,7 +3,7 @@ use Rattle.std.proofs.lemmas.Result.{on_ok_weaker}
 use Rattle.llcp_link.specs.Serving.{asked}
 use Rattle.snep_core.specs.Session.{Session, after_sent}
 use Rattle.snep_core.specs.Server.{ServerState, from_sources, padded, serving}
-use Rattle.snep_core.proofs.Serving.{asked_there}
+use Rattle.snep_core.proofs.sessions.Serving.{asked_there}
 use Rattle.snep_core.proofs.server.ServerService.next.Goals as goal
 
 pub returns-then-place-len-clause-sent : goal.returns-then-place-len-clause-sent

@@ -2,8 +2,8 @@ use Rattle.std.proofs.Common.{rules, ◌≡◌, ◌<◌, ℕ, List, [], ◌∷�
 use Rattle.std.proofs.lemmas.List.{append-nil}
 use Rattle.snep_core.specs.Session.{Session, Offer, did}
 use Rattle.snep_core.specs.Server.{ServerState, received, from_sources, padded, session_of, brought_by}
-use Rattle.snep_core.proofs.Sessions.{one_more}
-use Rattle.snep_core.proofs.Serving.{heard}
+use Rattle.snep_core.proofs.sessions.Sessions.{one_more}
+use Rattle.snep_core.proofs.sessions.Serving.{heard}
 use Rattle.snep_core.proofs.server.ServerService.unit.Goals as goal
 
 pub returns-in_ok-keep-clause-ok : goal.returns-in_ok-keep-clause-ok

@@ -1,7 +1,7 @@
 use Rattle.std.proofs.Common.{rules, ◌≡◌, ◌==◌, length, true, ◌∙◌, ap}
 use Rattle.snep_core.specs.Session.{Session}
-use Rattle.snep_core.proofs.Lengths.{none_here}
-use Rattle.snep_core.proofs.Popping.{popped_going}
+use Rattle.snep_core.proofs.sessions.Lengths.{none_here}
+use Rattle.snep_core.proofs.connections.Popping.{popped_going}
 use Rattle.snep_core.proofs.session.Session.next.Goals as goal
 
 pub send-requires : goal.send-requires

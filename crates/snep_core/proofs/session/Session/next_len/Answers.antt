@@ -1,6 +1,6 @@
 use Rattle.std.proofs.Common.{rules, ◌≡◌, ◌==◌, min, length, true, Some, None, option_map, sym, ◌∙◌, ap}
 use Rattle.snep_core.specs.Session.{Session, due_len}
-use Rattle.snep_core.proofs.Lengths.{none_going}
+use Rattle.snep_core.proofs.sessions.Lengths.{none_going}
 use Rattle.snep_core.proofs.session.Session.next_len.Goals as goal
 
 pub returns-in-Some : goal.returns-in-Some

@@ -1,7 +1,7 @@
 use Rattle.std.proofs.Common.{rules, ◌<◌, List, length, ◌∙◌, ap}
 use Rattle.snep_core.specs.declared.session.Due.{Due}
 use Rattle.snep_core.specs.Session.{Session, popped}
-use Rattle.snep_core.proofs.Popping.{popped_more}
+use Rattle.snep_core.proofs.connections.Popping.{popped_more}
 use Rattle.snep_core.proofs.session.Session.pop.Goals as goal
 
 pub loop-self-preserved-in-Forgets : goal.loop-self-preserved-in-Forgets

@@ -1,7 +1,7 @@
 use Rattle.std.proofs.Common.{set, sym, subst, ◌∙◌}
 use Rattle.std.proofs.lemmas.List.{length-set}
 use Rattle.snep_core.specs.Slots.{AllFit}
-use Rattle.snep_core.proofs.PutAlone.{ended_fits}
+use Rattle.snep_core.proofs.jobs.PutAlone.{ended_fits}
 use Rattle.snep_core.proofs.slot.Slots.end_put.Goals as goal
 
 pub invariant_of-self : goal.invariant_of-self

@@ -1,7 +1,7 @@
 use Rattle.std.proofs.Common.{length, ap, sym, subst, ◌∙◌}
 use Rattle.std.proofs.lemmas.List.{length-map}
 use Rattle.snep_core.specs.Slots.{AllFit, dropped_one}
-use Rattle.snep_core.proofs.SlotPuts.{dropped_fits}
+use Rattle.snep_core.proofs.jobs.SlotPuts.{dropped_fits}
 use Rattle.snep_core.proofs.slot.Slots.leave.Goals as goal
 
 pub invariant_of-self : goal.invariant_of-self

@@ -1,7 +1,7 @@
 use Rattle.std.proofs.Common.{length, ap, sym, subst, ◌∙◌}
 use Rattle.snep_core.specs.Slots.{AllFit}
 use Rattle.snep_core.specs.Talk.{client_sap}
-use Rattle.snep_core.proofs.SlotPuts.{noted_fits, noted_length}
+use Rattle.snep_core.proofs.jobs.SlotPuts.{noted_fits, noted_length}
 use Rattle.snep_core.proofs.slot.Slots.note.Goals as goal
 
 pub invariant_of-self : goal.invariant_of-self

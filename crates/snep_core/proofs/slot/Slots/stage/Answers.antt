@@ -1,7 +1,7 @@
 use Rattle.std.proofs.Common.{◌∙◌}
 use Rattle.std.proofs.lemmas.List.{length-set}
 use Rattle.snep_core.specs.Slots.{Staged}
-use Rattle.snep_core.proofs.SlotPuts.{fits_set}
+use Rattle.snep_core.proofs.jobs.SlotPuts.{fits_set}
 use Rattle.snep_core.proofs.slot.Slots.stage.Goals as goal
 
 pub invariant_of-self : goal.invariant_of-self

@@ -1,0 +1,21 @@
+-- Searches for devices, and selecting one of them. Read the files in this order.
+pub mod SelectingCards
+pub mod SelectingKept
+pub mod CrowdSteps
+pub mod SelectingAir
+pub mod CrowdFound
+pub mod Following
+pub mod Unmoved
+pub mod Inventoried
+pub mod Searching
+pub mod FoundAll
+pub mod SelectingPlaces
+pub mod SelectingV
+pub mod Sensed
+pub mod FromReset
+pub mod Polls
+pub mod SensingAll
+pub mod SeekingOne
+pub mod SelectingLinks
+pub mod SelectingA
+pub mod Selections

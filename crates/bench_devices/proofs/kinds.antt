@@ -1,0 +1,21 @@
+-- What the devices of the bench are: Type 2, 3, 4 and 5 tags and peers as listeners. Read the files in this order.
+pub mod EveryFrame
+pub mod TagOrPeer
+pub mod AnyFrame
+pub mod Awake
+pub mod StoresFollow
+pub mod ImagesJoin
+pub mod OpenPeer
+pub mod PeerInStep
+pub mod PeerHere
+pub mod LinkedPeer
+pub mod Ours
+pub mod Tidy
+pub mod PeerCalls
+pub mod PeerLinks
+pub mod PeerMade
+pub mod TagFive
+pub mod TagFourSteps
+pub mod TagFour
+pub mod TagThree
+pub mod TagTwo

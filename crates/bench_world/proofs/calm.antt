@@ -1,0 +1,19 @@
+-- Where there is little noise, or none: each command comes to what it should. Read the files in this order.
+pub mod Complete
+pub mod CompleteTags
+pub mod CompleteThrees
+pub mod Quiet
+pub mod WriteBehind
+pub mod BrokenRead
+pub mod CallCalm
+pub mod CompleteLinkings
+pub mod CompleteForging
+pub mod CompleteLinks
+pub mod CompleteRaws
+pub mod QuietLinks
+pub mod ThreesComplete
+pub mod WholeNotes
+pub mod Written
+pub mod QuietHearing
+pub mod QuietWritten
+pub mod ReadBehind

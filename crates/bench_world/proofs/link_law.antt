@@ -1,0 +1,25 @@
+-- The law of links: stories, the ranges that a bench keeps, and what peers accept. Read the files in this order.
+pub mod Arrived
+pub mod BroughtNothing
+pub mod InRanges
+pub mod PutsTold
+pub mod ServerRuns
+pub mod StoriesStand
+pub mod Tales
+pub mod PayloadsOn
+pub mod PayloadsWithin
+pub mod PayloadsKept
+pub mod StoriesHere
+pub mod StoriesStep
+pub mod SameStories
+pub mod StoriesWithin
+pub mod RawStories
+pub mod StoriesOnLink
+pub mod Talked
+pub mod LinkLaw
+pub mod Covered
+pub mod CutArrivals
+pub mod CutLinks
+pub mod Gained
+pub mod LinksAccepted
+pub mod Ranges

@@ -1,0 +1,23 @@
+-- Commands on the open link: opening it, asking over it, closing it. Read the files in this order.
+pub mod CallNotes
+pub mod Restarted
+pub mod TalkFar
+pub mod LinkKept
+pub mod Unlinking
+pub mod OnLink
+pub mod OnCall
+pub mod CallEnds
+pub mod Chosen
+pub mod LinkOver
+pub mod ReleaseCalm
+pub mod OnClosing
+pub mod CloseOver
+pub mod LinkObeyed
+pub mod LinkHere
+pub mod OpensHere
+pub mod Saying
+pub mod SlotsTold
+pub mod Talks
+pub mod Talking
+pub mod TalkOver
+pub mod WalkNotes

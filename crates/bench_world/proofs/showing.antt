@@ -1,0 +1,19 @@
+-- The numbers of PDUs that events show are as good as the true ones. Read the files in this order.
+pub mod ShowingOwn
+pub mod ShowingFar
+pub mod ShowingSplits
+pub mod ShowingTurns
+pub mod ShowingStep
+pub mod ShowingLink
+pub mod ShowingAlike
+pub mod ShowingTags
+pub mod ShowingAlone
+pub mod ShowingAtr
+pub mod ShowingPayless
+pub mod ShowingSelected
+pub mod ShowingWalk
+pub mod ShowingCourse
+pub mod ShowingForge
+pub mod ShowingForged
+pub mod ShowingLeft
+pub mod ShowingSteps

@@ -1,0 +1,5 @@
+-- Proofs that traits' laws and crates above take from here: what they state is said by the definitions beside this
+-- folder. Read the files in this order.
+pub mod Moves
+pub mod Delivering
+pub mod Peering

@@ -1,0 +1,26 @@
+-- The numbers that a peer's answers show are as good as the true ones. Read the files in this order.
+pub mod Growing
+pub mod Spoken
+pub mod Moving
+pub mod Paired
+pub mod SameSo
+pub mod Begun
+pub mod EndTakes
+pub mod FarCourse
+pub mod FarAlone
+pub mod FarFit
+pub mod FarShows
+pub mod FarSolo
+pub mod Filled
+pub mod FarRun
+pub mod FarShown
+pub mod Giving
+pub mod FarSame
+pub mod FarWalk
+pub mod FarLaw
+pub mod FarClosing
+pub mod FarFree
+pub mod FarMost
+pub mod FarPayloads
+pub mod FarWalked
+pub mod Kept

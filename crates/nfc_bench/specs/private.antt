@@ -1,0 +1,4 @@
+-- What serves private calls of this crate: a reader of its public contracts needs none of it. Read the files in this
+-- order.
+pub mod AuditReading
+pub mod AuditStops

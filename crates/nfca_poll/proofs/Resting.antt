@@ -1,2 +1,0 @@
--- What a device at rest does, passed on to the crates above. Declares nothing.
-pub use Rattle.nfca_poll.specs.Resting.{wakes, whole_wakes_none, Rests, rests}

@@ -1,0 +1,20 @@
+-- The jobs of a client: what they submit, what they hear, and that a call of them comes to an end. Read the files in
+-- this order.
+pub mod Falling
+pub mod Readied
+pub mod CallsEnd
+pub mod Leaving
+pub mod Talking
+pub mod AllClosed
+pub mod Pressing
+pub mod Answered
+pub mod CallsKeep
+pub mod Courses
+pub mod CutOff
+pub mod Cutting
+pub mod OneExchange
+pub mod PutAlone
+pub mod SlotOpens
+pub mod SlotPuts
+pub mod Submits
+pub mod Turns

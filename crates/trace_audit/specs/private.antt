@@ -1,0 +1,6 @@
+-- What serves private calls of this crate: a reader of its public contracts needs none of it. Read the files in this
+-- order.
+pub mod Cutting
+pub mod Finding
+pub mod OnAir
+pub mod Stepping
